@@ -1,0 +1,54 @@
+-- Small functions on lists that the definitions of several layers use. Assumes nothing.
+use mathlib.Core.Bool.{Bool, true, false, cond, _&&_, _||_}
+use mathlib.Core.List.{List, [], _∷_, _++_}
+use mathlib.Core.Option.{Option, none, some}
+use Prim.Native.Nat.{ℕ, zero, suc}
+use lib.Dec.{eqb}
+
+-- the n numbers from k on
+abbrev pub numbers : ℕ → ℕ → List ℕ
+numbers k zero = []
+numbers k (suc n) = k ∷ numbers (suc k) n
+
+module _ {A B : Type 0} where
+  -- what f gives for each element, one after another
+  abbrev pub gather : (A → List B) → List A → List B
+  gather f [] = []
+  gather f (x ∷ xs) = f x ++ gather f xs
+
+module _ {A : Type 0} where
+  abbrev pub any : (A → Bool) → List A → Bool
+  any q [] = false
+  any q (x ∷ xs) = let r = any q xs in q x || r
+
+  abbrev pub keep : (A → Bool) → List A → List A
+  keep q [] = []
+  keep q (x ∷ xs) = let r = keep q xs in cond (q x) (x ∷ r) r
+
+  -- the first element that q holds of
+  abbrev pub first : (A → Bool) → List A → Option A
+  first q [] = none
+  first q (x ∷ xs) = let r = first q xs in cond (q x) (some x) r
+
+  abbrev pub repeat : ℕ → (A → A) → A → A
+  repeat zero f a = a
+  repeat (suc n) f a = repeat n f (f a)
+
+  -- two lists, element by element
+  abbrev pub alike : (A → A → Bool) → List A → List A → Bool
+  alike q [] [] = true
+  alike q [] (y ∷ ys) = false
+  alike q (x ∷ xs) [] = false
+  alike q (x ∷ xs) (y ∷ ys) = let r = alike q xs ys in q x y && r
+
+  abbrev pub tail : List A → List A
+  tail [] = []
+  tail (x ∷ xs) = xs
+
+abbrev pub member : ℕ → List ℕ → Bool
+member x xs = any (eqb x) xs
+
+abbrev pub same-bit : Bool → Bool → Bool
+same-bit true b = b
+same-bit false true = false
+same-bit false false = true

@@ -1,0 +1,3 @@
+pub mod Formula
+pub mod Table
+pub mod Reading

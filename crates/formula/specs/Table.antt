@@ -1,0 +1,47 @@
+-- A formula as the list of its subformulas (document 01: "Commands are numbered from 0 by where they begin, from the left: these are
+-- the entries"). Element e is the operator of subformula e, with the numbers of its operands. Assumes nothing.
+use mathlib.Core.Bool.{Bool}
+use mathlib.Core.List.{List, [], _∷_, _++_}
+use Prim.Native.Nat.{ℕ, _+_}
+use lib.ListN.{getD}
+use Rattle.formula.specs.Formula.{Leaf, Formula, size}
+
+-- A variable has the number of its fixpoint, its binder.
+pub data Operator : Type 0 where
+  leaf : Leaf → Operator
+  variable : (binder : ℕ) → Operator
+  pair : (either : Bool) → (left right : ℕ) → Operator
+  next : (operand : ℕ) → Operator
+  fix : (greatest : Bool) → (body : ℕ) → Operator
+
+abbrev pub Table : Type 0
+Table = List Operator
+
+-- The subformulas of a formula whose first one is e, inside the fixpoints of the given numbers, innermost first.
+abbrev pub table-from : ℕ → List ℕ → Formula → Table
+table-from e binders (Formula.leaf l) = Operator.leaf l ∷ []
+table-from e binders (Formula.variable d) = Operator.variable (getD binders d 0) ∷ []
+table-from e binders (Formula.pair o a b) =
+    Operator.pair o (e + 1) (e + 1 + size a) ∷ (table-from (e + 1) binders a ++ table-from (e + 1 + size a) binders b)
+table-from e binders (Formula.next a) = Operator.next (e + 1) ∷ table-from (e + 1) binders a
+table-from e binders (Formula.fix g a) = Operator.fix g (e + 1) ∷ table-from (e + 1) (e ∷ binders) a
+
+unfoldable pub table : Formula → Table
+table f = table-from 0 [] f
+
+-- For each subformula the number after its last one: an operator's subformulas are those from its own number up to that.
+abbrev pub ends-from : ℕ → Formula → List ℕ
+ends-from e (Formula.leaf l) = (e + 1) ∷ []
+ends-from e (Formula.variable d) = (e + 1) ∷ []
+ends-from e (Formula.pair o a b) = (e + size (Formula.pair o a b)) ∷ (ends-from (e + 1) a ++ ends-from (e + 1 + size a) b)
+ends-from e (Formula.next a) = (e + size (Formula.next a)) ∷ ends-from (e + 1) a
+ends-from e (Formula.fix g a) = (e + size (Formula.fix g a)) ∷ ends-from (e + 1) a
+
+-- What reading hands back of an accepted formula.
+pub record Entries : Type 0 where
+  pub operators : Table
+  pub ends : List ℕ
+
+abbrev pub entries : Formula → Entries
+unfolding table
+entries f = record { operators = table f; ends = ends-from 0 f }

@@ -1,0 +1,1 @@
+// Reading a formula: bytes into its table of subformulas, or a refusal.
