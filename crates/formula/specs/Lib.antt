@@ -1,3 +1,4 @@
 pub mod Formula
 pub mod Table
 pub mod Reading
+pub mod Rows

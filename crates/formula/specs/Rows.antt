@@ -1,0 +1,48 @@
+-- What the rows of a table hold: the decoding through which contracts speak of the definitions. Assumes nothing.
+use mathlib.Core.List.{List, [], map}
+use mathlib.Core.Bool.{Bool, true, false}
+use Prim.Native.Nat.{ℕ, _+_}
+use lib.ListN.{getD}
+use Rattle.base.specs.Lists.{numbers}
+use Rattle.formula.specs.Formula.{Leaf}
+use Rattle.formula.specs.Table.{Operator, Table as Operators, Entries}
+use Rattle.formula.specs.Reading.{Opcode, opcode, Reading}
+use Rattle.formula.specs.declared.Table.{Table}
+use Rattle.formula.specs.declared.Refusal.{Refusal}
+use Rattle.formula.specs.declared.Outcome.{Outcome}
+use Rattle.formula.specs.declared.Outcome.the-variants.{Accepted, Refused}
+use Rattle.formula.specs.declared.Reading as code
+
+-- the operator of subformula e by its opcode and its argument; the first operand is e + 1
+abbrev pub operator-of : Opcode → (argument e : ℕ) → Operator
+operator-of Opcode.unknown a e = Operator.leaf (Leaf.constant false)
+operator-of (Opcode.constant b) a e = Operator.leaf (Leaf.constant b)
+operator-of (Opcode.signal present) a e = Operator.leaf (Leaf.signal present a)
+operator-of Opcode.variable a e = Operator.variable a
+operator-of (Opcode.pair o) a e = Operator.pair o (e + 1) a
+operator-of Opcode.next a e = Operator.next (e + 1)
+operator-of (Opcode.fix g) a e = Operator.fix g (e + 1)
+
+abbrev pub operator-at : List ℕ → ℕ → Operator
+operator-at rows e = operator-of (opcode (getD rows e 0)) (getD rows (48 + e) 0) e
+
+abbrev pub end-at : List ℕ → ℕ → ℕ
+end-at rows e = getD rows (96 + e) 0
+
+-- the n subformulas from e on
+abbrev pub operators-of : List ℕ → ℕ → ℕ → Operators
+operators-of rows e n = map (operator-at rows) (numbers e n)
+
+abbrev pub ends-of : List ℕ → ℕ → ℕ → List ℕ
+ends-of rows e n = map (end-at rows) (numbers e n)
+
+abbrev pub entries-of : Table → Entries
+entries-of t = record { operators = operators-of (t .rows) 0 (t .count); ends = ends-of (t .rows) 0 (t .count) }
+
+-- document 01's number and place of a refusal, or the entries
+abbrev pub reading-by : Outcome → Table → Reading Entries
+reading-by Accepted t = Reading.accepted (entries-of t)
+reading-by (Refused why) t = Reading.refused (why .code) (why .at)
+
+abbrev pub reading-of : code.Reading → Reading Entries
+reading-of r = reading-by (r .outcome) (r .table)
