@@ -1,0 +1,36 @@
+-- The truth examples of document 01, computed from the definition. Assumes nothing.
+use mathlib.Core.Path.{_≡_, refl}
+use mathlib.Core.Bool.{Bool, true, false}
+use mathlib.Core.List.{List, [], _∷_, map}
+use Prim.Native.Nat.{ℕ}
+use Rattle.lasso.specs.Lasso.{Lasso}
+use Rattle.lasso.specs.Truth.{Truth, truth}
+
+pub record Example : Type 0 where
+  pub bytes : List ℕ
+  pub letters : List ℕ
+  pub stem : ℕ
+  pub outcome : Truth
+
+abbrev is : List ℕ → List ℕ → ℕ → Truth → Example
+is b l s o = record { bytes = b; letters = l; stem = s; outcome = o }
+
+-- sooner or later signal 0; signal 0 for ever, as a least fixpoint
+abbrev eventually : List ℕ
+eventually = 0x09 ∷ 0x06 ∷ 0x03 ∷ 0x00 ∷ 0x08 ∷ 0x05 ∷ 0x00 ∷ []
+
+abbrev always : List ℕ
+always = 0x09 ∷ 0x07 ∷ 0x03 ∷ 0x00 ∷ 0x08 ∷ 0x05 ∷ 0x00 ∷ []
+
+abbrev pub table : List Example
+table =
+    is eventually (0 ∷ 1 ∷ []) 1 (Truth.told true (27 ∷ 31 ∷ []))
+    ∷ is eventually (0 ∷ []) 0 (Truth.told false (0 ∷ []))
+    ∷ is eventually (0 ∷ 0 ∷ 1 ∷ []) 2 (Truth.told true (27 ∷ 27 ∷ 31 ∷ []))
+    ∷ is always (1 ∷ []) 0 (Truth.told false (4 ∷ []))
+    ∷ is eventually [] 0 (Truth.refused 16)
+    ∷ []
+
+pub examples : map (λ (x : Example). truth (x .bytes) (record { letters = x .letters; stem = x .stem }) 8) table ≡ map (λ (x : Example). x .outcome) table
+unfolding truth
+examples = refl

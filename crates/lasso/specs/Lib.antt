@@ -1,0 +1,2 @@
+pub mod Lasso
+pub mod Truth

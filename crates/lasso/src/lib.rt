@@ -1,0 +1,1 @@
+// The truth of a formula on a lasso.
