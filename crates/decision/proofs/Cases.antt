@@ -1,0 +1,50 @@
+-- The starred cases of document 01's table, and J, L and the sizes' examples, as statements that the definitions compute through the
+-- reading of the bytes. Assumes nothing.
+use mathlib.Core.Path.{_≡_, refl}
+use mathlib.Core.List.{List, [], _∷_, map}
+use Prim.Native.Nat.{ℕ}
+use Rattle.decision.specs.Verdict.{Verdict, verdict}
+
+pub record Case : Type 0 where
+  pub bytes : List ℕ
+  pub outcome : Verdict
+
+abbrev is : List ℕ → Verdict → Case
+is b o = record { bytes = b; outcome = o }
+
+abbrev pub starred : List Case
+starred =
+    is (0x01 ∷ []) (Verdict.satisfiable 1 1 2 1 (0 ∷ 0 ∷ []))
+    ∷ is (0x02 ∷ []) (Verdict.unsatisfiable 1 0)
+    ∷ is (0x0A ∷ 0x07 ∷ 0x03 ∷ 0x00 ∷ 0x08 ∷ 0x05 ∷ 0x00 ∷ []) (Verdict.satisfiable 1 1 2 1 (1 ∷ 1 ∷ []))
+    ∷ is (0x09 ∷ 0x07 ∷ 0x03 ∷ 0x00 ∷ 0x08 ∷ 0x05 ∷ 0x00 ∷ []) (Verdict.unsatisfiable 2 1)
+    ∷ is (0x09 ∷ 0x06 ∷ 0x03 ∷ 0x00 ∷ 0x08 ∷ 0x05 ∷ 0x00 ∷ []) (Verdict.satisfiable 1 1 3 3 (1 ∷ 0 ∷ []))
+    ∷ is (0x0A ∷ 0x07 ∷ 0x09 ∷ 0x06 ∷ 0x03 ∷ 0x00 ∷ 0x08 ∷ 0x05 ∷ 0x00 ∷ 0x08 ∷ 0x05 ∷ 0x00 ∷ []) (Verdict.satisfiable 1 1 3 5 (1 ∷ 1 ∷ []))
+    ∷ is (0x07 ∷ 0x09 ∷ 0x06 ∷ 0x03 ∷ 0x00 ∷ 0x08 ∷ 0x05 ∷ 0x00 ∷ 0x0A ∷ 0x07 ∷ 0x04 ∷ 0x00 ∷ 0x08 ∷ 0x05 ∷ 0x00 ∷ []) (Verdict.unsatisfiable 2 1)
+    ∷ is (0x0A ∷ 0x07 ∷ 0x03 ∷ 0x00 ∷ 0x07 ∷ 0x08 ∷ 0x04 ∷ 0x00 ∷ 0x08 ∷ 0x08 ∷ 0x05 ∷ 0x00 ∷ []) (Verdict.satisfiable 1 2 3 5 (1 ∷ 0 ∷ 1 ∷ []))
+    ∷ is (0x0A ∷ 0x07 ∷ 0x09 ∷ 0x08 ∷ 0x08 ∷ 0x05 ∷ 0x00 ∷ 0x08 ∷ 0x05 ∷ 0x00 ∷ []) (Verdict.unsatisfiable 3 6)
+    ∷ []
+
+pub starred-cases : map (λ (c : Case). verdict 256 300 59648 556 (c .bytes)) starred ≡ map (λ (c : Case). c .outcome) starred
+unfolding verdict
+starred-cases = refl
+
+-- in J the outer, greatest fixpoint decides; L has them the other way round
+pub nested :
+    map (verdict 256 300 59648 556)
+    ((0x0A ∷ 0x09 ∷ 0x06 ∷ 0x07 ∷ 0x03 ∷ 0x00 ∷ 0x08 ∷ 0x05 ∷ 0x01 ∷ 0x08 ∷ 0x05 ∷ 0x00 ∷ [])
+    ∷ (0x09 ∷ 0x0A ∷ 0x06 ∷ 0x07 ∷ 0x03 ∷ 0x00 ∷ 0x08 ∷ 0x05 ∷ 0x01 ∷ 0x08 ∷ 0x05 ∷ 0x00 ∷ [])
+    ∷ [])
+    ≡ Verdict.satisfiable 1 1 3 6 (1 ∷ 1 ∷ []) ∷ Verdict.satisfiable 1 1 3 6 (0 ∷ 0 ∷ []) ∷ []
+unfolding verdict
+nested = refl
+
+abbrev F : List ℕ
+F = 0x0A ∷ 0x07 ∷ 0x09 ∷ 0x06 ∷ 0x03 ∷ 0x00 ∷ 0x08 ∷ 0x05 ∷ 0x00 ∷ 0x08 ∷ 0x05 ∷ 0x00 ∷ []
+
+-- "Rule A with N = 1 gives 14. Rule F with M = 4 gives 15, with M = 5 MET; with N = 2, M = 1 it gives 14."
+pub sizes :
+    verdict 1 300 59648 556 (0x01 ∷ []) ∷ verdict 256 4 59648 556 F ∷ verdict 256 5 59648 556 F ∷ verdict 2 1 59648 556 F ∷ []
+    ≡ Verdict.refused 14 ∷ Verdict.refused 15 ∷ Verdict.satisfiable 1 1 3 5 (1 ∷ 1 ∷ []) ∷ Verdict.refused 14 ∷ []
+unfolding verdict
+sizes = refl

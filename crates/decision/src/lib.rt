@@ -1,0 +1,1 @@
+// The decision: whether any lasso meets a formula, with a shortest witness.

@@ -1,0 +1,1 @@
+// Traces, profiles and which of them are rejecting.

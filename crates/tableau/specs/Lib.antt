@@ -1,0 +1,3 @@
+pub mod Saturation
+pub mod Transition
+pub mod Nodes

@@ -1,0 +1,101 @@
+-- The transitions of a node (document 01: its steps): when one exists, its letter, and where it leads. Assumes nothing.
+use mathlib.Core.Bool.{Bool, true, false, not, cond, _&&_}
+use mathlib.Core.List.{List, [], _∷_, map}
+use Prim.Native.Nat.{ℕ, _+_, _/_, _%_, _^_}
+use lib.Dec.{eqb}
+use Rattle.base.specs.Lists.{gather, any, member, numbers, same-bit}
+use Rattle.base.specs.Bits.{word}
+use Rattle.formula.specs.Formula.{Leaf}
+use Rattle.formula.specs.Table.{Operator, Table}
+use Rattle.tableau.specs.Saturation.{Subset, nothing, add, saturate}
+
+-- the operators of the subformulas in a set
+abbrev pub operators-in : Table → Subset → List Operator
+operators-in [] v = []
+operators-in (o ∷ t) [] = []
+operators-in (o ∷ t) (true ∷ v) = o ∷ operators-in t v
+operators-in (o ∷ t) (false ∷ v) = operators-in t v
+
+-- the signal that an operator requires present, or absent
+abbrev pub requires : (present : Bool) → Operator → List ℕ
+requires p (Operator.leaf (Leaf.constant b)) = []
+requires p (Operator.leaf (Leaf.signal q j)) = cond (same-bit p q) (j ∷ []) []
+requires p (Operator.variable m) = []
+requires p (Operator.pair o l r) = []
+requires p (Operator.next g) = []
+requires p (Operator.fix g l) = []
+
+abbrev pub is-false : Operator → Bool
+is-false (Operator.leaf (Leaf.constant b)) = not b
+is-false (Operator.leaf (Leaf.signal q j)) = false
+is-false (Operator.variable m) = false
+is-false (Operator.pair o l r) = false
+is-false (Operator.next g) = false
+is-false (Operator.fix g l) = false
+
+-- "The step exists if the set has no false and no signal both present and absent."
+unfoldable pub possible : List Operator → Bool
+possible os =
+    let absent = gather (requires false) os in
+    let clash = any (λ j. member j absent) (gather (requires true) os) in
+    not (any is-false os) && not clash
+
+-- "Its place has exactly the signals that the set requires present."
+unfoldable pub letter-of : List Operator → ℕ
+letter-of os = let present = gather (requires true) os in word (map (λ j. member j present) (numbers 0 16))
+
+-- "the node of all operands of next in the set"
+abbrev pub next-of : Operator → List ℕ
+next-of (Operator.leaf l) = []
+next-of (Operator.variable m) = []
+next-of (Operator.pair o l r) = []
+next-of (Operator.next g) = g ∷ []
+next-of (Operator.fix g l) = []
+
+abbrev pub is-or : Operator → Bool
+is-or (Operator.leaf l) = false
+is-or (Operator.variable m) = false
+is-or (Operator.pair o l r) = o
+is-or (Operator.next g) = false
+is-or (Operator.fix g l) = false
+
+abbrev pub ors : Table → ℕ
+ors [] = 0
+ors (o ∷ t) = cond (is-or o) 1 0 + ors t
+
+-- The choice of a choice word: its bit j is the pick of the or numbered j from 0 by its subformula, 1 for right.
+abbrev pub choice-of : Table → ℕ → Subset
+choice-of [] x = []
+choice-of (o ∷ t) x = cond (is-or o) (eqb (x % 2) 1 ∷ choice-of t (x / 2)) (false ∷ choice-of t x)
+
+-- all choices, by rising choice word
+abbrev pub choices : Table → List Subset
+choices t = map (choice-of t) (numbers 0 (2 ^ ors t))
+
+-- "picks one operand for each or that is met": an or that is not met has no pick, so that a transition has one choice
+abbrev pub within : Subset → Subset → Bool
+within [] v = true
+within (false ∷ w) [] = within w []
+within (true ∷ w) [] = false
+within (false ∷ w) (b ∷ v) = within w v
+within (true ∷ w) (true ∷ v) = within w v
+within (true ∷ w) (false ∷ v) = false
+
+pub record Transition : Type 0 where
+  pub choice : Subset
+  pub letter : ℕ
+  pub to : Subset
+
+-- the transition with choice w whose saturated set is s, if it exists
+abbrev pub transition-of : Table → Subset → Subset → List Transition
+unfolding possible letter-of
+transition-of t w s =
+    let os = operators-in t s in
+    let found : Transition = record { choice = w; letter = letter-of os; to = add (gather next-of os) (nothing t) } in
+    let one = found ∷ [] in
+    cond (within w s && possible os) one []
+
+-- the transitions of a node, by rising choice word
+unfoldable pub transitions : Table → Subset → List Transition
+unfolding possible letter-of
+transitions t v = gather (λ w. transition-of t w (saturate t w v)) (choices t)

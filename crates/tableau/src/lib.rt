@@ -1,0 +1,1 @@
+// The tableau of a formula: saturation, transitions, nodes.
