@@ -1,0 +1,4 @@
+pub mod Spread
+pub mod Triples
+pub mod Marks
+pub mod Runs

@@ -1,0 +1,74 @@
+-- Profiles over numbered nodes, each with the number of the profile that it goes on from and its last letter. They go on by the
+-- profiles of one transition. Assumes nothing.
+use mathlib.Core.Bool.{Bool, true, false, cond, not, _&&_}
+use mathlib.Core.List.{List, [], _∷_, _++_, map}
+use Prim.Native.Nat.{ℕ, zero, suc}
+use lib.Dec.{eqb}
+use lib.ListN.{length, getD}
+use Rattle.base.specs.Lists.{gather, tail}
+use Rattle.formula.specs.Table.{Table}
+use Rattle.tableau.specs.Saturation.{Subset, same-subset}
+use Rattle.tableau.specs.Transition.{Transition, transitions}
+use Rattle.tableau.specs.Nodes.{operands}
+use Rattle.coded.specs.Spread.{Numbered, adds, spread}
+use Rattle.coded.specs.Triples.{Triples, same-triples, join, rejecting}
+use Rattle.coded.specs.Marks.{triples, leasts}
+
+pub record Profile : Type 0 where
+  pub first : ℕ
+  pub last : ℕ
+  pub carried : Triples
+
+abbrev pub same-profile : Profile → Profile → Bool
+same-profile a b = eqb (a .first) (b .first) && eqb (a .last) (b .last) && same-triples (a .carried) (b .carried)
+
+-- a profile, with the profile that it goes on from and its last letter
+abbrev pub Found : Type 0
+Found = Numbered ℕ Profile
+
+-- the first run's end is the second's beginning
+abbrev pub follow : ℕ → ℕ → Found → Found → List Found
+unfolding join
+follow n p x s =
+    let r : Found = record { at = record { first = x .at .first; last = s .at .last; carried = join n (x .at .carried) (s .at .carried) }; parent = suc p; label = s .label } in
+    cond (eqb (x .at .last) (s .at .first)) (r ∷ []) []
+
+-- one transition more: the profiles of one transition that begin where this one ends
+abbrev pub longer : ℕ → List Found → ℕ → Found → List Found
+unfolding join
+longer n ones p x = gather (follow n p x) ones
+
+-- all profiles, given those of one transition
+unfoldable pub profiles-from : ℕ → ℕ → List Found → List Found
+unfolding join
+profiles-from fuel n ones = spread same-profile (longer n ones) fuel 0 ones
+
+abbrev pub number-of : List Subset → Subset → ℕ
+number-of [] v = 0
+number-of (u ∷ us) v = let r = suc (number-of us v) in cond (same-subset u v) 0 r
+
+-- the runs of one transition from node i
+abbrev pub ones-of : Table → List Subset → ℕ → Subset → List Found
+unfolding triples transitions
+ones-of t ns i v =
+    map (λ (s : Transition). record { at = record { first = i; last = number-of ns (s .to); carried = triples t v (s .choice) }; parent = 0; label = s .letter }) (transitions t v)
+
+abbrev pub ones-from : Table → List Subset → ℕ → List Subset → List Found
+unfolding triples transitions
+ones-from t ns i [] = []
+ones-from t ns i (v ∷ vs) = ones-of t ns i v ++ ones-from t ns (suc i) vs
+
+-- the profiles of one transition, given the nodes, the root first
+unfoldable pub ones : Table → List Subset → List Found
+unfolding triples transitions
+ones t ns = adds same-profile [] (ones-from t ns 1 (tail ns))
+
+-- all profiles
+unfoldable pub profiles : ℕ → Table → List Subset → List Found
+unfolding ones profiles-from
+profiles fuel t ns = profiles-from fuel (length (operands t)) (ones t ns)
+
+-- back to its first node, and not rejecting
+abbrev pub accepting : Table → Found → Bool
+unfolding rejecting
+accepting t x = let k = leasts t in eqb (x .at .first) (x .at .last) && not (rejecting (λ i. getD k i false) (length (operands t)) (x .at .carried))

@@ -1,0 +1,1 @@
+// Profiles as the code keeps them: definitions and laws, no code.
