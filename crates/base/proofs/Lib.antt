@@ -1,1 +1,4 @@
 pub mod BitLaws
+pub mod WordLaws
+pub mod ListLaws
+pub mod Inside

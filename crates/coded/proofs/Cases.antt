@@ -19,8 +19,8 @@ pub record Sizes : Type 0 where
   pub satisfiable : Bool
   pub P : ℕ
 
-abbrev pub sizes-of : Reading Formula → Sizes
-unfolding table nodes profiles
+unfoldable pub sizes-of : Reading Formula → Sizes
+unfolding table nodes profiles accepting
 sizes-of (Reading.refused c p) = record { satisfiable = false; P = 0 }
 sizes-of (Reading.accepted f) =
     let t = table f in
@@ -46,5 +46,5 @@ pub sizes :
     ∷ (0x09 ∷ 0x0A ∷ 0x06 ∷ 0x07 ∷ 0x03 ∷ 0x00 ∷ 0x08 ∷ 0x05 ∷ 0x01 ∷ 0x08 ∷ 0x05 ∷ 0x00 ∷ [])
     ∷ [])
     ≡ size true 1 ∷ size false 0 ∷ size true 1 ∷ size false 1 ∷ size true 3 ∷ size true 5 ∷ size false 1 ∷ size true 5 ∷ size false 6 ∷ size true 6 ∷ size true 6 ∷ []
-unfolding parse
+unfolding parse sizes-of
 sizes = refl

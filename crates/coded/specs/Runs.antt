@@ -69,6 +69,6 @@ unfolding ones profiles-from
 profiles fuel t ns = profiles-from fuel (length (operands t)) (ones t ns)
 
 -- back to its first node, and not rejecting
-abbrev pub accepting : Table → Found → Bool
+unfoldable pub accepting : Table → Found → Bool
 unfolding rejecting
 accepting t x = let k = leasts t in eqb (x .at .first) (x .at .last) && not (rejecting (λ i. getD k i false) (length (operands t)) (x .at .carried))

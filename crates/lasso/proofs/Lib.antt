@@ -1,1 +1,4 @@
 pub mod Examples
+pub mod Monotone
+pub mod Fixpoint
+pub mod Consistent
