@@ -1,2 +1,3 @@
 pub mod Traces
 pub mod Profiles
+pub mod Cycle

@@ -1,3 +1,4 @@
 pub mod Saturation
 pub mod Transition
 pub mod Nodes
+pub mod Run
