@@ -1,4 +1,9 @@
 pub mod BitLaws
-pub mod WordLaws
+pub mod BoolLaws
 pub mod ListLaws
+pub mod WordLaws
 pub mod Inside
+pub mod MemberLaws
+pub mod CondLaws
+pub mod SearchLaws
+pub mod SearchOrder

@@ -1,0 +1,4 @@
+pub mod SaturationLaws
+pub mod TransitionLaws
+pub mod ChoiceLaws
+pub mod NodeLaws

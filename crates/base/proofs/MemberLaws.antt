@@ -1,0 +1,127 @@
+-- The members of the lists that the shared functions make: of what is gathered, kept, mapped from numbers; what a test of all members
+-- says; the parts of a list; and that a list without doubles is no longer than a list that has all its members. Assumes nothing.
+use mathlib.Core.Path.{_≡_, refl, sym, ap, subst, subst⁻¹, _∙_}
+use mathlib.Core.Logic.{_⊎_, inl, inr}
+use mathlib.Core.Bool.{Bool, cond}
+use mathlib.Core.List.{List, [], _∷_, _++_, map, List·Memᴰ, List·Memᴰ·head, List·Memᴰ·tail, List·Memᴰ·not-nil, List·Memᴰ·cases-cons, List·Memᴰ·append-cases, Memᴰ·append-left, Memᴰ·append-right, Memᴰ·map, Memᴰ·cast, Sublistᴰ, Sublistᴰ·slnil, Sublistᴰ·cons, Sublistᴰ·cons-cons}
+use Prim.Native.Nat.{ℕ, zero, suc, _+_, _*_, _^_, _≤_, _<_}
+use native.Mathlib.Omega.{arith}
+use native.Mathlib.Decide.{ℕ-discrete}
+use native.Mathlib.Nat.{pow-succ', suc-mul, zero-mul}
+use lib.Dec.{T, eqb, eqb→eq, eqb-refl}
+use lib.ListN.{length, length-append, length-map}
+use Rattle.base.specs.Lists.{numbers, gather, any, keep, alike, member}
+use Rattle.base.proofs.BoolLaws.{by-test, and-left, and-right, and-both, or-cases, or-left, or-right}
+
+module _ {A B : Type 0} (f : A → List B) where
+  pub gather-of : (xs : List A) {b : B} → List·Memᴰ b (gather f xs) → (a : A) × List·Memᴰ a xs × List·Memᴰ b (f a)
+  gather-of [] m = absurd (List·Memᴰ·not-nil m)
+  gather-of (x ∷ xs) m =
+      elim (List·Memᴰ·append-cases (f x) m)
+      [ inl h ↦ (x, List·Memᴰ·head refl, h) | inr t ↦ let (a, q, h) = gather-of xs t in (a, List·Memᴰ·tail q, h) ]
+
+  pub gather-in : {xs : List A} {a : A} {b : B} → List·Memᴰ a xs → List·Memᴰ b (f a) → List·Memᴰ b (gather f xs)
+  gather-in {b} (List·Memᴰ·head {xs} e) h = Memᴰ·append-left (gather f xs) (subst (λ (y : A). List·Memᴰ b (f y)) e h)
+  gather-in (List·Memᴰ·tail {x} m) h = Memᴰ·append-right (f x) (gather-in m h)
+
+  pub length-gather : (n : ℕ) (xs : List A) → ((a : A) → length (f a) ≡ n) → length (gather f xs) ≡ length xs * n
+  length-gather n [] h = sym (zero-mul n)
+  length-gather n (x ∷ xs) h = omega (arith, length-append (f x) (gather f xs), h x, length-gather n xs h, suc-mul (length xs) n)
+
+module _ {A : Type 0} (q : A → Bool) where
+  pub any-of : (xs : List A) → T (any q xs) → (a : A) × List·Memᴰ a xs × T (q a)
+  any-of [] h = absurd h
+  any-of (x ∷ xs) h =
+      elim (or-cases (q x) (any q xs) h)
+      [ inl k ↦ (x, List·Memᴰ·head refl, k) | inr r ↦ let (a, m, k) = any-of xs r in (a, List·Memᴰ·tail m, k) ]
+
+  pub any-in : {xs : List A} {a : A} → List·Memᴰ a xs → T (q a) → T (any q xs)
+  any-in (List·Memᴰ·head {x} {xs} e) h = or-left (q x) (any q xs) (subst (λ (b : A). T (q b)) e h)
+  any-in (List·Memᴰ·tail {x} {xs} m) h = or-right (q x) (any q xs) (any-in m h)
+
+  pub keep-of : (xs : List A) {a : A} → List·Memᴰ a (keep q xs) → List·Memᴰ a xs × T (q a)
+  keep-of [] m = absurd (List·Memᴰ·not-nil m)
+  keep-of (x ∷ xs) {a} m =
+      by-test (q x) (λ b. List·Memᴰ a (cond b (x ∷ keep q xs) (keep q xs)) → List·Memᴰ a (x ∷ xs) × T (q a))
+      (λ h r.
+      elim (List·Memᴰ·cases-cons r)
+      [ inl e ↦ (List·Memᴰ·head e, subst⁻¹ (λ (b : A). T (q b)) e h) | inr s ↦ (List·Memᴰ·tail (keep-of xs s .0), keep-of xs s .1) ])
+      (λ h r. (List·Memᴰ·tail (keep-of xs r .0), keep-of xs r .1))
+      m
+
+  pub keep-in : {xs : List A} {a : A} → List·Memᴰ a xs → T (q a) → List·Memᴰ a (keep q xs)
+  keep-in {a} (List·Memᴰ·head {x} {xs} e) h =
+      by-test (q x) (λ b. List·Memᴰ a (cond b (x ∷ keep q xs) (keep q xs)))
+      (λ k. List·Memᴰ·head e)
+      (λ k. absurd (k (subst (λ (b : A). T (q b)) e h)))
+  keep-in {a} (List·Memᴰ·tail {x} {xs} m) h =
+      by-test (q x) (λ b. List·Memᴰ a (cond b (x ∷ keep q xs) (keep q xs)))
+      (λ k. List·Memᴰ·tail (keep-in m h))
+      (λ k. keep-in m h)
+
+  pub keep-part : (xs : List A) → Sublistᴰ (keep q xs) xs
+  keep-part [] = Sublistᴰ·slnil
+  keep-part (x ∷ xs) =
+      by-test (q x) (λ b. Sublistᴰ (cond b (x ∷ keep q xs) (keep q xs)) (x ∷ xs))
+      (λ h. Sublistᴰ·cons-cons refl (keep-part xs))
+      (λ h. Sublistᴰ·cons (keep-part xs))
+
+-- the test of two lists, from that of their elements
+module _ {A : Type 0} (q : A → A → Bool) where
+  pub alike-sound : ((a b : A) → T (q a b) → a ≡ b) → (xs ys : List A) → T (alike q xs ys) → xs ≡ ys
+  alike-sound f [] [] h = refl
+  alike-sound f [] (y ∷ ys) h = absurd h
+  alike-sound f (x ∷ xs) [] h = absurd h
+  alike-sound f (x ∷ xs) (y ∷ ys) h =
+      let e : x ≡ y = f x y (and-left (q x y) (alike q xs ys) h) in
+      let r : xs ≡ ys = alike-sound f xs ys (and-right (q x y) (alike q xs ys) h) in
+      λ i. e i ∷ r i
+
+  pub alike-refl : ((a : A) → T (q a a)) → (xs : List A) → T (alike q xs xs)
+  alike-refl f [] = tt
+  alike-refl f (x ∷ xs) = and-both (q x x) (alike q xs xs) (f x) (alike-refl f xs)
+
+pub member-of : (j : ℕ) (xs : List ℕ) → T (member j xs) → List·Memᴰ j xs
+member-of j xs h = let (i, m, e) = any-of (eqb j) xs h in Memᴰ·cast (eqb→eq j i e) m
+
+pub member-in : {j : ℕ} {xs : List ℕ} → List·Memᴰ j xs → T (member j xs)
+member-in {j} m = any-in (eqb j) m (eqb-refl j)
+
+pub numbers-in : (k n x : ℕ) → k ≤ x → x < k + n → List·Memᴰ x (numbers k n)
+numbers-in k zero x h l = absurd (omega arith)
+numbers-in k (suc n) x h l = go (ℕ-discrete x k) (λ q. numbers-in (suc k) n x q (omega arith))
+  where
+    go : Dec (x ≡ k) → (suc k ≤ x → List·Memᴰ x (numbers (suc k) n)) → List·Memᴰ x (k ∷ numbers (suc k) n)
+    go (yes e) f = List·Memᴰ·head e
+    go (no e) f = List·Memᴰ·tail (f (omega arith))
+
+module _ {A : Type 0} where
+  -- all parts of a list, in its order
+  abbrev pub parts : List A → List (List A)
+  parts [] = [] ∷ []
+  parts (x ∷ xs) = parts xs ++ map (λ (l : List A). x ∷ l) (parts xs)
+
+  pub parts-length : (xs : List A) → length (parts xs) ≡ 2 ^ length xs
+  parts-length [] = refl
+  parts-length (x ∷ xs) =
+      omega (arith, length-append (parts xs) (map (λ (l : List A). x ∷ l) (parts xs)), length-map (parts xs) (λ (l : List A). x ∷ l), parts-length xs, pow-succ' 2 (length xs))
+
+  pub parts-in : {l xs : List A} → Sublistᴰ l xs → List·Memᴰ l (parts xs)
+  parts-in Sublistᴰ·slnil = List·Memᴰ·head refl
+  parts-in (Sublistᴰ·cons {a} {l₂} s) = Memᴰ·append-left (map (λ (l : List A). a ∷ l) (parts l₂)) (parts-in s)
+  parts-in (Sublistᴰ·cons-cons {a} {b} {l₁} {l₂} e s) =
+      Memᴰ·append-right (parts l₂) (Memᴰ·cast (ap (λ (y : A). y ∷ l₁) e) (Memᴰ·map (λ (l : List A). b ∷ l) (parts-in s)))
+
+  -- a list without one of its members
+  pub without : {a : A} {xs : List A} → List·Memᴰ a xs
+      → (ys : List A) × (length xs ≡ suc (length ys)) × ((b : A) → List·Memᴰ b xs → (b ≡ a) ⊎ List·Memᴰ b ys)
+  without (List·Memᴰ·head {xs} e) =
+      (xs, refl, λ b m. elim (List·Memᴰ·cases-cons m) [ inl q ↦ inl (q ∙ sym e) | inr r ↦ inr r ])
+  without (List·Memᴰ·tail {x} m) =
+      let (ys, n, f) = without m in (
+        x ∷ ys,
+        ap suc n,
+        λ b r.
+            elim (List·Memᴰ·cases-cons r)
+            [ inl q ↦ inr (List·Memᴰ·head q) | inr r′ ↦ elim (f b r′) [ inl q ↦ inl q | inr s ↦ inr (List·Memᴰ·tail s) ] ],
+      )

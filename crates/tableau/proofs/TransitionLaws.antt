@@ -1,0 +1,256 @@
+-- When a transition exists, what its letter has and where it leads, as laws: the layers above use the requirement, the existence and
+-- the letter of a transition only through these. In one direction (`facts`): the letter of a transition is one that every subformula
+-- of the saturated set allows, and it leads to the operands of the next operators there. In the other (`transition-in`): where some
+-- letter is allowed by each subformula of the saturated set, the transition exists. Assumes nothing.
+use mathlib.Core.Path.{_≡_, refl, sym, ap, subst, subst⁻¹, _∙_}
+use mathlib.Core.Logic.{inl, inr}
+use mathlib.Core.Bool.{Bool, true, false, not, cond, _&&_}
+use mathlib.Core.List.{List, [], _∷_, map, List·Memᴰ, List·Memᴰ·head, List·Memᴰ·tail, List·Memᴰ·not-nil, List·Memᴰ·cases-cons, List·Memᴰ·eq-of-singleton, Memᴰ·cast, Sublistᴰ, Sublistᴰ·slnil, Sublistᴰ·refl, Sublistᴰ·nil-sublist, Sublistᴰ·append}
+use Prim.Native.Nat.{ℕ, zero, suc, _<_}
+use native.Mathlib.Omega.{arith}
+use lib.Dec.{T, T-not, not-T}
+use lib.ListN.{length, length-map}
+use Rattle.base.specs.Lists.{gather, any, member, numbers}
+use Rattle.base.specs.Bits.{bit}
+use Rattle.base.proofs.BoolLaws.{and-left, and-right, and-both}
+use Rattle.base.proofs.ListLaws.{getD-map, getD-numbers, length-numbers}
+use Rattle.base.proofs.WordLaws.{word-bit}
+use Rattle.base.proofs.CondLaws.{cond-of, cond-in}
+use Rattle.base.proofs.MemberLaws.{gather-of, gather-in, any-of, any-in, member-of, member-in}
+use Rattle.base.proofs.Inside.{inside-length}
+use Rattle.formula.specs.Formula.{Leaf}
+use Rattle.formula.specs.Table.{Operator, Table}
+use Rattle.tableau.specs.Saturation.{Subset, has, nothing, add, saturate}
+use Rattle.tableau.specs.Transition.{operators-in, requires, is-false, possible, letter-of, next-of, choices, within, Transition, transition-of, transitions}
+use Rattle.tableau.specs.Nodes.{operands}
+use Rattle.tableau.proofs.SaturationLaws.{operator, inside-has, has-lt, nothing-has, add-inside, add-has, add-of, Closed, saturate-holds, saturate-length, saturate-closed}
+
+-- what an operator asks of a letter by itself
+abbrev pub asks : Operator → (letter : ℕ) → Bool
+asks (Operator.leaf (Leaf.constant b)) a = b
+asks (Operator.leaf (Leaf.signal p j)) a = cond p (bit a j) (not (bit a j))
+asks (Operator.variable m) a = true
+asks (Operator.pair o l r) a = true
+asks (Operator.next g) a = true
+asks (Operator.fix g l) a = true
+
+-- a signal that an operator requires is the operator's own
+requires-is : (p : Bool) (o : Operator) (j : ℕ) → List·Memᴰ j (requires p o) → o ≡ Operator.leaf (Leaf.signal p j)
+requires-is p (Operator.leaf (Leaf.constant b)) j m = absurd (List·Memᴰ·not-nil m)
+requires-is true (Operator.leaf (Leaf.signal true i)) j m = ap (λ (k : ℕ). Operator.leaf (Leaf.signal true k)) (sym (List·Memᴰ·eq-of-singleton m))
+requires-is true (Operator.leaf (Leaf.signal false i)) j m = absurd (List·Memᴰ·not-nil m)
+requires-is false (Operator.leaf (Leaf.signal true i)) j m = absurd (List·Memᴰ·not-nil m)
+requires-is false (Operator.leaf (Leaf.signal false i)) j m = ap (λ (k : ℕ). Operator.leaf (Leaf.signal false k)) (sym (List·Memᴰ·eq-of-singleton m))
+requires-is p (Operator.variable m₀) j m = absurd (List·Memᴰ·not-nil m)
+requires-is p (Operator.pair o l r) j m = absurd (List·Memᴰ·not-nil m)
+requires-is p (Operator.next g) j m = absurd (List·Memᴰ·not-nil m)
+requires-is p (Operator.fix g l) j m = absurd (List·Memᴰ·not-nil m)
+
+required-of : (p : Bool) (os : List Operator) {j : ℕ} → List·Memᴰ j (gather (requires p) os) → List·Memᴰ (Operator.leaf (Leaf.signal p j)) os
+required-of p os {j} m = let (o, r, q) = gather-of (requires p) os m in Memᴰ·cast (sym (requires-is p o j q)) r
+
+required-in : (p : Bool) {os : List Operator} {j : ℕ} → List·Memᴰ (Operator.leaf (Leaf.signal p j)) os → List·Memᴰ j (gather (requires p) os)
+required-in true m = gather-in (requires true) m (List·Memᴰ·head refl)
+required-in false m = gather-in (requires false) m (List·Memᴰ·head refl)
+
+letter-bit : (os : List Operator) (j : ℕ) → j < 16 → bit (letter-of os) j ≡ member j (gather (requires true) os)
+unfolding letter-of
+letter-bit os j h =
+    let f : ℕ → Bool = λ i. member i (gather (requires true) os) in
+    word-bit (map f (numbers 0 16)) j
+    ∙ getD-map f (numbers 0 16) j 0 false (omega (arith, length-numbers 0 16))
+    ∙ ap f (getD-numbers 0 16 j 0 h ∙ omega arith)
+
+-- Theorem: where a transition is possible, its letter is allowed by each operator of the set.
+pub possible-allows : (os : List Operator) → T (possible os) → (o : Operator) → List·Memᴰ o os
+    → ((p : Bool) (j : ℕ) → o ≡ Operator.leaf (Leaf.signal p j) → j < 16) → T (asks o (letter-of os))
+unfolding possible
+possible-allows os h (Operator.leaf (Leaf.constant true)) m small = tt
+possible-allows os h (Operator.leaf (Leaf.constant false)) m small =
+    T-not (any is-false os) (and-left (not (any is-false os)) _ h) (any-in is-false m tt)
+possible-allows os h (Operator.leaf (Leaf.signal true j)) m small =
+    subst⁻¹ T (letter-bit os j (small true j refl)) (member-in (required-in true m))
+possible-allows os h (Operator.leaf (Leaf.signal false j)) m small =
+    subst⁻¹ (λ (b : Bool). T (not b)) (letter-bit os j (small false j refl))
+    (not-T (member j (gather (requires true) os))
+    (λ k.
+    T-not (any (λ j. member j (gather (requires false) os)) (gather (requires true) os)) (and-right (not (any is-false os)) _ h)
+    (any-in (λ j. member j (gather (requires false) os)) (member-of j (gather (requires true) os) k) (member-in (required-in false m)))))
+possible-allows os h (Operator.variable n) m small = tt
+possible-allows os h (Operator.pair e l r) m small = tt
+possible-allows os h (Operator.next g) m small = tt
+possible-allows os h (Operator.fix g l) m small = tt
+
+never-asked : (o : Operator) (a : ℕ) → T (is-false o) → T (asks o a) → ⊥
+never-asked (Operator.leaf (Leaf.constant b)) a h k = T-not b h k
+never-asked (Operator.leaf (Leaf.signal p j)) a h k = h
+never-asked (Operator.variable n) a h k = h
+never-asked (Operator.pair e l r) a h k = h
+never-asked (Operator.next g) a h k = h
+never-asked (Operator.fix g l) a h k = h
+
+-- Theorem: where some letter is allowed by each operator of the set, the transition is possible.
+pub possible-of : (os : List Operator) (a : ℕ) → ((o : Operator) → List·Memᴰ o os → T (asks o a)) → T (possible os)
+unfolding possible
+possible-of os a f =
+    and-both (not (any is-false os)) _
+    (not-T (any is-false os) (λ h. let (o, m, k) = any-of is-false os h in never-asked o a k (f o m)))
+    (not-T (any (λ j. member j (gather (requires false) os)) (gather (requires true) os))
+    (λ h.
+    let (j, m, k) = any-of (λ j. member j (gather (requires false) os)) (gather (requires true) os) h in
+    T-not (bit a j) (f (Operator.leaf (Leaf.signal false j)) (required-of false os (member-of j (gather (requires false) os) k)))
+    (f (Operator.leaf (Leaf.signal true j)) (required-of true os m))))
+
+-- the operators of a set are those of its subformulas
+met-of : (t : Table) (v : Subset) {o : Operator} → List·Memᴰ o (operators-in t v) → (e : ℕ) × T (has v e) × (operator t e ≡ o)
+met-of [] v m = absurd (List·Memᴰ·not-nil m)
+met-of (q ∷ t) [] m = absurd (List·Memᴰ·not-nil m)
+met-of (q ∷ t) (true ∷ v) m =
+    elim (List·Memᴰ·cases-cons m) [ inl e ↦ (0, tt, sym e) | inr r ↦ let z = met-of t v r in (suc (z .0), z .1, z .2) ]
+met-of (q ∷ t) (false ∷ v) m = let z = met-of t v m in (suc (z .0), z .1, z .2)
+
+met-in : (t : Table) (v : Subset) (e : ℕ) → e < length t → T (has v e) → List·Memᴰ (operator t e) (operators-in t v)
+met-in [] v e l h = absurd (omega arith)
+met-in (q ∷ t) [] e l h = absurd h
+met-in (q ∷ t) (true ∷ v) zero l h = List·Memᴰ·head refl
+met-in (q ∷ t) (false ∷ v) zero l h = absurd h
+met-in (q ∷ t) (true ∷ v) (suc e) l h = List·Memᴰ·tail (met-in t v e (omega arith) h)
+met-in (q ∷ t) (false ∷ v) (suc e) l h = met-in t v e (omega arith) h
+
+pub next-is : (o : Operator) (y : ℕ) → List·Memᴰ y (next-of o) → o ≡ Operator.next y
+next-is (Operator.leaf l) y m = absurd (List·Memᴰ·not-nil m)
+next-is (Operator.variable n) y m = absurd (List·Memᴰ·not-nil m)
+next-is (Operator.pair e l r) y m = absurd (List·Memᴰ·not-nil m)
+next-is (Operator.next g) y m = ap Operator.next (sym (List·Memᴰ·eq-of-singleton m))
+next-is (Operator.fix g l) y m = absurd (List·Memᴰ·not-nil m)
+
+-- a choice inside a set
+within-of : (w v : Subset) → T (within w v) → (e : ℕ) → T (has w e) → T (has v e)
+within-of [] v h e k = absurd k
+within-of (false ∷ w) [] h zero k = k
+within-of (false ∷ w) [] h (suc e) k = within-of w [] h e k
+within-of (true ∷ w) [] h e k = absurd h
+within-of (false ∷ w) (b ∷ v) h zero k = absurd k
+within-of (false ∷ w) (b ∷ v) h (suc e) k = within-of w v h e k
+within-of (true ∷ w) (true ∷ v) h zero k = tt
+within-of (true ∷ w) (true ∷ v) h (suc e) k = within-of w v h e k
+within-of (true ∷ w) (false ∷ v) h e k = absurd h
+
+within-in : (w v : Subset) → ((e : ℕ) → T (has w e) → T (has v e)) → T (within w v)
+within-in [] v f = tt
+within-in (false ∷ w) [] f = within-in w [] (λ e k. f (suc e) k)
+within-in (true ∷ w) [] f = f 0 tt
+within-in (false ∷ w) (b ∷ v) f = within-in w v (λ e k. f (suc e) k)
+within-in (true ∷ w) (true ∷ v) f = within-in w v (λ e k. f (suc e) k)
+within-in (true ∷ w) (false ∷ v) f = f 0 tt
+
+-- the transition with choice w whose saturated set is s
+abbrev pub transition-with : Table → (choice : Subset) → Subset → Transition
+transition-with t w s =
+    let os = operators-in t s in
+    record { choice = w; letter = letter-of os; to = add (gather next-of os) (nothing t) }
+
+module _ (t : Table) (v : Subset) where
+  -- the transitions of a node are those with a choice that is met, where possible
+  transitions-of : (x : Transition) → List·Memᴰ x (transitions t v)
+      → (w : Subset) × List·Memᴰ w (choices t) × T (within w (saturate t w v)) × T (possible (operators-in t (saturate t w v)))
+      × (x ≡ transition-with t w (saturate t w v))
+  unfolding transitions
+  transitions-of x m =
+      let (w, p, r) = gather-of (λ w. transition-of t w (saturate t w v)) (choices t) m in
+      let met = within w (saturate t w v) in
+      let able = possible (operators-in t (saturate t w v)) in
+      let (h, q) = cond-of (met && able) (transition-with t w (saturate t w v) ∷ []) r in
+      (w, p, and-left met able h, and-right met able h, List·Memᴰ·eq-of-singleton q)
+
+  transitions-in : (w : Subset) → List·Memᴰ w (choices t) → T (within w (saturate t w v)) → T (possible (operators-in t (saturate t w v)))
+      → List·Memᴰ (transition-with t w (saturate t w v)) (transitions t v)
+  unfolding transitions
+  transitions-in w p a b =
+      let met = within w (saturate t w v) in
+      let able = possible (operators-in t (saturate t w v)) in
+      gather-in (λ w. transition-of t w (saturate t w v)) p (cond-in (met && able) (and-both met able a b) (List·Memᴰ·head refl))
+
+-- What a transition of node v is: its choice is met, and its saturated set holds the node, follows the moves, allows the letter, and
+-- has the next operators whose operands are the node that it leads to.
+pub record Facts (t : Table) (v : Subset) (x : Transition) : Type 0 where
+  pub listed : List·Memᴰ (x .choice) (choices t)
+  pub met : (e : ℕ) → T (has (x .choice) e) → T (has (saturate t (x .choice) v) e)
+  pub enters : (e : ℕ) → T (has v e) → T (has (saturate t (x .choice) v) e)
+  pub follows : Closed t (x .choice) (saturate t (x .choice) v)
+  pub allows : (e : ℕ) → T (has (saturate t (x .choice) v) e) → ((p : Bool) (j : ℕ) → operator t e ≡ Operator.leaf (Leaf.signal p j) → j < 16)
+      → T (asks (operator t e) (x .letter))
+  pub nexts : (e y : ℕ) → T (has (saturate t (x .choice) v) e) → operator t e ≡ Operator.next y → y < length t → T (has (x .to) y)
+  pub from-next : (y : ℕ) → T (has (x .to) y) → (e : ℕ) × T (has (saturate t (x .choice) v) e) × (operator t e ≡ Operator.next y)
+  pub long : length (x .to) ≡ length t
+
+module _ (t : Table) (v w : Subset) (len : length v ≡ length t) where
+  abbrev set : Subset
+  set = saturate t w v
+
+  abbrev nexts : List ℕ
+  nexts = gather next-of (operators-in t set)
+
+  in-set : (e : ℕ) → T (has set e) → List·Memᴰ (operator t e) (operators-in t set)
+  in-set e h = met-in t set e (omega (arith, has-lt set e h, saturate-length t w v)) h
+
+  to-of : (y : ℕ) → T (has (add nexts (nothing t)) y) → (e : ℕ) × T (has set e) × (operator t e ≡ Operator.next y)
+  to-of y h =
+      elim (add-of nexts (nothing t) y h) [
+        | inl p ↦
+            let (o, m, r) = gather-of next-of (operators-in t set) (p .0) in
+            let (e, k, q) = met-of t set m in
+            (e, k, q ∙ next-is o y r)
+        | inr k ↦ absurd (nothing-has t y k)
+      ]
+
+  to-in : (e y : ℕ) → T (has set e) → operator t e ≡ Operator.next y → y < length t → T (has (add nexts (nothing t)) y)
+  to-in e y h q l =
+      add-has nexts (gather-in next-of (in-set e h) (subst⁻¹ (λ (o : Operator). List·Memᴰ y (next-of o)) q (List·Memᴰ·head refl))) (nothing t)
+      (omega (arith, length-map t (λ (o : Operator). false)))
+
+  facts-with : List·Memᴰ w (choices t) → T (within w set) → T (possible (operators-in t set)) → Facts t v (transition-with t w set)
+  facts-with c i p =
+      record {
+        listed = c;
+        met = within-of w set i;
+        enters = inside-has (saturate-holds t w v);
+        follows = saturate-closed t w v len;
+        allows = λ e h small. possible-allows (operators-in t set) p (operator t e) (in-set e h) small;
+        nexts = to-in;
+        from-next = to-of;
+        long = sym (inside-length (add-inside nexts (nothing t))) ∙ length-map t (λ (o : Operator). false);
+      }
+
+-- Theorem: a transition of a node is what `Facts` says.
+pub facts : (t : Table) (v : Subset) → length v ≡ length t → (x : Transition) → List·Memᴰ x (transitions t v) → Facts t v x
+facts t v len x m = let (w, c, i, p, e) = transitions-of t v x m in subst⁻¹ (Facts t v) e (facts-with t v w len c i p)
+
+-- it leads to a part of the operands of next
+operands-part : (t : Table) (v : Subset) → Sublistᴰ (gather next-of (operators-in t v)) (operands t)
+operands-part [] v = Sublistᴰ·slnil
+operands-part (o ∷ t) [] = Sublistᴰ·nil-sublist (operands (o ∷ t))
+operands-part (o ∷ t) (true ∷ v) = Sublistᴰ·append (Sublistᴰ·refl (next-of o)) (operands-part t v)
+operands-part (o ∷ t) (false ∷ v) = Sublistᴰ·append (Sublistᴰ·nil-sublist (next-of o)) (operands-part t v)
+
+pub transition-to : (t : Table) (v : Subset) (x : Transition) → List·Memᴰ x (transitions t v)
+    → (ms : List ℕ) × Sublistᴰ ms (operands t) × (x .to ≡ add ms (nothing t))
+transition-to t v x m =
+    let (w, c, i, p, e) = transitions-of t v x m in
+    (gather next-of (operators-in t (saturate t w v)), operands-part t (saturate t w v), ap (λ (y : Transition). y .to) e)
+
+-- it is the one with its choice, and the set that the choice gives
+pub transition-is : (t : Table) (v : Subset) (x : Transition) → List·Memᴰ x (transitions t v)
+    → x ≡ transition-with t (x .choice) (saturate t (x .choice) v)
+transition-is t v x m =
+    let (w, c, i, p, e) = transitions-of t v x m in
+    e ∙ ap (λ (y : Transition). transition-with t (y .choice) (saturate t (y .choice) v)) (sym e)
+
+-- Theorem: a choice that is met gives a transition if some letter is allowed by each subformula of the saturated set.
+pub transition-in : (t : Table) (v w : Subset) → List·Memᴰ w (choices t) → ((e : ℕ) → T (has w e) → T (has (saturate t w v) e))
+    → (a : ℕ) → ((e : ℕ) → T (has (saturate t w v) e) → T (asks (operator t e) a))
+    → List·Memᴰ (transition-with t w (saturate t w v)) (transitions t v)
+transition-in t v w c i a f =
+    transitions-in t v w c (within-in w (saturate t w v) i)
+    (possible-of (operators-in t (saturate t w v)) a
+    (λ o m. let (e, h, q) = met-of t (saturate t w v) m in subst (λ (p : Operator). T (asks p a)) q (f e h)))
