@@ -7,3 +7,4 @@ pub mod MemberLaws
 pub mod CondLaws
 pub mod SearchLaws
 pub mod SearchOrder
+pub mod NumberLaws

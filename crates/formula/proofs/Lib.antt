@@ -1,2 +1,11 @@
 pub mod Examples
+pub mod Commands
+pub mod Alike
+pub mod Fuel
+pub mod Prefix
+pub mod Derivation
+pub mod Limits
 pub mod Closed
+pub mod Guarded
+pub mod WellFormed
+pub mod RowLaws

@@ -1,0 +1,122 @@
+-- What reading means without its bound on the nesting, and where refusals stand. The bound does not matter once it is at least the
+-- number of bytes left, so the definition's recursion can be read as if it had none. A refusal's number is 1 to 9; where a byte is
+-- missing (1, 5) its place is the length, else the place of a byte. Both come from reading an input beside itself (Alike). Assumes nothing.
+use mathlib.Core.Path.{_≡_, refl, ap, subst}
+use mathlib.Core.Logic.{_⊎_, ⊎-elim}
+use mathlib.Core.List.{List, [], _∷_}
+use Prim.Native.Nat.{ℕ, suc, _+_, _≤_, _<_}
+use native.Mathlib.Omega.{arith}
+use lib.ListN.{length}
+use Rattle.formula.specs.Formula.{Formula}
+use Rattle.formula.specs.Reading.{Head, Read, Reader, Scope, questions, formula, Reading, ended, whole, start, parse}
+use Rattle.formula.proofs.Alike.{AtByte, AtEnd, Alike, Look, Looks, Near, over, questions-alike, formula-alike}
+
+-- a refusal of an input of `total` bytes: at the length where a byte is missing, else at one of the bytes
+pub record Stopped (total code place : ℕ) : Type 0 where
+  pub some : 0 < code
+  pub known : code ≤ 9
+  pub inside : place ≤ total
+  pub missing : (code ≡ 1) ⊎ (code ≡ 5) → place ≡ total
+  pub present : (code ≡ 1 → ⊥) → (code ≡ 5 → ⊥) → place < total
+
+-- the same bytes are left, and with those before them they are `total`
+pub record Same (total s : ℕ) (h : Head) (l : List ℕ) : Type 0 where
+  pub same : h .left ≡ l
+  pub sum : h .at + length (h .left) ≡ total
+
+other : {total place : ℕ} (code : ℕ) → 1 < code → code ≤ 9 → (code ≡ 5 → ⊥) → place < total → Stopped total code place
+other code a b c i =
+    record { some = omega arith; known = b; inside = omega arith; missing = λ e. absurd (⊎-elim (λ (q : code ≡ 1). omega arith) c e); present = λ x y. i }
+
+at-byte : {total place code : ℕ} → place < total → AtByte code → Stopped total code place
+at-byte i AtByte.unknown = other 2 (omega arith) (omega arith) (λ q. omega arith) i
+at-byte i AtByte.commands = other 3 (omega arith) (omega arith) (λ q. omega arith) i
+at-byte i AtByte.limits = other 4 (omega arith) (omega arith) (λ q. omega arith) i
+at-byte i AtByte.signal = other 6 (omega arith) (omega arith) (λ q. omega arith) i
+at-byte i AtByte.depth = other 7 (omega arith) (omega arith) (λ q. omega arith) i
+at-byte i AtByte.unguarded = other 8 (omega arith) (omega arith) (λ q. omega arith) i
+
+at-end : {total place code : ℕ} → place ≡ total → AtEnd code → Stopped total code place
+at-end i AtEnd.command = record { some = omega arith; known = omega arith; inside = omega arith; missing = λ e. i; present = λ x y. absurd (x refl) }
+at-end i AtEnd.operand = record { some = omega arith; known = omega arith; inside = omega arith; missing = λ e. i; present = λ x y. absurd (y refl) }
+
+module _ (total : ℕ) where
+  look-same : (s : ℕ) (h : Head) (x : List ℕ) → h .at + length x ≡ total → Look (Stopped total) (Same total s) h x x
+  look-same s h [] i = Look.none (λ code c. at-end (omega arith) c)
+  look-same s h (b ∷ x) i = Look.some {x = x} (record { same = refl; sum = omega arith })
+
+  looks-same : Looks (Stopped total) (Same total)
+  looks-same =
+      record {
+        look = λ s h l r. subst (Look (Stopped total) (Same total s) h (h .left)) (r .same) (look-same s h (h .left) (r .sum));
+        count = λ o n f h l c r. record { same = r .same; sum = r .sum };
+        fewer = λ h l r. record { same = r .same; sum = r .sum };
+        refuse = λ s h x y code c r. at-byte (omega (arith, r .sum)) c;
+      }
+
+  abbrev Kept : ℕ → ℕ → Read Formula → Read Formula → Type 0
+  Kept n m = Alike (Stopped total) (Near (Same total) n m 1)
+
+  kept-equal : {n m : ℕ} {x y : Read Formula} → Kept n m x y → x ≡ y
+  kept-equal (Alike.refused p) = refl
+  kept-equal (Alike.got {a} {h} r) = ap (λ (l : List ℕ). Read.got a (over h l)) (r .alike .same)
+
+  -- reading beside itself, with two bounds on the nesting
+  kept : (d e : ℕ) (scope : Scope) (h : Head) (l : List ℕ) → Near (Same total) d e 1 h l
+      → Kept d e (formula d scope h) (formula e scope (over h l))
+  kept = formula-alike (Stopped total) (Same total) looks-same
+
+  ended-stopped : (f : Formula) (h : Head) (x : List ℕ) (code place : ℕ) → h .at + length x ≡ total → ended f h x ≡ Reading.refused code place
+      → Stopped total code place
+  ended-stopped f h [] code place i e = absurd (let z : _≡_ {A = ℕ} 0 1 = cc in omega arith)
+  ended-stopped f h (b ∷ x) code place i e =
+      let c : code ≡ 9 = cc in
+      let p : place ≡ h .at = cc in
+      other code (omega arith) (omega arith) (λ q. omega arith) (omega arith)
+
+  whole-stopped : {n m : ℕ} {x y : Read Formula} (code place : ℕ) → Kept n m x y → whole x ≡ Reading.refused code place → Stopped total code place
+  whole-stopped code place (Alike.refused {code = c} {place = p} s) e =
+      let a : c ≡ code = cc in
+      let b : p ≡ place = cc in
+      rw (← a, ← b) s
+  whole-stopped code place (Alike.got {a} {h} r) e = ended-stopped a h (h .left) code place (r .alike .sum) e
+
+-- a head beside itself
+near : (n m : ℕ) (h : Head) → length (h .left) ≤ n → length (h .left) ≤ m
+    → Near (Same (h .at + length (h .left))) n m 1 h (h .left)
+near n m h i j = record { alike = record { same = refl; sum = refl }; first = i; second = j }
+
+pub formula-fuel : (d e : ℕ) (scope : Scope) (h : Head) → length (h .left) ≤ d → length (h .left) ≤ e → formula d scope h ≡ formula e scope h
+formula-fuel d e scope h i j =
+    kept-equal (h .at + length (h .left)) (kept (h .at + length (h .left)) d e scope h (h .left) (near d e h i j))
+
+-- one formula, with the bound that the bytes left give
+abbrev pub formula-at : Scope → Reader Formula
+formula-at scope h = formula (length (h .left)) scope h
+
+-- the definition as it is meant: reading a formula asks the questions, and reads operands in the same way
+pub formula-unfolds : (scope : Scope) (h : Head) → formula-at scope h ≡ questions formula-at scope h
+formula-unfolds scope h = by (h .left)
+  where
+    by : (x : List ℕ) → formula-at scope (over h x) ≡ questions formula-at scope (over h x)
+    by [] = refl
+    by (b ∷ x) =
+        let g = over h (b ∷ x) in
+        let total = g .at + length (g .left) in
+        kept-equal total
+        (questions-alike (Stopped total) (Same total) (looks-same total) (length x) (length x) (formula (length x)) formula-at
+        (λ scope k l r. subst (Kept total (length x) (length x) (formula (length x) scope k))
+        (formula-fuel (length x) (length l) scope (over k l) (r .second) (omega arith))
+        (kept total (length x) (length x) scope k l r))
+        scope g (b ∷ x) (near (suc (length x)) (suc (length x)) g (omega arith) (omega arith)))
+
+-- what document 01 says of the places: "at the length", "at that byte", "at the operand", "at the first extra byte"
+pub parse-stopped : (bytes : List ℕ) (code place : ℕ) → parse bytes ≡ Reading.refused code place → Stopped (length bytes) code place
+unfolding parse
+parse-stopped bytes code place e =
+    whole-stopped (length bytes) code place
+    (kept (length bytes) (length bytes) (length bytes) [] (start bytes) bytes
+    (record { alike = record { same = refl; sum = omega arith }; first = omega arith; second = omega arith })) e
+
+pub short-at-length : (bytes : List ℕ) (code place : ℕ) → (code ≡ 1) ⊎ (code ≡ 5) → parse bytes ≡ Reading.refused code place → place ≡ length bytes
+short-at-length bytes code place c e = parse-stopped bytes code place e .missing c

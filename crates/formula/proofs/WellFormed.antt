@@ -1,0 +1,304 @@
+-- The table of a closed, guarded formula is well formed. Numbers are given in prefix order, so the subformulas of an operator are those from
+-- its own number up to its end: operands come later and end no later, a variable's binder comes before it and ends behind it, and
+-- between the two stands a next. First every number is found to be a subformula of the tree that stands there (`Stands`, `located`); what
+-- a table looks like at a number (`Shaped`) is then read off the subformula's top. Assumes nothing.
+use mathlib.Core.Path.{_≡_, refl, ap, _∙_}
+use mathlib.Core.Bool.{Bool, true, false}
+use mathlib.Core.List.{List, [], _∷_, _++_, map}
+use Prim.Native.Nat.{ℕ, zero, suc, _+_, _≤_, _<_}
+use native.Mathlib.Nat.{add-zero}
+use native.Mathlib.Decide.{decLt}
+use native.Mathlib.Omega.{arith}
+use lib.Dec.{T}
+use lib.ListN.{length, getD, length-append, length-map, List·getD-append}
+use lib.Seq.{getD-append-add}
+use Rattle.formula.specs.Formula.{Leaf, Formula, size}
+use Rattle.formula.specs.Table.{Operator, Table, table-from, table, ends-from}
+use Rattle.formula.specs.Reading.{Scope, Reading, parse}
+use Rattle.formula.proofs.Closed.{length-table}
+use Rattle.formula.proofs.Limits.{Ranged, size-some, is-next, is-fix, parse-limited}
+use Rattle.formula.proofs.Guarded.{Guarded, parse-guarded}
+
+-- From number e on, s has the elements of a list. (d: what lists give behind their last element.)
+pub record Sits {A : Type 0} (d : A) (s : ℕ → A) (e : ℕ) (part : List A) : Type 0 where
+  pub at : (i : ℕ) → i < length part → s (e + i) ≡ getD part i d
+
+module _ {A : Type 0} {d : A} {s : ℕ → A} {e : ℕ} where
+  pub sits-first : {c : A} {part : List A} → Sits d s e (c ∷ part) → s e ≡ c
+  sits-first h = rw add-zero at (h .at 0 (omega arith))
+
+  sits-rest : {c : A} {part : List A} → Sits d s e (c ∷ part) → Sits d s (e + 1) part
+  sits-rest h = record { at = λ i l. let q : e + 1 + i ≡ e + suc i = omega arith in rw q (h .at (suc i) (omega arith)) }
+
+  sits-left : (a b : List A) → Sits d s e (a ++ b) → Sits d s e a
+  sits-left a b h = record { at = λ i l. h .at i (omega (arith, length-append a b)) ∙ List·getD-append a b d i l }
+
+  sits-right : (n : ℕ) (a b : List A) → length a ≡ n → Sits d s e (a ++ b) → Sits d s (e + n) b
+  sits-right n a b q h =
+      record {
+        at = λ i l.
+            let p : e + n + i ≡ e + (length a + i) = omega arith in
+            rw p (h .at (length a + i) (omega (arith, length-append a b)) ∙ getD-append-add a b i d);
+      }
+
+pub length-ends : (e : ℕ) (f : Formula) → length (ends-from e f) ≡ size f
+length-ends e (Formula.leaf l) = refl
+length-ends e (Formula.variable d) = refl
+length-ends e (Formula.pair o a b) = simp length-append (omega (arith, length-ends (e + 1) a, length-ends (e + 1 + size a) b))
+length-ends e (Formula.next a) = omega (arith, length-ends (e + 1) a)
+length-ends e (Formula.fix g a) = omega (arith, length-ends (e + 1) a)
+
+-- what a table, and a list of ends, have at a number
+abbrev pub nothing : Operator
+nothing = Operator.leaf (Leaf.constant false)
+
+abbrev pub operator-in : Table → ℕ → Operator
+operator-in t e = getD t e nothing
+
+abbrev pub end-in : List ℕ → ℕ → ℕ
+end-in ends e = getD ends e 0
+
+-- The operators and ends of `count` numbers, from wherever they are known: a table, or the rows of memory that hold one.
+module _ (operator : ℕ → Operator) (end : ℕ → ℕ) (count : ℕ) where
+  -- a next between m and the numbers from lo to hi
+  pub record Between (m lo hi : ℕ) : Type 0 where
+    pub number : ℕ
+    pub behind : m < number
+    pub before : number < lo
+    pub around : hi ≤ end number
+    pub next : T (is-next (operator number))
+
+  -- m is a fixpoint around the numbers from lo to hi, and guarded says that a next stands between
+  pub record Binds (m lo hi : ℕ) (guarded : Bool) : Type 0 where
+    pub before : m < lo
+    pub around : hi ≤ end m
+    pub fixpoint : T (is-fix (operator m))
+    pub guard : T guarded → Between m lo hi
+
+  -- f stands at number e, inside the fixpoints `binders`
+  pub record Stands (e : ℕ) (scope : Scope) (binders : List ℕ) (f : Formula) : Type 0 where
+    pub operators : Sits nothing operator e (table-from e binders f)
+    pub bounds : Sits 0 end e (ends-from e f)
+    pub fits : e + size f ≤ count
+    pub guarded : Guarded scope f
+    pub ranged : Ranged f
+    pub scoped : length scope ≡ length binders
+    pub enclosed : (d : ℕ) → d < length binders → Binds (getD binders d 0) e (e + size f) (getD scope d false)
+
+  ends-first : (e : ℕ) (f : Formula) → Sits 0 end e (ends-from e f) → end e ≡ e + size f
+  ends-first e (Formula.leaf l) h = sits-first h
+  ends-first e (Formula.variable d) h = sits-first h
+  ends-first e (Formula.pair o a b) h = sits-first h
+  ends-first e (Formula.next a) h = sits-first h
+  ends-first e (Formula.fix g a) h = sits-first h
+
+  pub stands-end : {e : ℕ} {scope : Scope} {binders : List ℕ} {f : Formula} → Stands e scope binders f → end e ≡ e + size f
+  stands-end {e} {f = f} h = ends-first e f (h .bounds)
+
+  binds-in : {m lo hi : ℕ} {g : Bool} (from to : ℕ) → lo ≤ from → to ≤ hi → Binds m lo hi g → Binds m from to g
+  binds-in from to i j b =
+      record {
+        before = omega (arith, b .before);
+        around = omega (arith, b .around);
+        fixpoint = b .fixpoint;
+        guard = λ t.
+            let n = b .guard t in
+            record { number = n .number; behind = n .behind; before = omega (arith, n .before); around = omega (arith, n .around); next = n .next };
+      }
+
+  -- the operands of what stands at e stand at their numbers
+  module _ {e : ℕ} {scope : Scope} {binders : List ℕ} where
+    pub stands-left : {o : Bool} {a b : Formula} → Stands e scope binders (Formula.pair o a b) → Stands (e + 1) scope binders a
+    stands-left {a = a} {b = b} h =
+        record {
+          operators = sits-left (table-from (e + 1) binders a) _ (sits-rest (h .operators));
+          bounds = sits-left (ends-from (e + 1) a) _ (sits-rest (h .bounds));
+          fits = omega (arith, h .fits);
+          guarded = h .guarded .0;
+          ranged = h .ranged .0;
+          scoped = h .scoped;
+          enclosed = λ d i. binds-in (e + 1) (e + 1 + size a) (omega arith) (omega arith) (h .enclosed d i);
+        }
+
+    pub stands-right : {o : Bool} {a b : Formula} → Stands e scope binders (Formula.pair o a b) → Stands (e + 1 + size a) scope binders b
+    stands-right {a = a} {b = b} h =
+        record {
+          operators = sits-right (size a) (table-from (e + 1) binders a) _ (length-table (e + 1) binders a) (sits-rest (h .operators));
+          bounds = sits-right (size a) (ends-from (e + 1) a) _ (length-ends (e + 1) a) (sits-rest (h .bounds));
+          fits = omega (arith, h .fits);
+          guarded = h .guarded .1;
+          ranged = h .ranged .1;
+          scoped = h .scoped;
+          enclosed = λ d i. binds-in (e + 1 + size a) (e + 1 + size a + size b) (omega arith) (omega arith) (h .enclosed d i);
+        }
+
+    pub stands-next : {a : Formula} → Stands e scope binders (Formula.next a) → Stands (e + 1) (map (λ _. true) scope) binders a
+    stands-next {a = a} h =
+        record {
+          operators = sits-rest (h .operators);
+          bounds = sits-rest (h .bounds);
+          fits = omega (arith, h .fits);
+          guarded = h .guarded;
+          ranged = h .ranged;
+          scoped = length-map scope (λ _. true) ∙ h .scoped;
+          enclosed = λ d i.
+              let b = h .enclosed d i in
+              record {
+                before = omega (arith, b .before);
+                around = omega (arith, b .around);
+                fixpoint = b .fixpoint;
+                guard = λ g.
+                    record { number = e; behind = b .before; before = omega arith; around = omega (arith, stands-end h); next = rw (sits-first (h .operators)) tt };
+              };
+        }
+
+    pub stands-body : {g : Bool} {a : Formula} → Stands e scope binders (Formula.fix g a) → Stands (e + 1) (false ∷ scope) (e ∷ binders) a
+    stands-body {a = a} h =
+        record {
+          operators = sits-rest (h .operators);
+          bounds = sits-rest (h .bounds);
+          fits = omega (arith, h .fits);
+          guarded = h .guarded;
+          ranged = h .ranged;
+          scoped = ap suc (h .scoped);
+          enclosed = λ d. inner d;
+        }
+      where
+        inner : (d : ℕ) → d < suc (length binders) → Binds (getD (e ∷ binders) d 0) (e + 1) (e + 1 + size a) (getD (false ∷ scope) d false)
+        inner zero i =
+            record { before = omega arith; around = omega (arith, stands-end h); fixpoint = rw (sits-first (h .operators)) tt; guard = λ g. absurd g }
+        inner (suc d) i = binds-in (e + 1) (e + 1 + size a) (omega arith) (omega arith) (h .enclosed d (omega arith))
+
+  -- a number with the subformula that stands there
+  pub record Located (e : ℕ) : Type 0 where
+    pub scope : Scope
+    pub binders : List ℕ
+    pub subformula : Formula
+    pub stands : Stands e scope binders subformula
+
+  abbrev Each : ℕ → ℕ → Type 0
+  Each lo hi = (x : ℕ) → lo ≤ x → x < hi → Located x
+
+  each-first : {e n : ℕ} {scope : Scope} {binders : List ℕ} {f : Formula} → Stands e scope binders f → Each (e + 1) n → Each e n
+  each-first {e} {n} {scope} {binders} {f} h more x i j = by (decLt e x)
+    where
+      by : Dec (e < x) → Located x
+      by (yes l) = more x (omega arith) j
+      by (no l) =
+          let q : x ≡ e = omega arith in
+          rw q (record { scope = scope; binders = binders; subformula = f; stands = h })
+
+  each-join : {lo m hi : ℕ} → Each lo m → Each m hi → Each lo hi
+  each-join {lo} {m} {hi} a b x i j = by (decLt x m)
+    where
+      by : Dec (x < m) → Located x
+      by (yes l) = a x i l
+      by (no l) = b x (omega arith) j
+
+  each-to : {lo m : ℕ} (hi : ℕ) → hi ≡ m → Each lo m → Each lo hi
+  each-to hi q a x i j = a x i (omega arith)
+
+  none : (lo hi : ℕ) → hi ≤ lo → Each lo hi
+  none lo hi l x i j = absurd (omega arith)
+
+  each : {e : ℕ} {scope : Scope} {binders : List ℕ} (f : Formula) → Stands e scope binders f → Each e (e + size f)
+  each {e} (Formula.leaf l) h = each-first h (none (e + 1) (e + 1) (omega arith))
+  each {e} (Formula.variable d) h = each-first h (none (e + 1) (e + 1) (omega arith))
+  each {e} (Formula.pair o a b) h =
+      each-to (e + (1 + (size a + size b))) (omega arith) (each-first h (each-join (each a (stands-left h)) (each b (stands-right h))))
+  each {e} (Formula.next a) h = each-to (e + (1 + size a)) (omega arith) (each-first h (each a (stands-next h)))
+  each {e} (Formula.fix g a) h = each-to (e + (1 + size a)) (omega arith) (each-first h (each a (stands-body h)))
+
+  -- every number from e up to the end of what stands there
+  pub located : {e : ℕ} {scope : Scope} {binders : List ℕ} {f : Formula} → Stands e scope binders f → (x : ℕ) → e ≤ x → x < end e → Located x
+  located {e} {f = f} h = each-to (end e) (stands-end h) (each f h)
+
+  -- the only operand
+  pub record Single (e operand : ℕ) : Type 0 where
+    pub first : operand ≡ e + 1
+    pub inside : operand < end e
+    pub last : end operand ≡ end e
+
+  -- two operands: the second begins where the first ends, and ends where the operator does
+  pub record Pair (e left right : ℕ) : Type 0 where
+    pub first : left ≡ e + 1
+    pub order : left < right
+    pub inside : right < end e
+    pub second : end left ≡ right
+    pub last : end right ≡ end e
+
+  -- what an operator at number e asks of its operands; of a variable, that its binder encloses it with a next between
+  abbrev pub Operands : ℕ → Operator → Type 0
+  Operands e (Operator.leaf (Leaf.constant b)) = Unit {0}
+  Operands e (Operator.leaf (Leaf.signal present s)) = s ≤ 15
+  Operands e (Operator.variable m) = Binds m e (e + 1) true
+  Operands e (Operator.pair o l r) = Pair e l r
+  Operands e (Operator.next g) = Single e g
+  Operands e (Operator.fix g b) = Single e b
+
+  -- what the table looks like at number e
+  pub record Shaped (e : ℕ) : Type 0 where
+    pub some : e < end e
+    pub inside : end e ≤ count
+    pub operands : Operands e (operator e)
+
+  operands-at : {e : ℕ} {scope : Scope} {binders : List ℕ} (f : Formula) → Stands e scope binders f → Operands e (operator e)
+  operands-at (Formula.leaf (Leaf.constant b)) h = rw (sits-first (h .operators)) tt
+  operands-at (Formula.leaf (Leaf.signal present s)) h = rw (sits-first (h .operators)) (h .ranged)
+  operands-at (Formula.variable d) h =
+      let b = h .enclosed d (omega (arith, h .guarded .0, h .scoped)) in
+      rw (sits-first (h .operators))
+      (record { before = b .before; around = b .around; fixpoint = b .fixpoint; guard = λ g. b .guard (h .guarded .1) })
+  operands-at (Formula.pair o a b) h =
+      rw (sits-first (h .operators))
+      (record {
+        first = refl;
+        order = omega (arith, size-some a);
+        inside = omega (arith, size-some b, stands-end h);
+        second = stands-end (stands-left h);
+        last = omega (arith, stands-end (stands-right h), stands-end h);
+      })
+  operands-at (Formula.next a) h =
+      rw (sits-first (h .operators))
+      (record { first = refl; inside = omega (arith, size-some a, stands-end h); last = omega (arith, stands-end (stands-next h), stands-end h) })
+  operands-at (Formula.fix g a) h =
+      rw (sits-first (h .operators))
+      (record { first = refl; inside = omega (arith, size-some a, stands-end h); last = omega (arith, stands-end (stands-body h), stands-end h) })
+
+  pub stands-shaped : {e : ℕ} {scope : Scope} {binders : List ℕ} {f : Formula} → Stands e scope binders f → Shaped e
+  stands-shaped {f = f} h =
+      record { some = omega (arith, stands-end h, size-some f); inside = omega (arith, stands-end h, h .fits); operands = operands-at f h }
+
+pub table-size : (f : Formula) → length (table f) ≡ size f
+unfolding table
+table-size f = length-table 0 [] f
+
+-- Operators and ends that are a formula's: the formula stands at 0, so every number is a subformula, and shaped as such.
+module _ (operator : ℕ → Operator) (end : ℕ → ℕ) (f : Formula) (operators : (e : ℕ) → e < size f → operator e ≡ operator-in (table f) e)
+    (ends : (e : ℕ) → e < size f → end e ≡ end-in (ends-from 0 f) e) (guarded : Guarded [] f) (ranged : Ranged f) where
+  pub stands-whole : Stands operator end (size f) 0 [] [] f
+  unfolding table
+  stands-whole =
+      record {
+        operators = record { at = λ i l. let q : 0 + i ≡ i = omega arith in rw q (operators i (omega (arith, table-size f))) };
+        bounds = record { at = λ i l. let q : 0 + i ≡ i = omega arith in rw q (ends i (omega (arith, length-ends 0 f))) };
+        fits = omega arith;
+        guarded = guarded;
+        ranged = ranged;
+        scoped = refl;
+        enclosed = λ d i. absurd (omega arith);
+      }
+
+  pub each-located : (e : ℕ) → e < size f → Located operator end (size f) e
+  each-located e i =
+      located operator end (size f) stands-whole e (omega arith) (omega (arith, stands-end operator end (size f) stands-whole))
+
+  pub each-shaped : (e : ℕ) → e < size f → Shaped operator end (size f) e
+  each-shaped e i = stands-shaped operator end (size f) (each-located e i .stands)
+
+-- the table of an accepted formula
+pub parse-shaped : (bytes : List ℕ) (f : Formula) → parse bytes ≡ Reading.accepted f
+    → (e : ℕ) → e < size f → Shaped (operator-in (table f)) (end-in (ends-from 0 f)) (size f) e
+parse-shaped bytes f p =
+    each-shaped (operator-in (table f)) (end-in (ends-from 0 f)) f (λ e i. refl) (λ e i. refl) (parse-guarded bytes f p)
+    (parse-limited bytes f p .signals)
