@@ -1,6 +1,6 @@
 -- Rows that hold the table of an accepted formula are well formed: what code that walks them may count on, by the opcode's byte. Through the
--- decoding the rows' operators and ends are the formula's, so they have its shape (WellFormed). A byte that is no opcode decodes as
--- false does (opcode 2), so the decoding leaves it possible, and nothing is asked of it. Assumes nothing.
+-- decoding the rows' operators and ends are the formula's, so they have its shape (WellFormed). A byte that is no opcode decodes to
+-- what has not that shape, so every opcode is 1 to 10. Assumes nothing.
 use mathlib.Core.Path.{_≡_, refl, sym, ap, _∙_}
 use mathlib.Core.Bool.{Bool}
 use mathlib.Core.List.{List, [], map}
@@ -30,8 +30,8 @@ argument-at rows e = getD rows (48 + e) 0
 
 -- the table of opcodes by ranges
 data Coded : ℕ → Opcode → Type 0 where
-  unknown : (c : ℕ) → (0 < c → 10 < c) → Coded c Opcode.unknown
-  constant : (c : ℕ) {b : Bool} → c < 3 → Coded c (Opcode.constant b)
+  unknown : (c : ℕ) → Coded c Opcode.unknown
+  constant : (c : ℕ) {b : Bool} → 0 < c → c < 3 → Coded c (Opcode.constant b)
   signal : (c : ℕ) {p : Bool} → 2 < c → c < 5 → Coded c (Opcode.signal p)
   variable : (c : ℕ) → c ≡ 5 → Coded c Opcode.variable
   pair : (c : ℕ) {o : Bool} → 5 < c → c < 8 → Coded c (Opcode.pair o)
@@ -39,9 +39,9 @@ data Coded : ℕ → Opcode → Type 0 where
   fix : (c : ℕ) {g : Bool} → 8 < c → c < 11 → Coded c (Opcode.fix g)
 
 coded : (c : ℕ) → Coded c (opcode c)
-coded zero = Coded.unknown 0 (λ i. absurd (omega arith))
-coded (suc zero) = Coded.constant 1 (omega arith)
-coded (suc (suc zero)) = Coded.constant 2 (omega arith)
+coded zero = Coded.unknown 0
+coded (suc zero) = Coded.constant 1 (omega arith) (omega arith)
+coded (suc (suc zero)) = Coded.constant 2 (omega arith) (omega arith)
 coded (suc (suc (suc zero))) = Coded.signal 3 (omega arith) (omega arith)
 coded (suc (suc (suc (suc zero)))) = Coded.signal 4 (omega arith) (omega arith)
 coded (suc (suc (suc (suc (suc zero))))) = Coded.variable 5 (omega arith)
@@ -50,11 +50,11 @@ coded (suc (suc (suc (suc (suc (suc (suc zero))))))) = Coded.pair 7 (omega arith
 coded (suc (suc (suc (suc (suc (suc (suc (suc zero)))))))) = Coded.next 8 (omega arith)
 coded (suc (suc (suc (suc (suc (suc (suc (suc (suc zero))))))))) = Coded.fix 9 (omega arith) (omega arith)
 coded (suc (suc (suc (suc (suc (suc (suc (suc (suc (suc zero)))))))))) = Coded.fix 10 (omega arith) (omega arith)
-coded (suc (suc (suc (suc (suc (suc (suc (suc (suc (suc (suc c))))))))))) = Coded.unknown (suc (suc (suc (suc (suc (suc (suc (suc (suc (suc (suc c))))))))))) (λ i. omega arith)
+coded (suc (suc (suc (suc (suc (suc (suc (suc (suc (suc (suc c))))))))))) = Coded.unknown (suc (suc (suc (suc (suc (suc (suc (suc (suc (suc (suc c)))))))))))
 
 fix-code : {c : ℕ} {op : Opcode} (a e : ℕ) → Coded c op → T (is-fix (operator-of op a e)) → (8 < c) × (c < 11)
-fix-code a e (Coded.unknown c i) t = absurd t
-fix-code a e (Coded.constant c i) t = absurd t
+fix-code a e (Coded.unknown c) t = absurd t
+fix-code a e (Coded.constant c i j) t = absurd t
 fix-code a e (Coded.signal c i j) t = absurd t
 fix-code a e (Coded.variable c i) t = absurd t
 fix-code a e (Coded.pair c i j) t = absurd t
@@ -77,42 +77,65 @@ module _ (rows : List ℕ) (count : ℕ) where
 
   -- what an opcode's byte says of its argument and its operands
   pub record Row (e code argument : ℕ) : Type 0 where
+    pub some : 0 < code
+    pub known : code < 11
     pub signal : 2 < code → code < 5 → argument ≤ 15
     pub variable : code ≡ 5 → Binder e argument
     pub pair : 5 < code → code < 8 → Two e (e + 1) argument
     pub single : 7 < code → code < 11 → One e (e + 1)
 
-  -- no argument and no operand
-  row-none : {e a : ℕ} (c : ℕ) → (2 < c → 10 < c) → Row e c a
-  row-none c f =
+  row-single : {e a : ℕ} (c : ℕ) → 7 < c → c < 11 → One e (e + 1) → Row e c a
+  row-single c i j o =
       record {
-        signal = λ x y. absurd (omega (arith, f x));
-        variable = λ x. absurd (omega (arith, f (omega arith)));
-        pair = λ x y. absurd (omega (arith, f (omega arith)));
-        single = λ x y. absurd (omega (arith, f (omega arith)));
+        some = omega arith;
+        known = j;
+        signal = λ x y. absurd (omega arith);
+        variable = λ x. absurd (omega arith);
+        pair = λ x y. absurd (omega arith);
+        single = λ x y. o;
       }
 
-  row-single : {e a : ℕ} (c : ℕ) → 7 < c → One e (e + 1) → Row e c a
-  row-single c i o =
-      record { signal = λ x y. absurd (omega arith); variable = λ x. absurd (omega arith); pair = λ x y. absurd (omega arith); single = λ x y. o }
-
   row-by : {c : ℕ} {op : Opcode} (e a : ℕ) → Coded c op → Operands (operator-at rows) (end-at rows) count e (operator-of op a e) → Row e c a
-  row-by e a (Coded.unknown c i) o = row-none c (λ x. i (omega arith))
-  row-by e a (Coded.constant c i) o = row-none c (λ x. absurd (omega arith))
+  row-by e a (Coded.unknown c) o = absurd (omega (arith, o .before))
+  row-by e a (Coded.constant c i j) o =
+      record {
+        some = i;
+        known = omega arith;
+        signal = λ x y. absurd (omega arith);
+        variable = λ x. absurd (omega arith);
+        pair = λ x y. absurd (omega arith);
+        single = λ x y. absurd (omega arith);
+      }
   row-by e a (Coded.signal c i j) o =
-      record { signal = λ x y. o; variable = λ x. absurd (omega arith); pair = λ x y. absurd (omega arith); single = λ x y. absurd (omega arith) }
+      record {
+        some = omega arith;
+        known = omega arith;
+        signal = λ x y. o;
+        variable = λ x. absurd (omega arith);
+        pair = λ x y. absurd (omega arith);
+        single = λ x y. absurd (omega arith);
+      }
   row-by e a (Coded.variable c i) o =
       let f = fix-code (argument-at rows a) a (coded (code-at rows a)) (o .fixpoint) in
       record {
+        some = omega arith;
+        known = omega arith;
         signal = λ x y. absurd (omega arith);
         variable = λ x. record { before = o .before; around = omega (arith, o .around); least = f .0; greatest = f .1 };
         pair = λ x y. absurd (omega arith);
         single = λ x y. absurd (omega arith);
       }
   row-by e a (Coded.pair c i j) o =
-      record { signal = λ x y. absurd (omega arith); variable = λ x. absurd (omega arith); pair = λ x y. o; single = λ x y. absurd (omega arith) }
-  row-by e a (Coded.next c i) o = row-single c (omega arith) o
-  row-by e a (Coded.fix c i j) o = row-single c (omega arith) o
+      record {
+        some = omega arith;
+        known = omega arith;
+        signal = λ x y. absurd (omega arith);
+        variable = λ x. absurd (omega arith);
+        pair = λ x y. o;
+        single = λ x y. absurd (omega arith);
+      }
+  row-by e a (Coded.next c i) o = row-single c (omega arith) (omega arith) o
+  row-by e a (Coded.fix c i j) o = row-single c (omega arith) j o
 
   pub shaped-row : (e : ℕ) → Shaped (operator-at rows) (end-at rows) count e → Row e (code-at rows e) (argument-at rows e)
   shaped-row e h = row-by e (argument-at rows e) (coded (code-at rows e)) (h .operands)

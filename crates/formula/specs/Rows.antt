@@ -13,9 +13,10 @@ use Rattle.formula.specs.declared.Outcome.{Outcome}
 use Rattle.formula.specs.declared.Outcome.the-variants.{Accepted, Refused}
 use Rattle.formula.specs.declared.Reading as code
 
--- the operator of subformula e by its opcode and its argument; the first operand is e + 1
+-- the operator of subformula e by its opcode and its argument; the first operand is e + 1. A byte that is no opcode decodes to what no
+-- table has, a variable that is its own binder.
 abbrev pub operator-of : Opcode → (argument e : ℕ) → Operator
-operator-of Opcode.unknown a e = Operator.leaf (Leaf.constant false)
+operator-of Opcode.unknown a e = Operator.variable e
 operator-of (Opcode.constant b) a e = Operator.leaf (Leaf.constant b)
 operator-of (Opcode.signal present) a e = Operator.leaf (Leaf.signal present a)
 operator-of Opcode.variable a e = Operator.variable a
