@@ -8,3 +8,4 @@ pub mod CondLaws
 pub mod SearchLaws
 pub mod SearchOrder
 pub mod NumberLaws
+pub mod FirstLaws

@@ -1,6 +1,6 @@
 -- A formula as the list of its subformulas (document 01: "Commands are numbered from 0 by where they begin, from the left: these are
 -- the entries"). Element e is the operator of subformula e, with the numbers of its operands. Assumes nothing.
-use mathlib.Core.Bool.{Bool}
+use mathlib.Core.Bool.{Bool, false}
 use mathlib.Core.List.{List, [], _∷_, _++_}
 use Prim.Native.Nat.{ℕ, _+_}
 use lib.ListN.{getD}
@@ -16,6 +16,10 @@ pub data Operator : Type 0 where
 
 abbrev pub Table : Type 0
 Table = List Operator
+
+-- the operator of subformula e
+abbrev pub operator : Table → ℕ → Operator
+operator t e = getD t e (Operator.leaf (Leaf.constant false))
 
 -- The subformulas of a formula whose first one is e, inside the fixpoints of the given numbers, innermost first.
 abbrev pub table-from : ℕ → List ℕ → Formula → Table

@@ -1,27 +1,45 @@
--- Accepting cycles of the tableau (document 01: good loops). Assumes nothing.
+-- Runs with their profiles, and accepting cycles (document 01: good loops), without search and fuel. Assumes nothing.
 use mathlib.Core.Path.{_≡_}
-use mathlib.Core.Bool.{false}
-use mathlib.Core.List.{List, [], _∷_}
-use Rattle.formula.specs.Table.{Table}
+use mathlib.Core.List.{List, [], _∷_, _++_, List·Memᴰ}
+use lib.Dec.{T}
+use Rattle.formula.specs.Table.{Table, operator}
 use Rattle.tableau.specs.Saturation.{Subset}
-use Rattle.tableau.specs.Transition.{Transition}
-use Rattle.tableau.specs.Nodes.{root}
-use Rattle.tableau.specs.Run.{Run}
-use Rattle.profile.specs.Traces.{Triple, triples, join}
-use Rattle.profile.specs.Profiles.{rejecting}
+use Rattle.tableau.specs.Transition.{Transition, transitions}
+use Rattle.tableau.specs.Run.{Reachable}
+use Rattle.profile.specs.Traces.{Triple, triples, joined, join}
+use Rattle.profile.specs.Profiles.{Profile, is-least}
 
--- "Traces over several steps join end to end": the triples of a run that goes on from v, where those so far are xs
-abbrev pub carried-on : Table → List Triple → Subset → List Transition → List Triple
-carried-on t xs v [] = xs
-carried-on t xs v (s ∷ ss) = carried-on t (join t xs (triples t v (s .choice))) (s .to) ss
+-- the profile of one transition from v, and of one transition more
+abbrev pub single : Table → Subset → Transition → Profile
+single t v s = record { first = v; last = s .to; carried = triples t v (s .choice) }
 
--- the triples of the run that begins at v with the transition s
-abbrev pub carried : Table → Subset → Transition → List Transition → List Triple
-carried t v s ss = carried-on t (triples t v (s .choice)) (s .to) ss
+abbrev pub extended : Table → Profile → Transition → Profile
+extended t p s = record { first = p .first; last = s .to; carried = join t (p .carried) (triples t (p .last) (s .choice)) }
+
+-- "some run of one or more steps", by its profile and its transitions
+pub data Run (t : Table) : Profile → List Transition → Type 0 where
+  one : {v : Subset} {s : Transition} → List·Memᴰ s (transitions t v) → Run t (single t v s) (s ∷ [])
+  more : {p : Profile} {ss : List Transition} {s : Transition} → Run t p ss → List·Memᴰ s (transitions t (p .last))
+      → Run t (extended t p s) (ss ++ (s ∷ []))
+
+-- "joining its triples any number of times"
+pub data Lap (xs : List Triple) : Triple → Type 0 where
+  once : {a : Triple} → List·Memᴰ a xs → Lap xs a
+  again : {a b : Triple} → Lap xs a → List·Memᴰ b xs → a .to ≡ b .from → Lap xs (joined a b)
+
+-- "gives some f back to f whose weight is a least fixpoint"
+pub record Rejecting (t : Table) (xs : List Triple) : Type 0 where
+  pub triple : Triple
+  pub lap : Lap xs triple
+  pub back : triple .from ≡ triple .to
+  pub least : T (is-least (operator t (triple .priority)))
+
+abbrev pub around : Subset → List Triple → Profile
+around v xs = record { first = v; last = v; carried = xs }
 
 -- "A loop in the graph is a run of one or more steps from a reachable node back to it; it is good if its profile isn't bad."
-pub record AcceptingCycle (t : Table) (v : Subset) (s : Transition) (ss : List Transition) : Type 0 where
-  pub way : List Transition
-  pub reached : Run t (root t) way v
-  pub back : Run t v (s ∷ ss) v
-  pub accepted : rejecting t (carried t v s ss) ≡ false
+pub record AcceptingCycle (t : Table) (v : Subset) (ss : List Transition) : Type 0 where
+  pub reachable : Reachable t v
+  pub carried : List Triple
+  pub run : Run t (around v carried) ss
+  pub accepts : Rejecting t carried → ⊥

@@ -6,10 +6,10 @@ use lib.Dec.{eqb}
 use lib.ListN.{length}
 use Rattle.base.specs.Lists.{gather, any, alike, tail}
 use Rattle.base.specs.Search.{Edge, Item, search-from}
-use Rattle.formula.specs.Table.{Operator, Table}
+use Rattle.formula.specs.Table.{Operator, Table, operator}
 use Rattle.tableau.specs.Saturation.{Subset, same-subset}
 use Rattle.tableau.specs.Transition.{Transition, transitions}
-use Rattle.profile.specs.Traces.{Triple, same-triple, operator, all-triples, triples, meet, join}
+use Rattle.profile.specs.Traces.{Triple, same-triple, all-triples, triples, meet, join}
 
 -- "A profile is (first node, last node, all triples f, weight, g) of some run of one or more steps."
 pub record Profile : Type 0 where

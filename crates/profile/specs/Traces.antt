@@ -7,8 +7,7 @@ use lib.Dec.{eqb}
 use lib.ListN.{length, getD}
 use Rattle.base.specs.Lists.{gather, any, keep}
 use Rattle.base.specs.Search.{Edge, Item, search-from}
-use Rattle.formula.specs.Formula.{Leaf}
-use Rattle.formula.specs.Table.{Operator, Table}
+use Rattle.formula.specs.Table.{Operator, Table, operator}
 use Rattle.tableau.specs.Saturation.{Subset, has, moves}
 use Rattle.tableau.specs.Transition.{next-of}
 use Rattle.tableau.specs.Nodes.{operands}
@@ -28,9 +27,6 @@ is-fix (Operator.variable m) = false
 is-fix (Operator.pair o l r) = false
 is-fix (Operator.next g) = false
 is-fix (Operator.fix g l) = true
-
-abbrev pub operator : Table → ℕ → Operator
-operator t e = getD t e (Operator.leaf (Leaf.constant false))
 
 -- A trace on its way: the subformula where it stands, and the smallest number of a fixpoint passed, that subformula included.
 pub record Stand : Type 0 where
@@ -75,8 +71,11 @@ unfoldable pub triples : Table → Subset → (choice : Subset) → List Triple
 triples t v w = set-of t (gather (λ f. cond (has v f) (gather (λ (x : Item ℕ Stand). ends t f (x .at)) (stands t w f)) []) (operands t))
 
 -- "Traces over several steps join end to end and the weight is the smaller, none being largest."
+abbrev pub joined : Triple → Triple → Triple
+joined a b = record { from = a .from; priority = min (a .priority) (b .priority); to = b .to }
+
 abbrev pub meet : Triple → Triple → List Triple
-meet a b = cond (eqb (a .to) (b .from)) (record { from = a .from; priority = min (a .priority) (b .priority); to = b .to } ∷ []) []
+meet a b = cond (eqb (a .to) (b .from)) (joined a b ∷ []) []
 
 unfoldable pub join : Table → List Triple → List Triple → List Triple
 join t xs ys = set-of t (gather (λ a. gather (meet a) ys) xs)

@@ -14,10 +14,10 @@ use Rattle.base.specs.Lists.{numbers}
 use Rattle.base.proofs.BoolLaws.{by-test, of-T, and-right}
 use Rattle.base.proofs.MemberLaws.{numbers-in}
 use Rattle.base.proofs.Inside.{Inside, inside-both}
-use Rattle.formula.specs.Table.{Operator, Table}
+use Rattle.formula.specs.Table.{Operator, Table, operator}
 use Rattle.tableau.specs.Saturation.{Subset, has, moves, saturate}
 use Rattle.tableau.specs.Transition.{is-or, ors, choice-of, choices, Transition, transitions}
-use Rattle.tableau.proofs.SaturationLaws.{operator, inside-has, subset-ext, saturate-holds, saturate-closed, saturate-least}
+use Rattle.tableau.proofs.SaturationLaws.{inside-has, subset-ext, saturate-holds, saturate-closed, saturate-least}
 use Rattle.tableau.proofs.TransitionLaws.{asks, facts, transition-with, transition-is, transition-in}
 
 -- The choice that picks by a function, at the or operators of a table whose first subformula is e.

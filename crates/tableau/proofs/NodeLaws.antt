@@ -19,17 +19,9 @@ use Rattle.formula.specs.Table.{Operator, Table}
 use Rattle.tableau.specs.Saturation.{Subset, same-subset, nothing, add}
 use Rattle.tableau.specs.Transition.{Transition, transitions}
 use Rattle.tableau.specs.Nodes.{root, edges, operands, nodes}
+use Rattle.tableau.specs.Run.{Along, Reachable}
 use Rattle.tableau.proofs.SaturationLaws.{subset-sound, subset-refl, add-inside}
 use Rattle.tableau.proofs.TransitionLaws.{facts, transition-to}
-
--- the transitions, one after another, lead from the first node to the last
-pub data Along (t : Table) (v : Subset) : List Transition → Subset → Type 0 where
-  stay : Along t v [] v
-  on : {u : Subset} {ss : List Transition} {s : Transition} → Along t v ss u → List·Memᴰ s (transitions t u) → Along t v (ss ++ (s ∷ [])) (s .to)
-
--- "reachable from the root"
-abbrev pub Reachable : Table → Subset → Type 0
-Reachable t v = (ss : List Transition) × Along t (root t) ss v
 
 pub at-root : (t : Table) → Reachable t (root t)
 at-root t = ([], Along.stay)

@@ -17,12 +17,8 @@ use Rattle.base.proofs.MemberLaws.{alike-sound, alike-refl}
 use Rattle.base.proofs.ListLaws.{repeat-keeps}
 use Rattle.base.proofs.Inside.{Below, below-greatest, Inside, inside-at, inside-of, inside-length, inside-refl, inside-trans, inside-both, waiting-le, rests}
 use Rattle.formula.specs.Formula.{Leaf}
-use Rattle.formula.specs.Table.{Operator, Table}
+use Rattle.formula.specs.Table.{Operator, Table, operator}
 use Rattle.tableau.specs.Saturation.{Subset, has, same-subset, nothing, add, moves, sweep, saturate}
-
--- the operator of subformula e
-abbrev pub operator : Table → ℕ → Operator
-operator t e = getD t e (Operator.leaf (Leaf.constant false))
 
 -- the test of subsets
 pub subset-sound : (v u : Subset) → T (same-subset v u) → v ≡ u

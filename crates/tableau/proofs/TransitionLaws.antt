@@ -19,11 +19,11 @@ use Rattle.base.proofs.CondLaws.{cond-of, cond-in}
 use Rattle.base.proofs.MemberLaws.{gather-of, gather-in, any-of, any-in, member-of, member-in}
 use Rattle.base.proofs.Inside.{inside-length}
 use Rattle.formula.specs.Formula.{Leaf}
-use Rattle.formula.specs.Table.{Operator, Table}
+use Rattle.formula.specs.Table.{Operator, Table, operator}
 use Rattle.tableau.specs.Saturation.{Subset, has, nothing, add, saturate}
 use Rattle.tableau.specs.Transition.{operators-in, requires, is-false, possible, letter-of, next-of, choices, within, Transition, transition-of, transitions}
 use Rattle.tableau.specs.Nodes.{operands}
-use Rattle.tableau.proofs.SaturationLaws.{operator, inside-has, has-lt, nothing-has, add-inside, add-has, add-of, Closed, saturate-holds, saturate-length, saturate-closed}
+use Rattle.tableau.proofs.SaturationLaws.{inside-has, has-lt, nothing-has, add-inside, add-has, add-of, Closed, saturate-holds, saturate-length, saturate-closed}
 
 -- what an operator asks of a letter by itself
 abbrev pub asks : Operator → (letter : ℕ) → Bool

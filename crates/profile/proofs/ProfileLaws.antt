@@ -1,0 +1,246 @@
+-- The profiles are exactly those of runs of one or more transitions that start at a reachable node other than the root, each once, so
+-- that P is their number; `Run` says it without search and fuel. A profile's nodes are reachable and its triples are a part of all
+-- triples, so the search's fuel is enough. The search goes by rising rank: the length of the run first, then how far its first node is
+-- from the root; so each profile comes with the transitions of a shortest run that has it, of at most P transitions. Assumes nothing.
+use mathlib.Core.Path.{_≡_, refl, sym, ap, subst, subst⁻¹, _∙_}
+use mathlib.Core.Bool.{_&&_}
+use mathlib.Core.List.{List, [], _∷_, _++_, map, List·Memᴰ, Memᴰ·map, Memᴰ·of-map, Memᴰ·cast}
+use Prim.Native.Nat.{ℕ, _+_, _*_, _^_, _≤_, _<_}
+use native.Mathlib.Omega.{arith}
+use native.Mathlib.Nat.{mul-assoc, add-mul, one-mul, mul-one}
+use lib.Dec.{T}
+use lib.ListN.{length, length-append, length-map}
+use Rattle.base.specs.Lists.{gather, alike, tail}
+use Rattle.base.specs.Search.{Edge, Item, onward}
+use Rattle.base.proofs.BoolLaws.{and-left, and-right, and-both}
+use Rattle.base.proofs.MemberLaws.{gather-of, gather-in, length-gather, alike-sound, alike-refl, parts, parts-length, parts-in, keep-part}
+use Rattle.base.proofs.SearchLaws.{Visits, Distinct, same-number, Found, search-found, search-few, search-distinct, search-short}
+use Rattle.base.proofs.SearchOrder.{Sorted, sorted-same, sorted-append, Within, Far, search-sorted, search-near}
+use Rattle.formula.specs.Table.{Table}
+use Rattle.tableau.specs.Saturation.{Subset, same-subset}
+use Rattle.tableau.specs.Transition.{Transition, transitions}
+use Rattle.tableau.specs.Nodes.{root, nodes}
+use Rattle.tableau.proofs.SaturationLaws.{subset-sound, subset-refl}
+use Rattle.tableau.proofs.NodeLaws.{by-transition, nodes-all, others-reachable, others-all}
+use Rattle.profile.specs.Traces.{Triple, same-triple, all-triples, triples, join}
+use Rattle.profile.specs.Profiles.{Profile, same-profile, longer, profile-edges, profile-room, profiles}
+use Rattle.profile.specs.Cycle.{single, extended, Run, Run.one, Run.more}
+use Rattle.tableau.specs.Run.{Reachable}
+use Rattle.profile.proofs.TripleLaws.{triple-sound, triple-refl}
+
+-- the profile of one transition, with that transition
+abbrev begun : Table → Subset → Transition → Item Transition Profile
+begun t v s = record { way = s ∷ []; at = single t v s }
+
+-- where the runs of the profiles start
+pub record Begins (t : Table) (v : Subset) : Type 0 where
+  pub reachable : Reachable t v
+  pub no-root : v ≡ root t → ⊥
+
+-- the test on profiles
+pub profile-sound : (a b : Profile) → T (same-profile a b) → a ≡ b
+profile-sound a b h =
+    let u = same-subset (a .first) (b .first) in
+    let v = same-subset (a .last) (b .last) in
+    let w = alike same-triple (a .carried) (b .carried) in
+    let x = subset-sound (a .first) (b .first) (and-left u v (and-left (u && v) w h)) in
+    let y = subset-sound (a .last) (b .last) (and-right u v (and-left (u && v) w h)) in
+    let z = alike-sound same-triple triple-sound (a .carried) (b .carried) (and-right (u && v) w h) in
+    λ i. record { first = x i; last = y i; carried = z i }
+
+pub profile-refl : (a : Profile) → T (same-profile a a)
+profile-refl a =
+    let u = same-subset (a .first) (a .first) in
+    let v = same-subset (a .last) (a .last) in
+    and-both (u && v) (alike same-triple (a .carried) (a .carried)) (and-both u v (subset-refl (a .first)) (subset-refl (a .last)))
+    (alike-refl same-triple triple-refl (a .carried))
+
+module _ (t : Table) where
+  pub run-ends : {p : Profile} {ss : List Transition} → Run t p ss → Reachable t (p .first) → Reachable t (p .last)
+  run-ends (Run.one m) r = by-transition r m
+  run-ends (Run.more a m) r = by-transition (run-ends a r) m
+
+  -- What the search starts from, and where it goes on to.
+  abbrev singles : Item Transition Subset → List (Item Transition Profile)
+  singles n = map (begun t (n .at)) (transitions t (n .at))
+
+  abbrev starts : List (Item Transition Profile)
+  starts = gather singles (tail (nodes t))
+
+  abbrev room : ℕ
+  room = profile-room t (length (nodes t))
+
+  edges-of : (p : Profile) {e : Edge Transition Profile} → List·Memᴰ e (profile-edges t p)
+      → (s : Transition) × List·Memᴰ s (transitions t (p .last)) × (record { label = s; to = extended t p s } ≡ e)
+  unfolding triples join transitions
+  edges-of p m = Memᴰ·of-map (longer t p) (transitions t (p .last)) m
+
+  edges-in : (p : Profile) {s : Transition} → List·Memᴰ s (transitions t (p .last))
+      → List·Memᴰ (record { label = s; to = extended t p s }) (profile-edges t p)
+  unfolding triples join transitions
+  edges-in p m = Memᴰ·map (longer t p) m
+
+  single-of : (n : Item Transition Subset) {x : Item Transition Profile} → List·Memᴰ x (singles n)
+      → (s : Transition) × List·Memᴰ s (transitions t (n .at)) × (begun t (n .at) s ≡ x)
+  single-of n m = Memᴰ·of-map (begun t (n .at)) (transitions t (n .at)) m
+
+  start-of : {x : Item Transition Profile} → List·Memᴰ x starts
+      → (n : Item Transition Subset) × List·Memᴰ n (tail (nodes t)) × List·Memᴰ x (singles n)
+  start-of m = gather-of singles (tail (nodes t)) m
+
+  found-run : (x : Item Transition Profile) → Found same-profile (profile-edges t) starts x → Run t (x .at) (x .way) × Begins t (x .at .first)
+  found-run x (Found.start m) =
+      let (n, p, q) = start-of m in
+      let (s, r, e) = single-of n q in
+      let (i, j) = others-reachable t (n, p, refl) in
+      subst (λ (y : Item Transition Profile). Run t (y .at) (y .way) × Begins t (y .at .first)) e (one r, record { reachable = i; no-root = j })
+  found-run y (Found.go {x} {e} f m) =
+      let (s, r, q) = edges-of (x .at) m in
+      let (a, b) = found-run x f in
+      subst (λ (d : Edge Transition Profile). Run t (d .to) (x .way ++ (d .label ∷ [])) × Begins t (d .to .first)) q (more a r, b)
+
+  -- How many profiles there can be.
+  abbrev node-sets : List Subset
+  node-sets = map (λ (x : Item Transition Subset). x .at) (nodes t)
+
+  node-in : {v : Subset} → Reachable t v → List·Memᴰ v node-sets
+  node-in r = let (x, m, e) = nodes-all t r in Memᴰ·cast e (Memᴰ·map (λ (x : Item Transition Subset). x .at) m)
+
+  abbrev between : Subset → Subset → List Profile
+  between a b = map (λ (c : List Triple). record { first = a; last = b; carried = c }) (parts (all-triples t))
+
+  abbrev all-profiles : List Profile
+  all-profiles = gather (λ (a : Subset). gather (between a) node-sets) node-sets
+
+  run-part : {p : Profile} {ss : List Transition} → Run t p ss → List·Memᴰ (p .carried) (parts (all-triples t))
+  unfolding triples join
+  run-part (Run.one m) = parts-in (keep-part _ (all-triples t))
+  run-part (Run.more r m) = parts-in (keep-part _ (all-triples t))
+
+  run-profile : {p : Profile} {ss : List Transition} → Run t p ss → Reachable t (p .first) → List·Memᴰ p all-profiles
+  run-profile {p} a r =
+      gather-in (λ (a : Subset). gather (between a) node-sets) (node-in r)
+      (gather-in (between (p .first)) (node-in (run-ends a r))
+      (Memᴰ·map (λ (c : List Triple). record { first = p .first; last = p .last; carried = c }) (run-part a)))
+
+  all-length : length all-profiles ≡ length (nodes t) * length (nodes t) * 2 ^ length (all-triples t)
+  all-length =
+      length-gather (λ (a : Subset). gather (between a) node-sets) (length node-sets * 2 ^ length (all-triples t)) node-sets
+      (λ a. length-gather (between a) (2 ^ length (all-triples t)) node-sets
+      (λ b. length-map (parts (all-triples t)) (λ (c : List Triple). record { first = a; last = b; carried = c }) ∙ parts-length (all-triples t)))
+      ∙ simp (length-map, mul-assoc)
+
+  few : length (profiles t (nodes t)) < room
+  unfolding profiles
+  few =
+      omega (
+        arith,
+        search-few same-profile (profile-edges t) profile-refl room starts all-profiles (λ x f. let (a, b) = found-run x f in run-profile a (b .reachable)),
+        all-length,
+      )
+
+  -- Theorem: no profile is listed twice,
+  pub profiles-distinct : Distinct (profiles t (nodes t))
+  unfolding profiles
+  profiles-distinct = search-distinct same-profile (profile-edges t) profile-refl room starts
+
+  -- and each is that of the run whose transitions it comes with.
+  pub profiles-run : {x : Item Transition Profile} → List·Memᴰ x (profiles t (nodes t)) → Run t (x .at) (x .way) × Begins t (x .at .first)
+  unfolding profiles
+  profiles-run {x} m = found-run x (search-found same-profile (profile-edges t) room starts m)
+
+  -- Theorem: a run that comes with a profile has at most P transitions.
+  pub profiles-short : {x : Item Transition Profile} → List·Memᴰ x (profiles t (nodes t)) → length (x .way) ≤ length (profiles t (nodes t))
+  unfolding profiles
+  profiles-short m =
+      omega (
+        arith,
+        search-short same-profile (profile-edges t) 1 room starts
+            (λ y m.
+            let (n, p, q) = start-of m in
+            let (s, r, e) = single-of n q in
+            ap (λ (z : Item Transition Profile). length (z .way)) (sym e)) m,
+      )
+
+-- The rank is the length of the run times d, plus the distance of its first node: any distance by which the nodes stand in order, less
+-- than d, so that the length comes first.
+module _ (t : Table) (distance : Subset → ℕ) (d : ℕ) (rising : Sorted (λ (n : Item Transition Subset). distance (n .at)) (tail (nodes t)))
+    (near : (n : Item Transition Subset) → List·Memᴰ n (tail (nodes t)) → distance (n .at) < d)
+  where
+    abbrev pub rank : Item Transition Profile → ℕ
+    rank x = length (x .way) * d + distance (x .at .first)
+
+    longer-by : (ss : List Transition) (s : Transition) → length (ss ++ (s ∷ [])) * d ≡ length ss * d + d
+    longer-by ss s =
+        ap (λ (n : ℕ). n * d) (length-append ss (s ∷ [])) ∙ add-mul (length ss) 1 d ∙ ap (λ (n : ℕ). length ss * d + n) (one-mul d)
+
+    raised : (x : Item Transition Profile) (e : Edge Transition Profile) → List·Memᴰ e (profile-edges t (x .at))
+        → rank (onward same-profile (profile-edges t) x e) ≡ rank x + d
+    raised x e m =
+        let (s, r, q) = edges-of t (x .at) m in
+        let f : distance (e .to .first) ≡ distance (x .at .first) = ap (λ (d : Edge Transition Profile). distance (d .to .first)) (sym q) in
+        omega (arith, longer-by (x .way) (e .label))
+
+    single-rank : (n : Item Transition Subset) (y : Item Transition Profile) → List·Memᴰ y (singles t n) → rank y ≡ d + distance (n .at)
+    single-rank n y m =
+        let (s, r, q) = single-of t n m in
+        subst (λ (z : Item Transition Profile). rank z ≡ d + distance (n .at)) q (ap (λ (k : ℕ). k + distance (n .at)) (one-mul d))
+
+    singles-sorted : (ns : List (Item Transition Subset)) → Sorted (λ (n : Item Transition Subset). distance (n .at)) ns → Sorted rank (gather (singles t) ns)
+    singles-sorted [] s = Sorted.none
+    singles-sorted (n ∷ ns) (Sorted.more g s) =
+        sorted-append rank (sorted-same rank (d + distance (n .at)) (singles t n) (single-rank n)) (singles-sorted ns s)
+        (λ x y p q.
+        let (k, i, j) = gather-of (singles t) ns q in
+        omega (arith, single-rank n x p, single-rank k y j, g k i))
+
+    starts-tight : (y z : Item Transition Profile) → List·Memᴰ y (starts t) → List·Memᴰ z (starts t) → rank z ≤ rank y + d
+    starts-tight y z p q =
+        let (a, i, j) = start-of t p in
+        let (b, k, l) = start-of t q in
+        omega (arith, single-rank a y j, single-rank b z l, near b k)
+
+    -- Theorem: the profiles stand by rising rank,
+    pub profiles-sorted : Sorted rank (profiles t (nodes t))
+    unfolding profiles
+    profiles-sorted =
+        search-sorted same-profile (profile-edges t) rank d profile-sound raised (starts t) (singles-sorted (tail (nodes t)) rising) starts-tight (room t)
+
+    run-far : {p : Profile} {ss : List Transition} → Run t p ss → Begins t (p .first)
+        → Far same-profile (profile-edges t) rank d (starts t) p (length ss * d + distance (p .first))
+    run-far (Run.one {v} {s} m) b =
+        let (x, q, e) = others-all t (b .reachable) (b .no-root) in
+        Far.start {x = begun t v s}
+        (gather-in (singles t) q
+        (subst (λ (u : Subset). List·Memᴰ (begun t v s) (map (begun t u) (transitions t u))) e (Memᴰ·map (begun t v) m)))
+    run-far (Run.more {p} {ss} {s} r m) b =
+        subst (Far same-profile (profile-edges t) rank d (starts t) (extended t p s)) (omega (arith, longer-by ss s))
+        (Far.go {e = record { label = s; to = extended t p s }} (run-far r b) (edges-in t p m))
+
+    -- and each run's profile is listed, at a rank as low as any run gives it.
+    pub profiles-near : {p : Profile} {ss : List Transition} → Run t p ss → Begins t (p .first)
+        → Within rank (profiles t (nodes t)) p (length ss * d + distance (p .first))
+    unfolding profiles
+    profiles-near r b =
+        search-near same-profile (profile-edges t) rank d profile-sound raised (starts t) (singles-sorted (tail (nodes t)) rising) starts-tight (room t)
+        (omega (arith, few t)) (run-far r b)
+
+-- Theorem: each run's profile is listed, with a run that is no longer.
+pub profiles-all : (t : Table) {p : Profile} {ss : List Transition} → Run t p ss → Begins t (p .first)
+    → Within (λ (x : Item Transition Profile). length (x .way)) (profiles t (nodes t)) p (length ss)
+profiles-all t {p} {ss} r b =
+    let (x, m, e, h) =
+    profiles-near t (λ v. 0) 1 (sorted-same (λ (n : Item Transition Subset). 0) 0 (tail (nodes t)) (λ y m. refl)) (λ n m. omega arith) r b in
+    (x, m, e, omega (arith, mul-one (length ss), mul-one (length (x .way))))
+
+-- "A profile is … of some run of one or more steps that starts at a reachable node other than the root."
+abbrev pub IsProfile : Table → Profile → Type 0
+IsProfile t p = (ss : List Transition) × Run t p ss × Begins t (p .first)
+
+-- Theorem: P is the number of profiles: every list of them that has each once has P elements.
+pub profiles-count : (t : Table) (xs : List (Item Transition Profile)) → Distinct xs → ((p : Profile) → Visits p xs → IsProfile t p)
+    → ((p : Profile) → IsProfile t p → Visits p xs) → length xs ≡ length (profiles t (nodes t))
+profiles-count t xs d f g =
+    same-number xs (profiles t (nodes t)) d (profiles-distinct t)
+    (λ p h. let (ss, r, b) = f p h in let (x, m, e, l) = profiles-all t r b in (x, m, e))
+    (λ p h. let (x, m, e) = h in let (r, b) = profiles-run t m in g p (subst⁻¹ (IsProfile t) e (x .way, r, b)))
