@@ -1,1 +1,4 @@
 pub mod Cases
+pub mod WitnessLaws
+pub mod VerdictLaws
+pub mod Answer

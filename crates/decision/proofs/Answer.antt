@@ -1,0 +1,118 @@
+-- What the verdict says of the formula is so: MET comes with a lasso that meets it, NOT is given only where no lasso meets it, and where
+-- nothing is refused the verdict is MET exactly if some lasso meets the formula. From the laws of the verdict and the two halves of the
+-- core theorem. Assumes nothing.
+use mathlib.Core.Path.{_≡_, refl, subst, subst⁻¹}
+use mathlib.Core.Logic.{_↔_}
+use mathlib.Core.Bool.{true}
+use mathlib.Core.List.{List}
+use Prim.Native.Nat.{ℕ, _+_, _*_, _≤_}
+use Rattle.formula.specs.Formula.{Formula}
+use Rattle.formula.specs.Table.{Table, table}
+use Rattle.formula.specs.Reading.{Reading, parse}
+use Rattle.formula.proofs.Guarded.{parse-guarded}
+use Rattle.formula.proofs.Limits.{parse-limited}
+use Rattle.lasso.specs.Lasso.{Lasso, meets}
+use Rattle.tableau.specs.Saturation.{Subset}
+use Rattle.tableau.specs.Transition.{Transition}
+use Rattle.theory.proofs.CoreTheorem.{cycle-meets, meets-cycle}
+use Rattle.decision.specs.Verdict.{Verdict, verdict}
+use Rattle.profile.specs.Cycle.{AcceptingCycle}
+use Rattle.decision.specs.Promise.{node-count, profile-count, Witness, Met, Unmet}
+use Rattle.decision.proofs.VerdictLaws.{Asked, Concluded, Capacity, Decided, Answered, verdict-answered}
+
+abbrev pub lasso : List ℕ → ℕ → Lasso
+lasso letters stem = record { letters = letters; stem = stem }
+
+abbrev pub Says : (bytes : List ℕ) → Verdict → Type 0
+Says bytes (Verdict.unread code place) = parse bytes ≡ Reading.refused code place
+Says bytes (Verdict.refused code) = Unit {0}
+Says bytes (Verdict.satisfiable stem cycle K P letters) = Met bytes stem cycle K P letters
+Says bytes (Verdict.unsatisfiable K P) = Unmet bytes K P
+
+-- the verdict is MET
+abbrev pub IsMet : Verdict → Type 0
+IsMet (Verdict.unread code place) = ⊥
+IsMet (Verdict.refused code) = ⊥
+IsMet (Verdict.satisfiable stem cycle K P letters) = Unit {0}
+IsMet (Verdict.unsatisfiable K P) = ⊥
+
+-- after a question that is answered by yes
+after : {Question : Type 0} {code : ℕ} {After : Verdict → Type 0} {o : Verdict} → Asked Question code After o → Question → After o
+after (Asked.passed q a) r = a
+after (Asked.failed n) r = absurd (n r)
+
+read-of : {N M workspace buffer : ℕ} {f : Formula} {o : Verdict} → Answered N M workspace buffer (Reading.accepted f) o → Decided N M workspace buffer (table f) o
+read-of (Answered.read d) = d
+
+-- nothing is refused
+pub record Unrefused (N M workspace buffer : ℕ) (t : Table) : Type 0 where
+  pub capacity : Capacity N M
+  pub workspace-fits : 8 * N + 192 * M ≤ workspace
+  pub buffer-fits : N + M ≤ buffer
+  pub nodes-fit : node-count t ≤ N
+  pub profiles-fit : profile-count t ≤ M
+
+fitting : {N M workspace buffer : ℕ} {t : Table} {o : Verdict} → Decided N M workspace buffer t o → Unrefused N M workspace buffer t → Concluded t o
+fitting d f = after (after (after (after (after d (f .capacity)) (f .workspace-fits)) (f .buffer-fits)) (f .nodes-fit)) (f .profiles-fit)
+
+module _ (bytes : List ℕ) (f : Formula) (reads : parse bytes ≡ Reading.accepted f) where
+  witness-holds : {stem cycle : ℕ} {letters : List ℕ} → Witness (table f) stem cycle letters → meets (lasso letters stem) f ≡ true
+  witness-holds w =
+      subst⁻¹ (λ (c : Lasso). meets c f ≡ true) (λ i. lasso (w .letters-are i) (w .stem-is i))
+      (cycle-meets f (parse-guarded bytes f reads) (parse-limited bytes f reads .signals) (w .leads) (w .accepted))
+
+  no-lasso : ((v : Subset) (ss : List Transition) → AcceptingCycle (table f) v ss → ⊥) → (c : Lasso) → meets c f ≡ true → ⊥
+  no-lasso n c h = let (v, ss, a) = meets-cycle f (parse-guarded bytes f reads) (parse-limited bytes f reads .signals) c h in n v ss a
+
+  concluded-says : {o : Verdict} → Concluded (table f) o → Says bytes o
+  concluded-says (Concluded.met w) =
+      record {
+        formula = f;
+        reads = reads;
+        holds = witness-holds w;
+        witness = w;
+        nodes-counted = refl;
+        profiles-counted = refl;
+      }
+  concluded-says (Concluded.unmet n) =
+      record {
+        formula = f;
+        reads = reads;
+        none-holds = λ c h. no-lasso n c h;
+        nodes-counted = refl;
+        profiles-counted = refl;
+      }
+
+  asked-says : {Question : Type 0} {code : ℕ} {After : Verdict → Type 0} → ((o : Verdict) → After o → Says bytes o)
+      → (o : Verdict) → Asked Question code After o → Says bytes o
+  asked-says s o (Asked.passed q a) = s o a
+  asked-says s o (Asked.failed n) = tt
+
+  decided-says : {N M workspace buffer : ℕ} {o : Verdict} → Decided N M workspace buffer (table f) o → Says bytes o
+  decided-says {o} d = asked-says (asked-says (asked-says (asked-says (asked-says (λ o c. concluded-says c))))) o d
+
+-- Theorem: a verdict that answers document 01's questions says what is so.
+pub answered-says : {N M workspace buffer : ℕ} (bytes : List ℕ) {r : Reading Formula} {o : Verdict} → parse bytes ≡ r → Answered N M workspace buffer r o → Says bytes o
+answered-says bytes e Answered.unread = e
+answered-says bytes e (Answered.read {f} d) = decided-says bytes f e d
+
+-- So does the verdict.
+pub verdict-says : (N M workspace buffer : ℕ) (bytes : List ℕ) → Says bytes (verdict N M workspace buffer bytes)
+verdict-says N M workspace buffer bytes = answered-says bytes refl (verdict-answered N M workspace buffer bytes)
+
+pub verdict-met : (N M workspace buffer : ℕ) (bytes : List ℕ) (stem cycle K P : ℕ) (letters : List ℕ)
+    → verdict N M workspace buffer bytes ≡ Verdict.satisfiable stem cycle K P letters → Met bytes stem cycle K P letters
+verdict-met N M workspace buffer bytes stem cycle K P letters e = subst (Says bytes) e (verdict-says N M workspace buffer bytes)
+
+pub verdict-unmet : (N M workspace buffer : ℕ) (bytes : List ℕ) (K P : ℕ) → verdict N M workspace buffer bytes ≡ Verdict.unsatisfiable K P → Unmet bytes K P
+verdict-unmet N M workspace buffer bytes K P e = subst (Says bytes) e (verdict-says N M workspace buffer bytes)
+
+-- Theorem: where nothing is refused, the verdict is MET exactly if some lasso meets the formula.
+pub verdict-exact : (N M workspace buffer : ℕ) (bytes : List ℕ) (f : Formula) → parse bytes ≡ Reading.accepted f → Unrefused N M workspace buffer (table f)
+    → IsMet (verdict N M workspace buffer bytes) ↔ ((c : Lasso) × (meets c f ≡ true))
+verdict-exact N M workspace buffer bytes f e fits =
+    exact (fitting (read-of (subst (λ (r : Reading Formula). Answered N M workspace buffer r (verdict N M workspace buffer bytes)) e (verdict-answered N M workspace buffer bytes))) fits)
+  where
+    exact : {o : Verdict} → Concluded (table f) o → IsMet o ↔ ((c : Lasso) × (meets c f ≡ true))
+    exact (Concluded.met {stem} {letters = letters} w) = (λ h. (lasso letters stem, witness-holds bytes f e w), λ h. tt)
+    exact (Concluded.unmet n) = (λ h. absurd h, λ h. no-lasso bytes f e n (h .0) (h .1))

@@ -1,0 +1,14 @@
+pub mod World
+pub mod Settle
+pub mod Pigeon
+pub mod Refutation
+pub mod Strategy
+pub mod Agreement
+pub mod Levels
+pub mod TreeLaws
+pub mod Walks
+pub mod LapLaws
+pub mod Soundness
+pub mod Completeness
+pub mod CoreTheorem
+pub mod Astray
