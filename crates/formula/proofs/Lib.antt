@@ -9,3 +9,10 @@ pub mod Closed
 pub mod Guarded
 pub mod WellFormed
 pub mod RowLaws
+pub mod CodeOpcodes
+pub mod CodeScope
+pub mod CodeRows
+pub mod CodeQuestions
+pub mod CodeFormula
+pub mod CodeCommand
+pub mod CodeWhole

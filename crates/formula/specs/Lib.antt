@@ -2,3 +2,5 @@ pub mod Formula
 pub mod Table
 pub mod Reading
 pub mod Rows
+pub mod Holds
+pub mod Promise

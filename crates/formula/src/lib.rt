@@ -1,4 +1,14 @@
 // Reading a formula: bytes into its table of subformulas, or a refusal.
+ghost use mathlib.Core.Path.{_≡_};
+ghost use mathlib.Core.Bool.{cond};
+ghost use mathlib.Core.List.{List};
+ghost use Prim.Native.Nat.{ℕ, _+_, _≤_, _<_};
+ghost use lib.ListN.{length};
+ghost use Rattle.formula.specs.Reading.{opcode, reading, within as allowed};
+ghost use Rattle.formula.specs.Rows.{reading-of};
+ghost use Rattle.formula.specs.Holds.{Holds, no-table};
+ghost use Rattle.formula.specs.Promise.{point, behind, Limits, Room, Counted, Opening, Ready, Inside};
+ghost use Rattle.formula.specs.Promise.{Placed, Finished, Argues, Leaves, Completed, Command};
 
 // The number of a subformula (document 01: an entry), kept apart from positions on a lasso.
 pub struct Subformula(pub usize);
@@ -57,7 +67,10 @@ enum Taken {
 }
 
 // Whether one more command stays within 12 or, 12 next, 7 fixpoints.
-fn within(op: u8, h: Head) -> bool {
+fn within(op: u8, h: Head) -> bool
+    requires { ⌜ op ≤ 10 ⌝ }
+    ensures { λ r. ⌜ ((s : List ℕ) → r ≡ allowed (opcode op) (point s h)) ⌝ }
+{
     if op == 6 {
         return h.ors < 12;
     }
@@ -70,14 +83,33 @@ fn within(op: u8, h: Head) -> bool {
     true
 }
 
-fn one_if(on: bool) -> usize {
+fn one_if(on: bool) -> usize
+    ensures { λ r. ⌜ (r ≡ cond on 1 0) × (r ≤ 1) ⌝ }
+{
     if on { 1 } else { 0 }
 }
 
-// Where reading stands behind the command op.
-fn counted(op: u8, h: Head) -> Head {
+// Where reading stands behind the byte at h.
+fn passed(s: &[u8], h: Head) -> Head
+    requires { ⌜ h .at < length (now s) ⌝ }
+    ensures { λ r. ⌜ r ≡ behind h ⌝ }
+{
     Head {
         at: h.at + 1,
+        count: h.count,
+        ors: h.ors,
+        nexts: h.nexts,
+        fixpoints: h.fixpoints,
+    }
+}
+
+// The command op counts as read.
+fn counted(op: u8, h: Head) -> Head
+    requires { ⌜ Room op h ⌝ }
+    ensures { λ r. ⌜ Counted op h r ⌝ }
+{
+    Head {
+        at: h.at,
         count: h.count + 1,
         ors: h.ors + one_if(op == 6),
         nexts: h.nexts + one_if(op == 8),
@@ -86,7 +118,10 @@ fn counted(op: u8, h: Head) -> Head {
 }
 
 // The questions about a command's byte: 1, 2, 3 and 4.
-fn opcode_at(s: &[u8], h: Head) -> Taken {
+fn opcode_at(s: &[u8], h: Head) -> Taken
+    requires { ⌜ Limits h ⌝ }
+    ensures { λ r. ⌜ Opening (now (s .entry)) h r ⌝ }
+{
     let at = h.at;
     if s.len() <= at {
         return Taken::Refused(Refusal { code: 1, at: at });
@@ -101,53 +136,47 @@ fn opcode_at(s: &[u8], h: Head) -> Taken {
     if 48 <= h.count {
         return Taken::Refused(Refusal { code: 3, at: at });
     }
-    if within(op, h) {
-        return Taken::Byte(op, counted(op, h));
+    let after = passed(s, h);
+    if within(op, after) {
+        return Taken::Byte(op, counted(op, after));
     }
     Taken::Refused(Refusal { code: 4, at: at })
 }
 
-// The argument of a signal or a variable, which is its binder: the questions 5 to 8.
-fn argument_at(s: &[u8], h: Head, op: u8, scope: Scope) -> Taken {
+// The argument of a signal, or of a variable, which is its binder: the questions 5 to 8.
+fn argument_at(s: &[u8], h: Head, op: u8, scope: Scope) -> Taken
+    requires { ⌜ (2 < op) × (op ≤ 5) × Ready h scope ⌝ }
+    ensures { λ r. ⌜ Argues (now (s .entry)) h op scope r ⌝ }
+{
     let at = h.at;
     if s.len() <= at {
         return Taken::Refused(Refusal { code: 5, at: at });
     }
     let value = s[at];
-    if op == 5 {
-        return binder_of(h, value, scope);
+    let after = passed(s, h);
+    if op < 5 {
+        if 15 < value {
+            return Taken::Refused(Refusal { code: 6, at: at });
+        }
+        return Taken::Byte(value, after);
     }
-    if 15 < value {
-        return Taken::Refused(Refusal { code: 6, at: at });
-    }
-    Taken::Byte(value, passed(h))
-}
-
-fn passed(h: Head) -> Head {
-    Head {
-        at: h.at + 1,
-        count: h.count,
-        ors: h.ors,
-        nexts: h.nexts,
-        fixpoints: h.fixpoints,
-    }
-}
-
-fn binder_of(h: Head, value: u8, scope: Scope) -> Taken {
     let depth = scope.depth;
     let up = base::wide(value);
     if depth <= up {
-        return Taken::Refused(Refusal { code: 7, at: h.at });
+        return Taken::Refused(Refusal { code: 7, at: at });
     }
     let outer = depth - 1 - up;
     if scope.guarded <= outer {
-        return Taken::Refused(Refusal { code: 8, at: h.at });
+        return Taken::Refused(Refusal { code: 8, at: at });
     }
-    Taken::Byte(scope.binders[outer], passed(h))
+    Taken::Byte(scope.binders[outer], after)
 }
 
 // The scope of the operands of subformula me.
-fn inside(scope: Scope, me: usize, op: u8) -> Scope {
+fn inside(scope: Scope, me: usize, op: u8) -> Scope
+    requires { ⌜ (me < 48) × (scope .guarded ≤ scope .depth) × (8 < op → scope .depth < 7) ⌝ }
+    ensures { λ r. ⌜ Inside scope me op r ⌝ }
+{
     let depth = scope.depth;
     let mut inner = scope;
     if op == 8 {
@@ -162,7 +191,10 @@ fn inside(scope: Scope, me: usize, op: u8) -> Scope {
 }
 
 // The rows with subformula me, whose subformulas end before end.
-fn written(rows: [u8; 144], me: usize, op: u8, argument: u8, end: usize) -> [u8; 144] {
+fn written(rows: [u8; 144], me: usize, op: u8, argument: u8, end: usize) -> [u8; 144]
+    requires { ⌜ (me < 48) × (end ≤ 48) ⌝ }
+    ensures { λ r. ⌜ Placed rows me op argument end r ⌝ }
+{
     let mut r = rows;
     r[me] = op;
     r[48 + me] = argument;
@@ -170,7 +202,9 @@ fn written(rows: [u8; 144], me: usize, op: u8, argument: u8, end: usize) -> [u8;
     r
 }
 
-fn stopped(why: Refusal, h: Head, rows: [u8; 144]) -> Parsed {
+fn stopped(why: Refusal, h: Head, rows: [u8; 144]) -> Parsed
+    ensures { λ r. ⌜ r .outcome ≡ Outcome.Refused why ⌝ }
+{
     Parsed {
         outcome: Outcome::Refused(why),
         head: h,
@@ -179,7 +213,10 @@ fn stopped(why: Refusal, h: Head, rows: [u8; 144]) -> Parsed {
 }
 
 // Subformula me, read up to h, is written.
-fn finished(h: Head, rows: [u8; 144], me: usize, op: u8, argument: u8) -> Parsed {
+fn finished(h: Head, rows: [u8; 144], me: usize, op: u8, argument: u8) -> Parsed
+    requires { ⌜ (me < 48) × (h .count ≤ 48) ⌝ }
+    ensures { λ r. ⌜ Finished h rows me op argument r ⌝ }
+{
     Parsed {
         outcome: Outcome::Accepted,
         head: h,
@@ -188,7 +225,10 @@ fn finished(h: Head, rows: [u8; 144], me: usize, op: u8, argument: u8) -> Parsed
 }
 
 // A command without operand formulas.
-fn leaf(s: &[u8], h: Head, rows: [u8; 144], me: usize, op: u8, scope: Scope) -> Parsed {
+fn leaf(s: &[u8], h: Head, rows: [u8; 144], me: usize, op: u8, scope: Scope) -> Parsed
+    requires { ⌜ (0 < op) × (op ≤ 5) × Ready h scope × (h .count ≡ me + 1) ⌝ }
+    ensures { λ r. ⌜ Leaves (now (s .entry)) h rows me op scope r ⌝ }
+{
     if op <= 2 {
         return finished(h, rows, me, op, 0);
     }
@@ -200,7 +240,10 @@ fn leaf(s: &[u8], h: Head, rows: [u8; 144], me: usize, op: u8, scope: Scope) -> 
 }
 
 // Subformula me, whose last operand is p.
-fn closed(p: Parsed, me: usize, op: u8, argument: usize) -> Parsed {
+fn complete(p: Parsed, me: usize, op: u8, argument: usize) -> Parsed
+    requires { ⌜ (me < 48) × (argument ≤ 48) × (p .outcome ≡ Outcome.Accepted → p .head .count ≤ 48) ⌝ }
+    ensures { λ r. ⌜ Completed p me op argument r ⌝ }
+{
     let outcome = p.outcome;
     let h = p.head;
     let rows = p.rows;
@@ -211,7 +254,10 @@ fn closed(p: Parsed, me: usize, op: u8, argument: usize) -> Parsed {
 }
 
 // Reads a command with all its operands.
-fn command(s: &[u8], h: Head, rows: [u8; 144], scope: Scope) -> Parsed {
+fn command(s: &[u8], h: Head, rows: [u8; 144], scope: Scope) -> Parsed
+    requires { ⌜ Ready h scope ⌝ }
+    ensures { λ r. ⌜ Command (now (s .entry)) h rows scope r ⌝ }
+{
     let opened = opcode_at(s, h);
     match opened {
         Taken::Refused(why) => stopped(why, h, rows),
@@ -223,7 +269,7 @@ fn command(s: &[u8], h: Head, rows: [u8; 144], scope: Scope) -> Parsed {
             let inner = inside(scope, me, op);
             let first = command(s, after, rows, inner);
             if 7 < op {
-                return closed(first, me, op, 0);
+                return complete(first, me, op, 0);
             }
             let outcome = first.outcome;
             let between = first.head;
@@ -231,14 +277,16 @@ fn command(s: &[u8], h: Head, rows: [u8; 144], scope: Scope) -> Parsed {
             match outcome {
                 Outcome::Refused(_) => first,
                 Outcome::Accepted => {
-                    closed(command(s, between, so_far, inner), me, op, between.count)
+                    complete(command(s, between, so_far, inner), me, op, between.count)
                 }
             }
         }
     }
 }
 
-fn refused(why: Refusal) -> Reading {
+fn refused(why: Refusal) -> Reading
+    ensures { λ r. ⌜ (r .outcome ≡ Outcome.Refused why) × (r .table ≡ no-table) ⌝ }
+{
     Reading {
         outcome: Outcome::Refused(why),
         table: Table {
@@ -249,7 +297,10 @@ fn refused(why: Refusal) -> Reading {
 }
 
 // Reads a whole formula.
-pub fn read(s: &[u8]) -> Reading {
+pub fn read(s: &[u8]) -> Reading
+    ensures { λ r. ⌜ reading-of r ≡ reading (now (s .entry)) ⌝ }
+    ensures { λ r. ⌜ Holds (r .outcome) (r .table) ⌝ }
+{
     let start = Head {
         at: 0,
         count: 0,

@@ -1,0 +1,94 @@
+-- Writing a subformula into the rows, and listing subformulas from them. A subformula is written into three cells that no other one
+-- has; a list of subformulas is the first one and the rest, or two lists end to end; and it depends on its own rows alone.
+-- Assumes nothing.
+use mathlib.Core.Path.{_≡_, refl, ap, _∙_}
+use mathlib.Core.List.{List, [], _∷_, _++_, map}
+use Prim.Native.Nat.{ℕ, zero, suc, _+_, _%_, _≤_, _<_}
+use native.Mathlib.Omega.{arith}
+use native.Mathlib.Numerals.{add-one, one-add}
+use lib.ListN.{length, getD, set, length-set}
+use lib.Seq.{getD-set-same, getD-set-other}
+use Rattle.base.specs.Lists.{numbers}
+use Rattle.formula.specs.Table.{Operator, Table as Operators}
+use Rattle.formula.specs.Reading.{opcode}
+use Rattle.formula.specs.Rows.{operator-of, operator-at, end-at}
+use Rattle.formula.specs.Promise.{Alike, Placed, Listed}
+
+-- an operator by its two cells
+operator-by : (q : List ℕ) (e op a : ℕ) → getD q e 0 ≡ op → getD q (48 + e) 0 ≡ a → operator-at q e ≡ operator-of (opcode op) a e
+operator-by q e op a h k = rw (h, k)
+
+module _ (p : List ℕ) (e op a end : ℕ) (long : length p ≡ 144) (small : e < 48) (few : end ≤ 48) where
+  abbrev first : List ℕ
+  first = set p e op
+
+  abbrev second : List ℕ
+  second = set first (48 + e) a
+
+  abbrev third : List ℕ
+  third = set second (96 + e) (end % 256)
+
+  cell : (i : ℕ) → (i ≡ e → ⊥) → (i ≡ 48 + e → ⊥) → (i ≡ 96 + e → ⊥) → getD third i 0 ≡ getD p i 0
+  cell i u v w =
+      getD-set-other second (96 + e) i (end % 256) 0 w ∙ getD-set-other first (48 + e) i a 0 v ∙ getD-set-other p e i op 0 u
+
+  -- the three stores write subformula e and no other
+  pub placed : Placed p e op a end third
+  placed = record {
+    operator = operator-by third e op a
+        (getD-set-other second (96 + e) e (end % 256) 0 (λ q. omega arith) ∙ getD-set-other first (48 + e) e a 0 (λ q. omega arith)
+        ∙ getD-set-same p e op 0 (omega arith))
+        (getD-set-other second (96 + e) (48 + e) (end % 256) 0 (λ q. omega arith)
+        ∙ getD-set-same first (48 + e) a 0 (simp length-set (omega arith)));
+    ends = getD-set-same second (96 + e) (end % 256) 0 (simp length-set (omega arith)) ∙ omega arith;
+    others = λ k l n. record {
+      operator = operator-by third k (getD p k 0) (getD p (48 + k) 0)
+          (cell k n (λ q. omega arith) (λ q. omega arith)) (cell (48 + k) (λ q. omega arith) (λ q. n (omega arith)) (λ q. omega arith));
+      end = cell (96 + k) (λ q. omega arith) (λ q. omega arith) (λ q. n (omega arith));
+    };
+  }
+
+-- a row of cells from e on, whatever is read from a cell
+module _ {A : Type 0} where
+  rest : (f : ℕ → A) (e n : ℕ) (x : A) (xs : List A) → f e ≡ x → map f (numbers (e + 1) n) ≡ xs → map f (numbers e (1 + n)) ≡ x ∷ xs
+  rest f e n x xs h k = rw one-add (rw (h, ← add-one, k))
+
+  both : (f : ℕ → A) (e n m : ℕ) → map f (numbers e (n + m)) ≡ map f (numbers e n) ++ map f (numbers (e + n) m)
+  both f e zero m =
+      ap (λ (i : ℕ). map f (numbers e i)) {x = 0 + m} {y = m} (omega arith)
+      ∙ ap (λ (i : ℕ). map f (numbers i m)) {x = e} {y = e + 0} (omega arith)
+  both f e (suc n) m =
+      ap (λ (i : ℕ). map f (numbers e i)) {x = suc n + m} {y = suc (n + m)} (omega arith)
+      ∙ ap (λ (l : List A). f e ∷ l) (both f (suc e) n m
+      ∙ ap (λ (i : ℕ). map f (numbers (suc e) n) ++ map f (numbers i m)) {x = suc e + n} {y = e + suc n} (omega arith))
+
+  same : (f g : ℕ → A) (e n : ℕ) → ((k : ℕ) → e ≤ k → k < e + n → g k ≡ f k) → map g (numbers e n) ≡ map f (numbers e n)
+  same f g e zero h = refl
+  same f g e (suc n) h = rw (h e (omega arith) (omega arith), same f g (suc e) n (λ k l m. h k (omega arith) (omega arith)))
+
+pub listed-none : (e : ℕ) (rows : List ℕ) → Listed e 0 [] [] rows
+listed-none e rows = record { operators = refl; ends = refl }
+
+pub listed-both : {e n m : ℕ} {xs us : Operators} {ys vs rows : List ℕ} →
+    Listed e n xs ys rows → Listed (e + n) m us vs rows → Listed e (n + m) (xs ++ us) (ys ++ vs) rows
+listed-both {e} {n} {m} {rows = rows} a b = record {
+  operators = both (operator-at rows) e n m ∙ rw (a .operators, b .operators);
+  ends = both (end-at rows) e n m ∙ rw (a .ends, b .ends);
+}
+
+pub listed-same : {e n : ℕ} {xs : Operators} {ys p q : List ℕ} →
+    ((k : ℕ) → e ≤ k → k < e + n → Alike p q k) → Listed e n xs ys p → Listed e n xs ys q
+listed-same {e} {n} {p = p} {q = q} h a = record {
+  operators = same (operator-at p) (operator-at q) e n (λ k l m. h k l m .operator) ∙ a .operators;
+  ends = same (end-at p) (end-at q) e n (λ k l m. h k l m .end) ∙ a .ends;
+}
+
+pub listed-first : {e n : ℕ} {x : Operator} {xs : Operators} {y : ℕ} {ys rows : List ℕ} →
+    operator-at rows e ≡ x → end-at rows e ≡ y → Listed (e + 1) n xs ys rows → Listed e (1 + n) (x ∷ xs) (y ∷ ys) rows
+listed-first {e} {n} {x} {xs} {y} {ys} {rows} h k a = record {
+  operators = rest (operator-at rows) e n x xs h (a .operators);
+  ends = rest (end-at rows) e n y ys k (a .ends);
+}
+
+pub alike-trans : {p q r : List ℕ} {e : ℕ} → Alike p q e → Alike q r e → Alike p r e
+alike-trans a b = record { operator = b .operator ∙ a .operator; end = b .end ∙ a .end }

@@ -1,0 +1,59 @@
+-- `formula::leaf` reads a command without operand formulas: a constant is written at once, a signal and a variable with their argument.
+-- Assumes nothing.
+use native.Mathlib.Omega.{arith}
+use borrow.Author.Needs.{needs}
+use Rattle.formula.specs.Reading.{formula}
+use Rattle.formula.specs.Promise.{enclosing}
+use Rattle.formula.proofs.CodeFormula.{constant-leaf, byte-of, argued-leaf, refused-leaf}
+use Rattle.formula.proofs.leaf.Statement.{statement}
+use Rattle.formula.proofs.leaf.Tie as tie
+
+finished-requires : tie.Need-finished-requires
+finished-requires c κs = search needs
+
+returns : tie.Need-returns
+returns c =
+    let u = c .before .before .before in
+    λ self. constant-leaf self (enclosing (u .args .scope)) (u .pre .0) (c .before .if1 .taken) (u .pre .2 .limits) (u .pre .3) (c .finished .ensures)
+
+argument-at-requires : tie.Need-argument-at-requires
+argument-at-requires c κs = search needs
+
+enum-known-argument : tie.Need-enum-known-argument
+enum-known-argument c = search needs
+
+stopped-requires : tie.Need-stopped-requires
+stopped-requires c κs = search needs
+
+enum-known-argument-2 : tie.Need-enum-known-argument-2
+enum-known-argument-2 c = search needs
+
+finished-requires-2 : tie.Need-finished-requires-2
+finished-requires-2 c κs =
+    (omega arith, byte-of (c .before .argument2 .given .1) (c .before .before .before .argument-at .ensures 0 (formula 0)) .further .limits .commands)
+
+returns-2 : tie.Need-returns-2
+returns-2 c = λ self.
+    let u = c .before .before .before .before .before .before .before in
+    refused-leaf (u .args .op) (c .before .before .argument .given .1)
+    (c .before .before .before .before .argument-at .ensures (u .args .me) self) (c .stopped .ensures)
+
+returns-3 : tie.Need-returns-3
+returns-3 c = λ self.
+    let u = c .before .before .before .before .before .before .before in
+    argued-leaf (u .pre .3)
+    (byte-of (c .before .before .argument2 .given .1) (c .before .before .before .before .argument-at .ensures (u .args .me) self)) (c .finished2 .ensures)
+
+pub leaf-spec : {M : Type 1} → statement M
+leaf-spec =
+    tie.close
+    (tie.spec
+    finished-requires
+    returns
+    argument-at-requires
+    enum-known-argument
+    stopped-requires
+    enum-known-argument-2
+    finished-requires-2
+    returns-2
+    returns-3)

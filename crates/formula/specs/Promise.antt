@@ -1,0 +1,189 @@
+-- What the inner functions of reading promise, in terms of the definitions. A reader of the public contract need not read it.
+-- Assumes nothing.
+use mathlib.Core.Path.{_≡_}
+use mathlib.Core.Bool.{true, false}
+use mathlib.Core.List.{List, [], _∷_, map}
+use Prim.Native.Nat.{ℕ, zero, suc, _+_, _≤_, _<_}
+use lib.Dec.{ltb}
+use lib.ListN.{length, getD, drop}
+use Rattle.formula.specs.Formula.{Formula, size}
+use Rattle.formula.specs.Table.{Operator, Table as Operators, table-from, ends-from}
+use Rattle.formula.specs.Reading.{opcode, Head as Point, Read, Reader, Scope as Enclosing, within, counted, operands, formula}
+use Rattle.formula.specs.Rows.{operator-of, operator-at, end-at, operators-of, ends-of}
+use Rattle.formula.specs.declared.Head.{Head}
+use Rattle.formula.specs.declared.Scope.{Scope}
+use Rattle.formula.specs.declared.Parsed.{Parsed}
+use Rattle.formula.specs.declared.Refusal.{Refusal}
+use Rattle.formula.specs.declared.Outcome.the-variants.{Accepted, Refused}
+use Rattle.formula.specs.declared.Taken.{Taken}
+use Rattle.formula.specs.declared.Taken.the-variants as taken
+
+-- Where reading of the bytes s stands.
+abbrev pub point : List ℕ → Head → Point
+point s h = record { at = h .at; left = drop (h .at) s; commands = h .count; ors = h .ors; nexts = h .nexts; fixpoints = h .fixpoints }
+
+-- One element for each enclosing fixpoint, innermost first; the argument of `of` counts them from outside.
+abbrev pub inward : {A : Type 0} → (ℕ → A) → ℕ → List A
+inward of zero = []
+inward of (suc d) = of d ∷ inward of d
+
+-- The enclosing fixpoints, each with whether a next stands between it and here: those are the outer ones.
+abbrev pub enclosing : Scope → Enclosing
+enclosing x = inward (λ d. ltb d (x .guarded)) (x .depth)
+
+abbrev pub binders : Scope → List ℕ
+binders x = inward (λ d. getD (x .binders) d 0) (x .depth)
+
+-- The counts stay within document 01's limits.
+pub record Limits (h : Head) : Type 0 where
+  pub commands : h .count ≤ 48
+  pub ors : h .ors ≤ 12
+  pub nexts : h .nexts ≤ 12
+  pub fixpoints : h .fixpoints ≤ 7
+
+-- Reading went from h to x.
+pub record Further (h x : Head) : Type 0 where
+  pub later : h .at ≤ x .at
+  pub more : h .fixpoints ≤ x .fixpoints
+  pub limits : Limits x
+
+-- Where reading stands behind the byte at h.
+abbrev pub behind : Head → Head
+behind h = record { at = h .at + 1; count = h .count; ors = h .ors; nexts = h .nexts; fixpoints = h .fixpoints }
+
+-- The questions 3 and 4 are answered with yes for the opcode op.
+pub record Room (op : ℕ) (h : Head) : Type 0 where
+  pub limits : Limits h
+  pub known : op ≤ 10
+  pub few : h .count < 48
+  pub allowed : (s : List ℕ) → within (opcode op) (point s h) ≡ true
+
+-- The opcode op counts as read: h became x.
+pub record Counted (op : ℕ) (h x : Head) : Type 0 where
+  pub stands : (s : List ℕ) → point s x ≡ counted (opcode op) (point s h)
+  pub at : x .at ≡ h .at
+  pub count : x .count ≡ h .count + 1
+  pub deeper : 8 < op → h .fixpoints < x .fixpoints
+  pub further : Further h x
+
+-- Reading may go on at h within the scope.
+pub record Ready (h : Head) (scope : Scope) : Type 0 where
+  pub limits : Limits h
+  pub depth : scope .depth ≤ h .fixpoints
+  pub guarded : scope .guarded ≤ scope .depth
+
+-- The rows have the same of subformula e.
+pub record Alike (p q : List ℕ) (e : ℕ) : Type 0 where
+  pub operator : operator-at q e ≡ operator-at p e
+  pub end : end-at q e ≡ end-at p e
+
+-- The rows q are p, but for subformula e, which is written.
+pub record Placed (p : List ℕ) (e op argument end : ℕ) (q : List ℕ) : Type 0 where
+  pub operator : operator-at q e ≡ operator-of (opcode op) argument e
+  pub ends : end-at q e ≡ end
+  pub others : (k : ℕ) → k < 48 → (k ≡ e → ⊥) → Alike p q k
+
+-- The rows list n subformulas from e on, by their operators and ends.
+pub record Listed (e n : ℕ) (xs : Operators) (ys : List ℕ) (rows : List ℕ) : Type 0 where
+  pub operators : operators-of rows e n ≡ xs
+  pub ends : ends-of rows e n ≡ ys
+
+-- The rows q have the subformulas of f from e on, and those below e as in p.
+pub record Written (e : ℕ) (binders : List ℕ) (f : Formula) (p q : List ℕ) : Type 0 where
+  pub listed : Listed e (size f) (table-from e binders f) (ends-from e f) q
+  pub kept : (k : ℕ) → k < e → Alike p q k
+
+-- The formula f is read and written as subformula e on; reading went from h to x.
+pub record Got (s : List ℕ) (e : ℕ) (h : Head) (binders rows : List ℕ) (f : Formula) (x : Point) (r : Parsed) : Type 0 where
+  pub outcome : r .outcome ≡ Accepted
+  pub stands : point s (r .head) ≡ x
+  pub count : r .head .count ≡ e + size f
+  pub further : Further h (r .head)
+  pub written : Written e binders f rows (r .rows)
+
+-- The answer r is the definition's: its refusal, or its formula in the rows.
+pub data Agrees (s : List ℕ) (e : ℕ) (h : Head) (binders rows : List ℕ) (r : Parsed) : Read Formula → Type 0 where
+  refused : {n p : ℕ} → r .outcome ≡ Refused (record { code = n; at = p }) → Agrees s e h binders rows r (Read.refused n p)
+  got : {f : Formula} {x : Point} → Got s e h binders rows f x r → Agrees s e h binders rows r (Read.got f x)
+
+-- A command that begins at h is read with all its operands. The number k is any that reaches the end of the bytes.
+abbrev pub Command : List ℕ → Head → List ℕ → Scope → Parsed → Type 0
+Command s h rows scope r =
+    (k : ℕ) → length s ≤ h .at + k → Agrees s (h .count) h (binders scope) rows r (formula k (enclosing scope) (point s h))
+
+-- The opcode op stands at h, the questions 1 to 4 are answered, and reading stands at x behind it: what is left of reading the
+-- formula are its operands.
+pub record Opened (s : List ℕ) (h : Head) (op : ℕ) (x : Head) : Type 0 where
+  pub inside : h .at < length s
+  pub some : 0 < op
+  pub known : op ≤ 10
+  pub at : x .at ≡ h .at + 1
+  pub count : x .count ≡ h .count + 1
+  pub deeper : 8 < op → h .fixpoints < x .fixpoints
+  pub further : Further h x
+  pub left : (k : ℕ) (scope : Enclosing) → formula (suc k) scope (point s h) ≡ operands (formula k) scope (opcode op) (point s x)
+
+-- The formula that begins at h is refused, within whatever scope.
+abbrev pub Refuses : List ℕ → Head → Refusal → Type 0
+Refuses s h why =
+    (k : ℕ) (scope : Enclosing) → length s ≤ h .at + k → formula k scope (point s h) ≡ Read.refused (why .code) (why .at)
+
+-- One of the two, by what was found at h.
+abbrev pub Opening : List ℕ → Head → Taken → Type 0
+Opening s h (taken.Byte op x) = Opened s h op x
+Opening s h (taken.Refused why) = Refuses s h why
+
+-- The formula f is a leaf or a variable, and x is its operator as subformula e.
+pub record Single (e : ℕ) (binders : List ℕ) (f : Formula) (x : Operator) : Type 0 where
+  pub one : size f ≡ 1
+  pub operators : table-from e binders f ≡ x ∷ []
+  pub ends : ends-from e f ≡ (e + 1) ∷ []
+
+-- The definition's answer is a leaf or a variable whose row has the argument; reading went from h to x.
+pub record Argued (e : ℕ) (binders : List ℕ) (op : ℕ) (answer : Read Formula) (s : List ℕ) (h : Head) (argument : ℕ) (x : Head) : Type 0 where
+  pub got : Formula
+  pub is : answer ≡ Read.got got (point s x)
+  pub single : Single e binders got (operator-of (opcode op) argument e)
+  pub count : x .count ≡ h .count
+  pub further : Further h x
+
+-- That, or the definition's answer is the refusal.
+abbrev pub Argument : ℕ → List ℕ → ℕ → Read Formula → List ℕ → Head → Taken → Type 0
+Argument e bs op answer s h (taken.Byte argument x) = Argued e bs op answer s h argument x
+Argument e bs op answer s h (taken.Refused why) = answer ≡ Read.refused (why .code) (why .at)
+
+-- The command op at h has no operand formulas, so what the definition answers depends on no reader of these. Of its argument:
+abbrev pub Argues : List ℕ → Head → ℕ → Scope → Taken → Type 0
+Argues s h op scope t =
+    (e : ℕ) (self : Enclosing → Reader Formula) →
+    Argument e (binders scope) op (operands self (enclosing scope) (opcode op) (point s h)) s h t
+
+-- and of all of it, as subformula e:
+abbrev pub Leaves : List ℕ → Head → List ℕ → ℕ → ℕ → Scope → Parsed → Type 0
+Leaves s h rows e op scope r =
+    (self : Enclosing → Reader Formula) →
+    Agrees s e h (binders scope) rows r (operands self (enclosing scope) (opcode op) (point s h))
+
+-- Subformula e, read up to h, is written.
+pub record Finished (h : Head) (rows : List ℕ) (e op argument : ℕ) (r : Parsed) : Type 0 where
+  pub outcome : r .outcome ≡ Accepted
+  pub head : r .head ≡ h
+  pub placed : Placed rows e op argument (h .count) (r .rows)
+
+-- The same if its last operand p was read; else the refusal.
+pub record Completed (p : Parsed) (e op argument : ℕ) (r : Parsed) : Type 0 where
+  pub refused : (why : Refusal) → p .outcome ≡ Refused why → r .outcome ≡ Refused why
+  pub accepted : p .outcome ≡ Accepted → Finished (p .head) (p .rows) e op argument r
+
+-- The scope x has these enclosing fixpoints.
+pub record Around (scope : Enclosing) (numbers : List ℕ) (x : Scope) : Type 0 where
+  pub fixpoints : enclosing x ≡ scope
+  pub named : binders x ≡ numbers
+
+-- The scope x is that of the operands of subformula e.
+pub record Inside (scope : Scope) (e op : ℕ) (x : Scope) : Type 0 where
+  pub pair : op < 8 → Around (enclosing scope) (binders scope) x
+  pub next : op ≡ 8 → Around (map (λ _. true) (enclosing scope)) (binders scope) x
+  pub fix : 8 < op → Around (false ∷ enclosing scope) (e ∷ binders scope) x
+  pub guarded : x .guarded ≤ x .depth
+  pub depth : (n : ℕ) → scope .depth ≤ n → (8 < op → scope .depth < n) → x .depth ≤ n
