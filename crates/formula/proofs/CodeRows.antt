@@ -9,6 +9,7 @@ use native.Mathlib.Numerals.{add-one, one-add}
 use lib.ListN.{length, getD, set, length-set}
 use lib.Seq.{getD-set-same, getD-set-other}
 use Rattle.base.specs.Lists.{numbers}
+use Rattle.base.proofs.NumberLaws.{values-add, values-same, values-cons}
 use Rattle.formula.specs.Table.{Operator, Table as Operators}
 use Rattle.formula.specs.Reading.{opcode}
 use Rattle.formula.specs.Rows.{operator-of, operator-at, end-at}
@@ -48,46 +49,28 @@ module _ (p : List ℕ) (e op a end : ℕ) (long : length p ≡ 144) (small : e 
     };
   }
 
--- a row of cells from e on, whatever is read from a cell
-module _ {A : Type 0} where
-  rest : (f : ℕ → A) (e n : ℕ) (x : A) (xs : List A) → f e ≡ x → map f (numbers (e + 1) n) ≡ xs → map f (numbers e (1 + n)) ≡ x ∷ xs
-  rest f e n x xs h k = rw one-add (rw (h, ← add-one, k))
-
-  both : (f : ℕ → A) (e n m : ℕ) → map f (numbers e (n + m)) ≡ map f (numbers e n) ++ map f (numbers (e + n) m)
-  both f e zero m =
-      ap (λ (i : ℕ). map f (numbers e i)) {x = 0 + m} {y = m} (omega arith)
-      ∙ ap (λ (i : ℕ). map f (numbers i m)) {x = e} {y = e + 0} (omega arith)
-  both f e (suc n) m =
-      ap (λ (i : ℕ). map f (numbers e i)) {x = suc n + m} {y = suc (n + m)} (omega arith)
-      ∙ ap (λ (l : List A). f e ∷ l) (both f (suc e) n m
-      ∙ ap (λ (i : ℕ). map f (numbers (suc e) n) ++ map f (numbers i m)) {x = suc e + n} {y = e + suc n} (omega arith))
-
-  same : (f g : ℕ → A) (e n : ℕ) → ((k : ℕ) → e ≤ k → k < e + n → g k ≡ f k) → map g (numbers e n) ≡ map f (numbers e n)
-  same f g e zero h = refl
-  same f g e (suc n) h = rw (h e (omega arith) (omega arith), same f g (suc e) n (λ k l m. h k (omega arith) (omega arith)))
-
 pub listed-none : (e : ℕ) (rows : List ℕ) → Listed e 0 [] [] rows
 listed-none e rows = record { operators = refl; ends = refl }
 
 pub listed-both : {e n m : ℕ} {xs us : Operators} {ys vs rows : List ℕ} →
     Listed e n xs ys rows → Listed (e + n) m us vs rows → Listed e (n + m) (xs ++ us) (ys ++ vs) rows
 listed-both {e} {n} {m} {rows = rows} a b = record {
-  operators = both (operator-at rows) e n m ∙ rw (a .operators, b .operators);
-  ends = both (end-at rows) e n m ∙ rw (a .ends, b .ends);
+  operators = values-add (operator-at rows) e n m ∙ rw (a .operators, b .operators);
+  ends = values-add (end-at rows) e n m ∙ rw (a .ends, b .ends);
 }
 
 pub listed-same : {e n : ℕ} {xs : Operators} {ys p q : List ℕ} →
     ((k : ℕ) → e ≤ k → k < e + n → Alike p q k) → Listed e n xs ys p → Listed e n xs ys q
 listed-same {e} {n} {p = p} {q = q} h a = record {
-  operators = same (operator-at p) (operator-at q) e n (λ k l m. h k l m .operator) ∙ a .operators;
-  ends = same (end-at p) (end-at q) e n (λ k l m. h k l m .end) ∙ a .ends;
+  operators = values-same (operator-at q) (operator-at p) e n (λ k l m. h k l m .operator) ∙ a .operators;
+  ends = values-same (end-at q) (end-at p) e n (λ k l m. h k l m .end) ∙ a .ends;
 }
 
 pub listed-first : {e n : ℕ} {x : Operator} {xs : Operators} {y : ℕ} {ys rows : List ℕ} →
     operator-at rows e ≡ x → end-at rows e ≡ y → Listed (e + 1) n xs ys rows → Listed e (1 + n) (x ∷ xs) (y ∷ ys) rows
 listed-first {e} {n} {x} {xs} {y} {ys} {rows} h k a = record {
-  operators = rest (operator-at rows) e n x xs h (a .operators);
-  ends = rest (end-at rows) e n y ys k (a .ends);
+  operators = values-cons (operator-at rows) e n x xs h (a .operators);
+  ends = values-cons (end-at rows) e n y ys k (a .ends);
 }
 
 pub alike-trans : {p q r : List ℕ} {e : ℕ} → Alike p q e → Alike q r e → Alike p r e
