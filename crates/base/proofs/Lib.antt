@@ -9,3 +9,6 @@ pub mod SearchLaws
 pub mod SearchOrder
 pub mod NumberLaws
 pub mod FirstLaws
+pub mod TestLaws
+pub mod At
+pub mod Pairs

@@ -1,0 +1,13 @@
+pub mod TriplesLaws
+pub mod LapsLaws
+pub mod SpreadLaws
+pub mod MatchLaws
+pub mod ThinLaws
+pub mod RankLaws
+pub mod CarryLaws
+pub mod MarkLaws
+pub mod TableLaws
+pub mod FormedLaws
+pub mod NodeNumbers
+pub mod RunLaws
+pub mod AgreeLaws

@@ -130,7 +130,7 @@ module _ (t : Table) where
       (λ b. length-map (parts (all-triples t)) (λ (c : List Triple). record { first = a; last = b; carried = c }) ∙ parts-length (all-triples t)))
       ∙ simp (length-map, mul-assoc)
 
-  few : length (profiles t (nodes t)) < room
+  pub few : length (profiles t (nodes t)) < room
   unfolding profiles
   few =
       omega (

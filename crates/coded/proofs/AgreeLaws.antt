@@ -1,0 +1,109 @@
+-- What the decision needs of the profiles that the code keeps, in one statement (`Agrees`): they are as many as document 01's, and the one
+-- at a number has the numbers of its first and last node, is accepting exactly if it is, and following the parents from it gives the
+-- letters of its run; parents have smaller numbers, so that ends. It holds for the table of every accepted formula (`agrees`), and the
+-- first accepting one of the kept profiles is the first of all (`first-accepting`). Assumes nothing.
+use mathlib.Core.Path.{_≡_, ap, subst, subst⁻¹, _∙_}
+use mathlib.Core.Logic.{_⊎_}
+use mathlib.Core.Bool.{Bool, false, not, _&&_}
+use mathlib.Core.Option.{none, some}
+use mathlib.Core.List.{List, [], _∷_, _++_, map, List·Memᴰ}
+use Prim.Native.Nat.{ℕ, suc, _≤_, _<_}
+use native.Mathlib.Omega.{arith}
+use lib.Dec.{T}
+use lib.ListN.{length, getD}
+use Rattle.base.specs.Lists.{first}
+use Rattle.base.proofs.At.{At, at-lt, at-some, at-one, first-at, first-nowhere}
+use Rattle.formula.specs.Formula.{Formula}
+use Rattle.formula.specs.Table.{Table, table}
+use Rattle.formula.specs.Reading.{Reading, parse}
+use Rattle.tableau.specs.Saturation.{Subset, same-subset}
+use Rattle.tableau.specs.Transition.{Transition, transitions}
+use Rattle.tableau.specs.Nodes.{root, operands, nodes}
+use Rattle.profile.specs.Profiles as literal
+use Rattle.profile.proofs.RootLaws.{root-apart}
+use Rattle.coded.specs.Triples.{rejecting}
+use Rattle.coded.specs.Marks.{leasts}
+use Rattle.coded.specs.Runs.{Found, profiles, accepting}
+use Rattle.coded.proofs.CarryLaws.{carries-rejecting}
+use Rattle.coded.proofs.TableLaws.{Formed}
+use Rattle.coded.proofs.FormedLaws.{parse-formed}
+use Rattle.coded.proofs.MatchLaws.{labels-to, Matches, matches-at, matches-length, labels-letters}
+use Rattle.coded.proofs.NodeNumbers.{sets, same-numbers}
+use Rattle.coded.proofs.RunLaws.{Listed, letter, Codes, profiles-match}
+
+-- the letters of a profile's run
+abbrev pub letters-of : Listed → List ℕ
+letters-of y = map (λ (s : Transition). s .letter) (y .way)
+
+-- x, number i of the profiles xs that are kept, and its counterpart among the profiles ys
+pub record Agreed (t : Table) (xs : List Found) (ys : List Listed) (i : ℕ) (x : Found) : Type 0 where
+  pub item : Listed
+  pub stands : At ys i item
+  pub first : At (sets (nodes t)) (x .at .first) (item .at .first)
+  pub last : At (sets (nodes t)) (x .at .last) (item .at .last)
+  pub accepts : accepting t x ≡ literal.accepting t item
+  pub before : x .parent ≤ i
+  pub way : ((x .parent ≡ 0) × (letters-of item ≡ x .label ∷ []))
+      ⊎ ((p : Listed) × (j : ℕ) × (x .parent ≡ suc j) × At ys j p × (letters-of item ≡ letters-of p ++ (x .label ∷ [])))
+  pub letters : labels-to xs (suc i) ≡ letters-of item
+
+pub record Agrees (t : Table) (xs : List Found) (ys : List Listed) : Type 0 where
+  pub count : length xs ≡ length ys
+  pub each : (i : ℕ) (x : Found) → At xs i x → Agreed t xs ys i x
+
+-- the first accepting one among the kept is the first accepting one of all, and where none is, none is
+module _ {t : Table} {xs : List Found} {ys : List Listed} (a : Agrees t xs ys) where
+  -- what a listed profile is, its counterpart is
+  kept-accepting : {j : ℕ} {y : Listed} → At ys j y → T (literal.accepting t y) → (x : Found) × At xs j x × T (accepting t x)
+  kept-accepting {j} b h =
+      let (x, c) = at-some xs j (omega (arith, at-lt b, a .count)) in
+      let r = a .each j x c in
+      (x, c, subst⁻¹ T (r .accepts) (subst (λ (y : Listed). T (literal.accepting t y)) (at-one b (r .stands)) h))
+
+  pub first-accepting : {i : ℕ} {x : Found} (b : At xs i x) → T (accepting t x)
+      → ((j : ℕ) (y : Found) → At xs j y → j < i → T (accepting t y) → ⊥) → first (literal.accepting t) ys ≡ some (a .each i x b .item)
+  first-accepting {i} {x} b h f =
+      let r = a .each i x b in
+      first-at (literal.accepting t) (r .stands) (subst T (r .accepts) h)
+      (λ j y c l k. let (z, d, g) = kept-accepting c k in f j z d l g)
+
+  pub none-accepting : ((j : ℕ) (y : Found) → At xs j y → T (accepting t y) → ⊥) → first (literal.accepting t) ys ≡ none
+  none-accepting f = first-nowhere (literal.accepting t) ys (λ j y c k. let (z, d, g) = kept-accepting c k in f j z d g)
+
+module _ (t : Table) (formed : Formed t) (apart : (v : Subset) (s : Transition) → List·Memᴰ s (transitions t v) → s .to ≡ root t → ⊥) where
+  accepting-same : (x : Found) (y : Listed) → Codes t (x .at) (y .at) → accepting t x ≡ literal.accepting t y
+  unfolding accepting literal.rejecting
+  accepting-same x y c =
+      let back = same-numbers t (c .first) (c .last) in
+      let good = carries-rejecting t (formed .few) (x .at .carried) (y .at .carried) (c .carried) in
+      ap (λ (b : Bool). b && not (rejecting (λ i. getD (leasts t) i false) (length (operands t)) (x .at .carried))) back
+      ∙ ap (λ (b : Bool). same-subset (y .at .first) (y .at .last) && not b) good
+
+  matched : {xs : List Found} {ys : List Listed} → Matches letter (Codes t) xs ys → Agrees t xs ys
+  matched {xs} {ys} m =
+      record {
+        count = matches-length letter (Codes t) m;
+        each = λ i x a.
+            let (y, b) = at-some ys i (omega (arith, at-lt a, matches-length letter (Codes t) m)) in
+            let (z, d, f, l) = matches-at letter (Codes t) m b in
+            subst (Agreed t xs ys i) (at-one d a)
+            (record {
+              item = y;
+              stands = b;
+              first = f .codes .first;
+              last = f .codes .last;
+              accepts = accepting-same z y (f .codes);
+              before = l;
+              way = f .way;
+              letters = labels-letters letter (Codes t) m b;
+            });
+      }
+
+  pub formed-agrees : (fuel : ℕ) → length (literal.profiles t (nodes t)) ≤ fuel
+      → Agrees t (profiles fuel t (sets (nodes t))) (literal.profiles t (nodes t))
+  formed-agrees fuel h = matched (profiles-match t formed apart fuel h)
+
+-- Theorem: the profiles of an accepted formula agree, whatever the fuel is, if it is at least their number.
+pub agrees : (bytes : List ℕ) (f : Formula) → parse bytes ≡ Reading.accepted f → (fuel : ℕ) → length (literal.profiles (table f) (nodes (table f))) ≤ fuel
+    → Agrees (table f) (profiles fuel (table f) (sets (nodes (table f)))) (literal.profiles (table f) (nodes (table f)))
+agrees bytes f p = formed-agrees (table f) (parse-formed bytes f p) (root-apart f)
