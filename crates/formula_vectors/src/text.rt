@@ -1,0 +1,148 @@
+// The text of what reading a formula comes to.
+use formula::Outcome;
+use formula::Reading;
+use formula::Refusal;
+ghost use mathlib.Core.Path.{_≡_};
+ghost use mathlib.Core.Bool.{cond};
+ghost use Prim.Native.Nat.{_+_, _≤_, _<_, min};
+ghost use Rattle.vectors.specs.Text.{buffer, Wrote};
+ghost use Rattle.formula_vectors.specs.Outcome.{is-around, operands-text, command-text, entry-text, entries-text};
+ghost use Rattle.formula_vectors.specs.Outcome.{marked as Outcome·marked, depth as Outcome·depth};
+ghost use Rattle.formula_vectors.specs.Outcome.{reading-text, outcome-text, refused-text};
+
+pub(crate) fn reading_text(out: &mut [u8], reading: Reading) -> usize
+    ensures { λ r. ⌜ Wrote (buffer (now (out .entry)) 0) (reading-text reading) (buffer (now (out .exit)) r) ⌝ }
+{
+    let end = outcome_text(out, reading);
+    vectors::put(out, end, 10)
+}
+
+fn outcome_text(out: &mut [u8], reading: Reading) -> usize
+    ensures { λ r. ⌜ Wrote (buffer (now (out .entry)) 0) (outcome-text (reading .outcome) (reading .table)) (buffer (now (out .exit)) r) ⌝ }
+{
+    let outcome = reading.outcome;
+    let table = reading.table;
+    match outcome {
+        Outcome::Refused(why) => refused_text(out, why),
+        Outcome::Accepted => {
+            let rows = table.rows;
+            let at = vectors::put_all(out, 0, b"ACCEPTED");
+            entries_text(out, at, &rows, least(table.count, 48))
+        }
+    }
+}
+
+fn least(a: usize, b: usize) -> usize
+    ensures { λ r. ⌜ (r ≡ min a b) × (r ≤ b) ⌝ }
+{
+    if a < b { a } else { b }
+}
+
+fn refused_text(out: &mut [u8], why: Refusal) -> usize
+    ensures { λ r. ⌜ Wrote (buffer (now (out .entry)) 0) (refused-text why) (buffer (now (out .exit)) r) ⌝ }
+{
+    let a = vectors::put_all(out, 0, b"REFUSED ");
+    let b = vectors::decimal(out, a, why.code as u64);
+    let c = vectors::put_all(out, b, b" at ");
+    vectors::decimal(out, c, why.at as u64)
+}
+
+fn entries_text(out: &mut [u8], start: usize, rows: &[u8; 144], count: usize) -> usize
+    requires { ⌜ count ≤ 48 ⌝ }
+    ensures { λ r. ⌜ Wrote (buffer (now (out .entry)) start) (entries-text (now (rows .entry)) 0 count) (buffer (now (out .exit)) r) ⌝ }
+{
+    let mut at = start;
+    let mut e = 0;
+    while e < count {
+        at = entry_text(out, at, rows, e);
+        e += 1;
+    }
+    at
+}
+
+fn entry_text(out: &mut [u8], at: usize, rows: &[u8; 144], e: usize) -> usize
+    requires { ⌜ e < 48 ⌝ }
+    ensures { λ r. ⌜ Wrote (buffer (now (out .entry)) at) (entry-text (now (rows .entry)) e) (buffer (now (out .exit)) r) ⌝ }
+{
+    command_text(out, at, rows, e, rows[e], rows[48 + e])
+}
+
+fn command_text(
+    out: &mut [u8],
+    at: usize,
+    rows: &[u8; 144],
+    e: usize,
+    op: u8,
+    argument: u8,
+) -> usize
+    requires { ⌜ e < 48 ⌝ }
+    ensures { λ r. ⌜ Wrote (buffer (now (out .entry)) at) (command-text (now (rows .entry)) e op argument) (buffer (now (out .exit)) r) ⌝ }
+{
+    let a = vectors::put(out, at, b' ');
+    let b = vectors::hex(out, a, op as u64, 2);
+    operands_text(out, b, rows, e, op, argument)
+}
+
+fn operands_text(
+    out: &mut [u8],
+    at: usize,
+    rows: &[u8; 144],
+    e: usize,
+    op: u8,
+    argument: u8,
+) -> usize
+    requires { ⌜ e < 48 ⌝ }
+    ensures { λ r. ⌜ Wrote (buffer (now (out .entry)) at) (operands-text (now (rows .entry)) e op argument) (buffer (now (out .exit)) r) ⌝ }
+{
+    if op <= 2 {
+        return at;
+    }
+    if op <= 4 {
+        return marked(out, at, b':', argument as u64);
+    }
+    if op <= 5 {
+        let a = marked(out, at, b':', depth(rows, e, argument));
+        return marked(out, a, b'>', argument as u64);
+    }
+    let a = marked(out, at, b'/', (e + 1) as u64);
+    if op <= 7 {
+        return marked(out, a, b'/', argument as u64);
+    }
+    a
+}
+
+fn marked(out: &mut [u8], at: usize, mark: u8, n: u64) -> usize
+    ensures { λ r. ⌜ Wrote (buffer (now (out .entry)) at) (Outcome·marked mark n) (buffer (now (out .exit)) r) ⌝ }
+{
+    let a = vectors::put(out, at, mark);
+    vectors::decimal(out, a, n)
+}
+
+fn depth(rows: &[u8; 144], e: usize, binder: u8) -> u64
+    requires { ⌜ e < 48 ⌝ }
+    ensures { λ r. ⌜ r ≡ Outcome·depth (now (rows .entry)) e binder ⌝ }
+{
+    let mut n = 0;
+    let mut f = binder as usize + 1;
+    while f < e {
+        n += one_if(is_around(rows, e, f));
+        f += 1;
+    }
+    n
+}
+
+fn one_if(on: bool) -> u64
+    ensures { λ r. ⌜ (r ≡ cond on 1 0) × (r ≤ 1) ⌝ }
+{
+    if on { 1 } else { 0 }
+}
+
+fn is_around(rows: &[u8; 144], e: usize, f: usize) -> bool
+    requires { ⌜ f < 48 ⌝ }
+    ensures { λ r. ⌜ r ≡ is-around (now (rows .entry)) e f ⌝ }
+{
+    if 9 <= rows[f] {
+        return e < base::wide(rows[96 + f]);
+    }
+    false
+}

@@ -1,0 +1,5 @@
+pub mod Count
+pub mod Text
+pub mod Line
+pub mod Number
+pub mod Letter
