@@ -38,7 +38,7 @@ says c ss i (Operator.pair o left right) = joined o (true-at ss left i) (true-at
 says c ss i (Operator.next operand) = true-at ss operand (successor c i)
 says c ss i (Operator.fix g body) = true-at ss body i
 
-getD-combine : (o : Bool) (s t : Positions) → length s ≡ length t → (i : ℕ)
+pub getD-combine : (o : Bool) (s t : Positions) → length s ≡ length t → (i : ℕ)
     → getD (combine o s t) i false ≡ joined o (getD s i false) (getD t i false)
 getD-combine true [] [] l i = refl
 getD-combine false [] [] l i = refl
@@ -47,7 +47,7 @@ getD-combine o (a ∷ s) [] l i = absurd (omega arith)
 getD-combine o (a ∷ s) (b ∷ t) l zero = refl
 getD-combine o (a ∷ s) (b ∷ t) l (suc i) = getD-combine o s t (omega arith) i
 
-getD-before : (stem : ℕ) (s : Positions) (i : ℕ) → i < length s
+pub getD-before : (stem : ℕ) (s : Positions) (i : ℕ) → i < length s
     → getD (before stem s) i false ≡ getD s (cond (eqb (i + 1) (length s)) stem (i + 1)) false
 getD-before stem [] i h = absurd (omega arith)
 getD-before stem (a ∷ s) i h = by (eqb (i + 1) (length (a ∷ s))) refl

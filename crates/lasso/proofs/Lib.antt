@@ -2,3 +2,12 @@ pub mod Examples
 pub mod Monotone
 pub mod Fixpoint
 pub mod Consistent
+pub mod CodeOperators
+pub mod CodeSweep
+pub mod CodeWritten
+pub mod CodeColumns
+pub mod CodeClosed
+pub mod CodeLabel
+pub mod CodeRounds
+pub mod CodeWords
+pub mod CodeAsked

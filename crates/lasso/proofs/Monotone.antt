@@ -77,12 +77,12 @@ sized-at n [] z d h = absurd (omega arith)
 sized-at n (s ∷ ρ) z zero h = z .0
 sized-at n (s ∷ ρ) z (suc d) h = sized-at n ρ (z .1) d (omega arith)
 
-length-combine : (o : Bool) (s t : Positions) → length s ≡ length t → length (combine o s t) ≡ length s
+pub length-combine : (o : Bool) (s t : Positions) → length s ≡ length t → length (combine o s t) ≡ length s
 length-combine o [] t l = refl
 length-combine o (a ∷ s) [] l = absurd (omega arith)
 length-combine o (a ∷ s) (b ∷ t) l = ap suc (length-combine o s t (omega arith))
 
-length-before : (stem : ℕ) (s : Positions) → 0 < length s → length (before stem s) ≡ length s
+pub length-before : (stem : ℕ) (s : Positions) → 0 < length s → length (before stem s) ≡ length s
 length-before stem [] h = absurd (omega arith)
 length-before stem (a ∷ s) h = omega (arith, length-append s (getD (a ∷ s) stem false ∷ []))
 

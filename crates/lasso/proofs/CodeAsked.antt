@@ -1,0 +1,120 @@
+-- The questions after reading, one after another, and the outcome of reading: the code's answers are those of the definition.
+-- Assumes nothing.
+use mathlib.Core.Path.{_≡_, refl, sym, ap, _∙_}
+use mathlib.Core.Bool.{Bool}
+use mathlib.Core.List.{List, [], _++_, map}
+use Prim.Native.Nat.{ℕ, _+_, _≤_, _<_}
+use native.Mathlib.Omega.{arith}
+use lib.ListN.{length, drop, getD}
+use borrow.Author.Tests.{lt-ltb, le-ltb, le-leb, lt-leb}
+use Rattle.base.specs.Lists.{numbers}
+use Rattle.base.proofs.NumberLaws.{values-at}
+use Rattle.formula.specs.Formula.{Formula, size}
+use Rattle.formula.specs.Table.{Operator}
+use Rattle.formula.specs.Reading.{Reading, parse, reading, with-entries}
+use Rattle.formula.specs.Rows.{operator-at, end-at, reading-by, reading-of}
+use Rattle.formula.specs.declared.Table.{Table}
+use Rattle.formula.specs.declared.Refusal.{Refusal}
+use Rattle.formula.specs.declared.Outcome.{Outcome}
+use Rattle.formula.specs.declared.Outcome.the-variants.{Accepted, Refused as Unaccepted}
+use Rattle.formula.specs.declared.Reading as read
+use Rattle.formula.proofs.Limits.{parse-limited}
+use Rattle.formula.proofs.Guarded.{parse-guarded}
+use Rattle.formula.proofs.WellFormed.{nothing, stands-whole}
+use Rattle.formula.proofs.RowLaws.{Held as Read, held-count, reading-held}
+use Rattle.lasso.specs.Lasso.{Lasso, labelling, meets}
+use Rattle.lasso.specs.Truth.{Truth, asked, after-reading, truth, written}
+use Rattle.lasso.specs.Answer.{answer}
+use Rattle.lasso.specs.Promise.{Written, Held, Answered, Judged}
+use Rattle.lasso.specs.declared.Truth as code
+use Rattle.lasso.specs.declared.Truth.the-variants.{Told, Refused, Unread}
+use Rattle.lasso.proofs.Consistent.{length-labelling}
+
+module _ (rows : List ℕ) (c : Lasso) (w : List ℕ) where
+  abbrev n : ℕ
+  n = length (c .letters)
+
+  refused : (k : ℕ) → ((f : Formula) → asked c (length w) f ≡ Truth.refused k) → Judged rows c (Refused k) w w
+  refused k q = record { answer = λ f h. sym (ap answer (q f)); words = λ f h. sym (ap (λ (t : Truth). written t w) (q f)) }
+
+  pub no-cycle : n ≤ c .stem → Judged rows c (Refused 16) w w
+  unfolding labelling meets
+  no-cycle h = refused 16 (λ f. simp (le-ltb (c .stem) n h))
+
+  pub too-long : c .stem < n → 8192 < n → Judged rows c (Refused 17) w w
+  unfolding labelling meets
+  too-long h k = refused 17 (λ f. simp (lt-ltb (c .stem) n h, lt-leb n 8192 k))
+
+  pub no-room : c .stem < n → n ≤ 8192 → length w < n → Judged rows c (Refused 18) w w
+  unfolding labelling meets
+  no-room h k l = refused 18 (λ f. simp (lt-ltb (c .stem) n h, le-leb n 8192 k, lt-leb n (length w) l))
+
+  all-well : (f : Formula) → c .stem < n → n ≤ 8192 → n ≤ length w → asked c (length w) f ≡ Truth.told (meets c f) (labelling c f)
+  unfolding labelling meets
+  all-well f h k l = simp (lt-ltb (c .stem) n h, le-leb n 8192 k, le-leb n (length w) l)
+
+  pub judged : (b : Bool) (v : List ℕ) → c .stem < n → n ≤ 8192 → n ≤ length w → Answered rows c b w v → Judged rows c (Told b) w v
+  judged b v h k l a = record {
+    answer = λ f t. ap Told (a .truth f t) ∙ sym (ap answer (all-well f h k l));
+    words = λ f t.
+        a .words f t ∙ ap (λ (m : ℕ). labelling c f ++ drop m w) (sym (length-labelling c f)) ∙ sym (ap (λ (t : Truth). written t w) (all-well f h k l));
+  }
+
+-- the rows that reading hands back have the formula at 0
+held-written : (bytes : List ℕ) (t : Table) (h : Read bytes t) → Written (t .rows) 0 [] [] (h .formula)
+held-written bytes t h =
+    let f = h .formula in
+    let limits = parse-limited bytes f (h .parsed) in
+    let s = stands-whole (operator-at (t .rows)) (end-at (t .rows)) f
+    (λ e l. row (operator-at (t .rows)) nothing e l ∙ ap (λ (x : List Operator). getD x e nothing) (h .operators))
+    (λ e l. row (end-at (t .rows)) 0 e l ∙ ap (λ (x : List ℕ). getD x e 0) (h .ends)) (parse-guarded bytes f (h .parsed)) (limits .signals) in
+    record {
+      operators = s .operators;
+      bounds = s .bounds;
+      fits = omega (arith, limits .commands);
+      guarded = s .guarded;
+      ranged = s .ranged;
+      scoped = refl;
+      enclosed = λ d l. absurd (omega arith);
+    }
+  where
+    row : {A : Type 0} (g : ℕ → A) (d : A) (e : ℕ) → e < size (h .formula) → g e ≡ getD (map g (numbers 0 (t .count))) e d
+    row g d e l = sym (values-at g 0 (t .count) e d (omega (arith, held-count h)) ∙ ap g {x = 0 + e} {y = e} (omega arith))
+
+pub read-held : (bytes : List ℕ) (r : read.Reading) → reading-of r ≡ reading bytes → r .outcome ≡ Accepted → Held (r .table .rows) 0
+read-held bytes r q o =
+    let h = reading-held bytes r q o in
+    record { scope = []; binders = []; subformula = h .formula; written = held-written bytes (r .table) h }
+
+module _ (bytes : List ℕ) (c : Lasso) (w : List ℕ) where
+  abbrev outcome : Truth
+  outcome = truth bytes c (length w)
+
+  -- what the operation promises of its answer and of the words
+  abbrev Promised : code.Truth → List ℕ → Type 0
+  Promised a v = (a ≡ answer outcome) × (v ≡ written outcome w)
+
+  outcome-accepted : (f : Formula) → parse bytes ≡ Reading.accepted f → outcome ≡ asked c (length w) f
+  unfolding truth parse labelling meets
+  outcome-accepted f q = ap (after-reading c (length w)) q
+
+  refused-as : (x : Reading Formula) (k p : ℕ) → with-entries x ≡ Reading.refused k p → after-reading c (length w) x ≡ Truth.unread k p
+  unfolding labelling meets
+  refused-as (Reading.refused m q) k p e = cc
+  refused-as (Reading.accepted f) k p e = absurd (let z : _≡_ {A = ℕ} 0 1 = cc in omega arith)
+
+  module _ (r : read.Reading) (q : reading-of r ≡ reading bytes) where
+    outcome-refused : (why : Refusal) → r .outcome ≡ Unaccepted why → outcome ≡ Truth.unread (why .code) (why .at)
+    unfolding truth reading parse labelling meets
+    outcome-refused why o = refused-as (parse bytes) (why .code) (why .at) (sym q ∙ ap (λ (x : Outcome). reading-by x (r .table)) o)
+
+    pub truth-unread : (why : Refusal) → r .outcome ≡ Unaccepted why → Promised (Unread why) w
+    truth-unread why o = (sym (ap answer (outcome-refused why o)), sym (ap (λ (t : Truth). written t w) (outcome-refused why o)))
+
+    pub truth-read : r .outcome ≡ Accepted → (a : code.Truth) (v : List ℕ) → Judged (r .table .rows) c a w v → Promised a v
+    truth-read o a v j =
+        let h = reading-held bytes r q o in
+        let f = h .formula in
+        let t = held-written bytes (r .table) h in
+        let same = outcome-accepted f (h .parsed) in
+        (j .answer f t ∙ sym (ap answer same), j .words f t ∙ sym (ap (λ (t : Truth). written t w) same))

@@ -1,0 +1,79 @@
+-- Laws of columns, and of what a sweep does to them: it makes one column anew and keeps all others. Assumes nothing.
+use mathlib.Core.Path.{_≡_, refl, sym, ap, _∙_}
+use mathlib.Core.Bool.{Bool, false, cond}
+use mathlib.Core.List.{List, [], _∷_, map}
+use Prim.Native.Nat.{ℕ, suc, _+_, _≤_, _<_}
+use native.Mathlib.Omega.{arith}
+use lib.ListN.{length, getD, take, drop, length-map, length-drop}
+use lib.Seq.{ext-getD, length-take-le, getD-take, getD-drop}
+use borrow.Author.Tests.{eq-eqb}
+use Rattle.base.specs.Bits.{bit}
+use Rattle.base.proofs.ListLaws.{getD-map}
+use Rattle.base.proofs.NumberLaws.{values-same}
+use Rattle.lasso.specs.Lasso.{Positions}
+use Rattle.lasso.specs.Promise.{Swept, column, columns, Kept}
+use Rattle.lasso.proofs.CodeSweep.{other-bit}
+
+module _ (n : ℕ) where
+  module _ (e : ℕ) (w : List ℕ) (h : n ≤ length w) where
+    pub column-length : length (column n w e) ≡ n
+    column-length = length-map (take n w) (λ x. bit x e) ∙ length-take-le n w h
+
+    pub column-at : (i : ℕ) → i < n → getD (column n w e) i false ≡ bit (getD w i 0) e
+    column-at i l =
+        getD-map (λ x. bit x e) (take n w) i 0 false (omega (arith, length-take-le n w h)) ∙ ap (λ (x : ℕ). bit x e) (getD-take n w i 0 l)
+
+    pub column-is : (s : Positions) → length s ≡ n → ((i : ℕ) → i < n → bit (getD w i 0) e ≡ getD s i false) → column n w e ≡ s
+    column-is s l f =
+        ext-getD false (column n w e) s (column-length ∙ sym l) (λ i q. let k : i < n = omega (arith, column-length) in column-at i k ∙ f i k)
+
+  pub kept-refl : (lo hi : ℕ) (w : List ℕ) → Kept n lo hi w w
+  kept-refl lo hi w = record { long = refl; below = λ k h. refl; above = λ k h. refl; rest = refl }
+
+  module _ {lo hi lo₁ hi₁ lo₂ hi₂ : ℕ} {w v x : List ℕ} where
+    pub kept-then : Kept n lo₁ hi₁ w v → Kept n lo₂ hi₂ v x → lo ≤ lo₁ → lo ≤ lo₂ → hi₁ ≤ hi → hi₂ ≤ hi → Kept n lo hi w x
+    kept-then p q a b c d = record {
+      long = q .long ∙ p .long;
+      below = λ k h. q .below k (omega arith) ∙ p .below k (omega arith);
+      above = λ k h. q .above k (omega arith) ∙ p .above k (omega arith);
+      rest = q .rest ∙ p .rest;
+    }
+
+  pub kept-wide : {lo hi lo₁ hi₁ : ℕ} {w v : List ℕ} → Kept n lo₁ hi₁ w v → lo ≤ lo₁ → hi₁ ≤ hi → Kept n lo hi w v
+  kept-wide p a b = record { long = p .long; below = λ k h. p .below k (omega arith); above = λ k h. p .above k (omega arith); rest = p .rest }
+
+  module _ {lo hi : ℕ} {w v : List ℕ} (kept : Kept n lo hi w v) where
+    -- the sets of enclosing fixpoints are kept
+    pub outer-kept : (bs : List ℕ) → ((d : ℕ) → d < length bs → getD bs d 0 < lo) → map (column n v) bs ≡ map (column n w) bs
+    outer-kept [] f = refl
+    outer-kept (b ∷ bs) f =
+        let q : column n v b ≡ column n w b = kept .below b (f 0 (omega arith)) in
+        let r : map (column n v) bs ≡ map (column n w) bs = outer-kept bs (λ d h. f (suc d) (omega arith)) in
+        cc
+
+    pub columns-below : (e k : ℕ) → e + k ≤ lo → columns n v e k ≡ columns n w e k
+    columns-below e k h = values-same (column n v) (column n w) e k (λ j l m. kept .below j (omega arith))
+
+    pub columns-above : (e k : ℕ) → hi ≤ e → columns n v e k ≡ columns n w e k
+    columns-above e k h = values-same (column n v) (column n w) e k (λ j l m. kept .above j (omega arith))
+
+  -- a sweep, by columns
+  module _ (e : ℕ) (f : ℕ → Bool) (w v : List ℕ) (s : Swept n e f w v) (h : n ≤ length w) where
+    pub swept-kept : Kept n e (e + 1) w v
+    swept-kept = record {
+      long = s .long;
+      below = λ k l. other k (λ q. omega arith);
+      above = λ k l. other k (λ q. omega arith);
+      rest = ext-getD 0 (drop n v) (drop n w) (length-drop n v ∙ omega (arith, s .long) ∙ sym (length-drop n w))
+          (λ i l. getD-drop n v i 0 ∙ s .rest (n + i) (omega arith) ∙ sym (getD-drop n w i 0));
+    }
+      where
+        other : (k : ℕ) → (k ≡ e → ⊥) → column n v k ≡ column n w k
+        other k q =
+            column-is k v (omega (arith, s .long)) (column n w k) (column-length k w h)
+            (λ i l. other-bit e f w n v s k q i ∙ sym (column-at k w h i l))
+
+    pub swept-is : (t : Positions) → length t ≡ n → ((i : ℕ) → i < n → f i ≡ getD t i false) → column n v e ≡ t
+    swept-is t l q =
+        column-is e v (omega (arith, s .long)) t l
+        (λ i m. s .bits i m e ∙ ap (λ (b : Bool). cond b (f i) (bit (getD w i 0) e)) (eq-eqb e e refl) ∙ q i m)

@@ -1,0 +1,85 @@
+-- From the columns of all subformulas to the words: a word has the bits of its position, and none past the subformulas since the words
+-- were cleared. Assumes nothing.
+use mathlib.Core.Path.{_≡_, sym, ap, _∙_}
+use mathlib.Core.Bool.{Bool, true, false, _&&_, false≢true}
+use mathlib.Core.List.{List, [], _++_}
+use Prim.Native.Nat.{ℕ, _+_, _≤_, _<_}
+use native.Mathlib.Omega.{arith}
+use native.Mathlib.Decide.{decLt}
+use lib.ListN.{length, getD, take, drop, replicate, length-append, take-append-drop, length-replicate, getD-replicate, List·getD-append}
+use lib.Seq.{ext-getD, length-take-le, getD-take, drop-at}
+use borrow.Author.Tests.{lt-ltb}
+use Rattle.base.specs.Bits.{bit}
+use Rattle.base.proofs.WordLaws.{no-bit, same-bits}
+use Rattle.base.proofs.NumberLaws.{values-at}
+use Rattle.formula.specs.Formula.{Formula, size}
+use Rattle.lasso.specs.Lasso.{Lasso, Positions, holds, labelling, meets}
+use Rattle.lasso.specs.Promise.{Written, Room, column, columns, Labelled, Evaluated, Answered}
+use Rattle.lasso.proofs.Consistent.{length-labelling, labelling-bit, labelling-past}
+use Rattle.lasso.proofs.CodeColumns.{column-at}
+use Rattle.lasso.proofs.CodeLabel.{first-shown}
+
+module _ (rows : List ℕ) (c : Lasso) (b : Bool) (w v₀ v : List ℕ) (room : Room (length (c .letters)) (c .stem) (length w))
+    (cleared : v₀ ≡ replicate (length (c .letters)) 0 ++ drop (length (c .letters)) w) (ev : Evaluated rows c false 0 v₀ v)
+    (is : b ≡ bit (getD v 0 0) 0) where
+  abbrev n : ℕ
+  n = length (c .letters)
+
+  long₀ : n ≤ length v₀
+  long₀ = omega (arith, ap length cleared, length-append (replicate n 0) (drop n w), length-replicate {A = ℕ} n 0)
+
+  module _ (f : Formula) (h : Written rows 0 [] [] f) where
+    labelled : Labelled c f 0 [] v₀ v
+    labelled = ev .done f [] [] h (λ q. absurd (false≢true q))
+
+    long : n ≤ length v
+    long = omega (arith, labelled .kept .long, long₀)
+
+    inside : (i : ℕ) → i < n → (k : ℕ) → k < size f → bit (getD v i 0) k ≡ bit (getD (labelling c f) i 0) k
+    inside i l k m =
+        sym (column-at n k v long i l)
+        ∙ ap (λ (s : Positions). getD s i false)
+        (ap (column n v) {x = k} {y = 0 + k} (omega arith)
+        ∙ sym (values-at (column n v) 0 (size f) k [] m)
+        ∙ ap (λ (ss : List Positions). getD ss k []) (labelled .shown))
+        ∙ sym (labelling-bit c f i l k)
+
+    past : (i : ℕ) → i < n → (k : ℕ) → size f ≤ k → bit (getD v i 0) k ≡ bit (getD (labelling c f) i 0) k
+    past i l k m =
+        sym (column-at n k v long i l)
+        ∙ ap (λ (s : Positions). getD s i false) (labelled .kept .above k (omega arith))
+        ∙ column-at n k v₀ long₀ i l
+        ∙ ap (λ (x : ℕ). bit x k)
+        (ap (λ (u : List ℕ). getD u i 0) cleared
+        ∙ List·getD-append (replicate n 0) (drop n w) 0 i (omega (arith, length-replicate {A = ℕ} n 0))
+        ∙ getD-replicate n i 0 0 l)
+        ∙ no-bit k
+        ∙ sym (labelling-past c f i l k m)
+
+    word-is : (i : ℕ) → i < n → getD v i 0 ≡ getD (labelling c f) i 0
+    word-is i l = same-bits (getD v i 0) (getD (labelling c f) i 0) (λ k. by k (decLt k (size f)))
+      where
+        by : (k : ℕ) → Dec (k < size f) → bit (getD v i 0) k ≡ bit (getD (labelling c f) i 0) k
+        by k (yes m) = inside i l k m
+        by k (no m) = past i l k (omega arith)
+
+    front : take n v ≡ labelling c f
+    front =
+        ext-getD 0 (take n v) (labelling c f) (length-take-le n v long ∙ sym (length-labelling c f))
+        (λ i l. let h : i < n = omega (arith, length-take-le n v long) in getD-take n v i 0 h ∙ word-is i h)
+
+    rest : drop n v ≡ drop n w
+    rest = labelled .kept .rest ∙ ap (drop n) cleared ∙ drop-at (replicate n 0) (drop n w) n (length-replicate n 0)
+
+    words : v ≡ labelling c f ++ drop n w
+    words = sym (take-append-drop n v) ∙ ap (λ (u : List ℕ). u ++ drop n v) front ∙ ap (λ (u : List ℕ). labelling c f ++ u) rest
+
+    truth : b ≡ meets c f
+    unfolding meets
+    truth =
+        is ∙ sym (column-at n 0 v long 0 (omega (arith, room .cycle)))
+        ∙ ap (λ (s : Positions). getD s 0 false) (first-shown c f 0 v [] (labelled .shown))
+        ∙ sym (ap (λ (t : Bool). t && getD (holds c f []) 0 false) (lt-ltb (c .stem) n (room .cycle)))
+
+  pub answered : Answered rows c b w v
+  answered = record { truth = truth; words = words }

@@ -1,0 +1,59 @@
+-- `lasso::clear` puts 0 into each of the first n words. The loop's invariant: so many zeros, and then the words as they were. Assumes nothing.
+use borrow.Author.Needs.{needs}
+use Prim.Native.Nat.{ℕ, _≤_, _-_}
+use mathlib.Core.Path.{_≡_, refl, ap, _∙_}
+use mathlib.Core.List.{List, _++_}
+use native.Mathlib.Omega.{arith}
+use lib.ListN.{length, set, drop, replicate, length-set}
+use borrow.Author.Fill.{fill-more}
+use Rattle.lasso.proofs.clear.Statement.{statement}
+use Rattle.lasso.proofs.clear.Tie as tie
+
+abbrev Inv-loop : tie.InvT-loop
+Inv-loop words₀ n i₀ words i = (i ≤ n) × ((length words ≡ length words₀) × (words ≡ replicate i 0 ++ drop i words₀))
+
+abbrev μ-loop : tie.MeasureT-loop
+μ-loop words₀ n i₀ words i = n - i
+
+loop-holds : tie.Need-loop-holds Inv-loop μ-loop
+loop-holds c = (omega arith, (refl, refl))
+
+mul-words : tie.Need-mul-words Inv-loop μ-loop
+mul-words c = search needs
+
+slice-write-words : tie.Need-slice-write-words Inv-loop μ-loop
+slice-write-words c = search needs
+
+add-i : tie.Need-add-i Inv-loop μ-loop
+add-i c = search needs
+
+loop-less : tie.Need-loop-less Inv-loop μ-loop
+loop-less c = search needs
+
+loop-again : tie.Need-loop-again Inv-loop μ-loop
+loop-again c =
+    let inv = c .before .loop .inv in
+    (omega arith, (length-set (c .before .loop .words) (c .before .loop .i) 0 ∙ inv .1 .0, ap (λ (l : List ℕ). set l (c .before .loop .i) 0) (inv .1 .1) ∙ fill-more (c .before .loop .i) 0 (c .before .before .args .words .now) (omega (arith, c .before .before .pre))))
+
+same-length : tie.Need-same-length Inv-loop μ-loop
+same-length c = search needs
+
+returns : tie.Need-returns Inv-loop μ-loop
+returns c =
+    let inv = c .before .loop .inv in
+    inv .1 .1 ∙ ap (λ (k : ℕ). replicate k 0 ++ drop k (c .before .before .args .words .now)) {x = c .before .loop .i} {y = c .before .before .args .n} (omega (arith, c .loop-test .left))
+
+pub clear-spec : {M : Type 1} → statement M
+clear-spec =
+    tie.close
+    (tie.spec
+    Inv-loop
+    μ-loop
+    loop-holds
+    mul-words
+    slice-write-words
+    add-i
+    loop-less
+    loop-again
+    same-length
+    returns)

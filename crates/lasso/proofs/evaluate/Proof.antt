@@ -1,0 +1,38 @@
+-- `lasso::evaluate`: a refusal of reading is passed on; the rows of an accepted formula are judged. Assumes nothing.
+use Rattle.lasso.proofs.CodeAsked.{read-held, truth-unread, truth-read}
+use borrow.Author.Needs.{needs}
+use Rattle.lasso.proofs.evaluate.Statement.{statement}
+use Rattle.lasso.proofs.evaluate.Tie as tie
+
+read-requires : tie.Need-read-requires
+read-requires c κs = search needs
+
+enum-known-outcome : tie.Need-enum-known-outcome
+enum-known-outcome c = search needs
+
+enum-told : tie.Need-enum-told
+enum-told c = search needs
+
+judge-requires : tie.Need-judge-requires
+judge-requires c κs = read-held _ _ (c .before .before .before .before .read .ensures .0) (c .before .enum-told .given .1)
+
+returns : tie.Need-returns
+returns c = truth-unread _ _ _ (c .before .before .before .before .read .result) (c .before .before .before .before .read .ensures .0) _ (c .before .outcome .given .1)
+
+same-length : tie.Need-same-length
+same-length c = search needs
+
+returns-2 : tie.Need-returns-2
+returns-2 c = truth-read _ _ _ (c .before .before .before .before .before .before .before .read .result) (c .before .before .before .before .before .before .before .read .ensures .0) (c .before .before .before .before .enum-told .given .1) _ _ (c .before .before .judge .ensures)
+
+pub evaluate-spec : {M : Type 1} → statement M
+evaluate-spec =
+    tie.close
+    (tie.spec
+    read-requires
+    enum-known-outcome
+    enum-told
+    judge-requires
+    returns
+    same-length
+    returns-2)

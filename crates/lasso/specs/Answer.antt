@@ -1,0 +1,18 @@
+-- The truth operation's parameters and answer as the code has them. Assumes nothing.
+use mathlib.Core.List.{List}
+use Prim.Native.Nat.{ℕ}
+use Rattle.lasso.specs.Lasso.{Lasso}
+use Rattle.lasso.specs.Truth.{Truth}
+use Rattle.lasso.specs.declared.Truth as code
+use Rattle.lasso.specs.declared.Truth.the-variants.{Told, Refused, Unread}
+
+-- the lasso that a caller gives
+abbrev pub lasso : (letters : List ℕ) (stem : ℕ) → Lasso
+lasso letters stem = record { letters = letters; stem = stem }
+
+-- the answer for each outcome. "A refusal returns its number and byte place .. and every operation that reads a rule passes it on. Other
+-- refusals return the number alone"; "the result is the truth of entry 0 at place 0".
+abbrev pub answer : Truth → code.Truth
+answer (Truth.unread k place) = Unread (record { code = k; at = place })
+answer (Truth.refused k) = Refused k
+answer (Truth.told b words) = Told b
