@@ -12,3 +12,4 @@ pub mod FirstLaws
 pub mod TestLaws
 pub mod At
 pub mod Pairs
+pub mod AppendLaws

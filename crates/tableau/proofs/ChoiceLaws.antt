@@ -157,7 +157,7 @@ module _ (t : Table) (v : Subset) (len : length v ≡ length t) (f : ℕ → Boo
       a h
 
 -- a choice has picks only at or operators
-choice-of-length : (t : Table) (x : ℕ) → length (choice-of t x) ≡ length t
+pub choice-of-length : (t : Table) (x : ℕ) → length (choice-of t x) ≡ length t
 choice-of-length [] x = refl
 choice-of-length (o ∷ t) x =
     by-test (is-or o) (λ b. length (cond b (eqb (x % 2) 1 ∷ choice-of t (x / 2)) (false ∷ choice-of t x)) ≡ suc (length t))

@@ -2,3 +2,12 @@ pub mod SaturationLaws
 pub mod TransitionLaws
 pub mod ChoiceLaws
 pub mod NodeLaws
+pub mod WordSets
+pub mod RowLaws
+pub mod LoopLaws
+pub mod StepLaws
+pub mod SearchLoop
+pub mod AreaLaws
+pub mod NodeLoop
+pub mod FormedLaws
+pub mod NodeReads

@@ -123,7 +123,7 @@ added-has : (o : Operator) (w : Subset) (e : ℕ) (v : Subset) (m : ℕ) → T (
 added-has o w e v m h r l =
     subst⁻¹ (λ (b : Bool). T (has (cond b (add (moves o (has w e)) v) v) m)) (of-T (has v e) h) (add-has (moves o (has w e)) r v l)
 
-sweep-inside : (t : Table) (w : Subset) (e : ℕ) (v : Subset) → Inside v (sweep t w e v)
+pub sweep-inside : (t : Table) (w : Subset) (e : ℕ) (v : Subset) → Inside v (sweep t w e v)
 sweep-inside [] w e v = inside-refl v
 sweep-inside (o ∷ t) w e v = inside-trans (added-inside o w e v) (sweep-inside t w (suc e) (added o w e v))
 

@@ -125,7 +125,7 @@ next-is (Operator.next g) y m = ap Operator.next (sym (List·Memᴰ·eq-of-singl
 next-is (Operator.fix g l) y m = absurd (List·Memᴰ·not-nil m)
 
 -- a choice inside a set
-within-of : (w v : Subset) → T (within w v) → (e : ℕ) → T (has w e) → T (has v e)
+pub within-of : (w v : Subset) → T (within w v) → (e : ℕ) → T (has w e) → T (has v e)
 within-of [] v h e k = absurd k
 within-of (false ∷ w) [] h zero k = k
 within-of (false ∷ w) [] h (suc e) k = within-of w [] h e k
@@ -136,7 +136,7 @@ within-of (true ∷ w) (true ∷ v) h zero k = tt
 within-of (true ∷ w) (true ∷ v) h (suc e) k = within-of w v h e k
 within-of (true ∷ w) (false ∷ v) h e k = absurd h
 
-within-in : (w v : Subset) → ((e : ℕ) → T (has w e) → T (has v e)) → T (within w v)
+pub within-in : (w v : Subset) → ((e : ℕ) → T (has w e) → T (has v e)) → T (within w v)
 within-in [] v f = tt
 within-in (false ∷ w) [] f = within-in w [] (λ e k. f (suc e) k)
 within-in (true ∷ w) [] f = f 0 tt

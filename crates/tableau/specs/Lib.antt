@@ -2,3 +2,5 @@ pub mod Saturation
 pub mod Transition
 pub mod Nodes
 pub mod Run
+pub mod Promise
+pub mod Area

@@ -1,1 +1,365 @@
-// The tableau of a formula: saturation, transitions, nodes.
+// The tableau of a formula: sets of subformulas as words, bit e for subformula e; transitions by choice words; nodes.
+ghost use mathlib.Core.Path.{_≡_};
+ghost use mathlib.Core.List.{_++_};
+ghost use Prim.Native.Nat.{_+_, _*_, _≤_, _<_};
+ghost use lib.ListN.{length, drop};
+ghost use Rattle.base.specs.Bits.{bit, word};
+ghost use Rattle.formula.specs.Rows.{operator-at};
+ghost use Rattle.tableau.specs.Saturation.{moves};
+ghost use Rattle.tableau.specs.Transition.{ors, choice-of};
+ghost use Rattle.tableau.specs.Promise.{table-of, Formed, Placed, with-bits, Swept, Saturated, Requires-more, Required-by, Stepped};
+ghost use Rattle.tableau.specs.Area.{eight, put, words-at, index, zeros, Room, Holds, reachable, Added, Followed, Expanded};
+
+// The number of a node, kept apart from subformulas and positions.
+pub struct NodeNumber(pub usize);
+
+// What a saturated set requires: the signals present and absent, whether it holds false, and the operands of its nexts.
+pub struct Requirement {
+    pub present: u64,
+    pub absent: u64,
+    pub falsum: bool,
+    pub to: u64,
+}
+
+// Where a transition leads, with its letter, if it exists.
+pub enum Step {
+    Leads { to: u64, letter: u64 },
+    Nothing,
+}
+
+// How many or operators there are.
+pub fn ors(rows: &[u8; 144], count: usize) -> usize
+    requires { ⌜ Formed (now rows) count ⌝ }
+    ensures { λ r. ⌜ r ≡ ors (table-of (now (rows .entry)) count) ⌝ }
+{
+    let mut n = 0;
+    let mut e = 0;
+    while e < count {
+        if rows[e] == 6 {
+            n += 1;
+        }
+        e += 1;
+    }
+    n
+}
+
+// The choice of a choice word, as the set of the or operators whose right operand is picked.
+pub fn choice_of(rows: &[u8; 144], count: usize, choice_word: u64) -> u64
+    requires { ⌜ Formed (now rows) count ⌝ }
+    ensures { λ r. ⌜ r ≡ word (choice-of (table-of (now (rows .entry)) count) «choice_word») ⌝ }
+{
+    let mut choice = 0u64;
+    let mut left = choice_word;
+    let mut e = 0;
+    while e < count {
+        if rows[e] == 6 {
+            choice = base::with(choice, e, left % 2 == 1);
+            left = left / 2;
+        }
+        e += 1;
+    }
+    choice
+}
+
+// The set with the subformulas to which the moves of subformula e go.
+fn moved(rows: &[u8; 144], choice: u64, e: usize, set: u64) -> u64
+    requires { ⌜ Placed (now rows) e ⌝ }
+    ensures { λ r. ⌜ r ≡ with-bits (moves (operator-at (now (rows .entry)) e) (bit choice e)) set ⌝ }
+{
+    let op = rows[e];
+    let argument = base::wide(rows[48 + e]);
+    if op == 5 {
+        return set | base::power(argument);
+    }
+    if op == 6 {
+        if base::has(choice, e) {
+            return set | base::power(argument);
+        }
+        return set | base::power(e + 1);
+    }
+    if op == 7 {
+        return set | base::power(e + 1) | base::power(argument);
+    }
+    if 8 < op {
+        return set | base::power(e + 1);
+    }
+    set
+}
+
+// The set with the moves of its subformulas, taken in rising order.
+fn swept(rows: &[u8; 144], count: usize, choice: u64, set: u64) -> u64
+    requires { ⌜ Formed (now rows) count ⌝ }
+    ensures { λ r. ⌜ Swept (now (rows .entry)) count count choice set r ⌝ }
+{
+    let mut grown = set;
+    let mut e = 0;
+    while e < count {
+        if base::has(grown, e) {
+            grown = moved(rows, choice, e, grown);
+        }
+        e += 1;
+    }
+    grown
+}
+
+// The least set that holds the node and follows its moves.
+pub fn saturated(rows: &[u8; 144], count: usize, choice: u64, node: u64) -> u64
+    requires { ⌜ Formed (now rows) count ⌝ }
+    ensures { λ r. ⌜ Saturated (now (rows .entry)) count choice node r ⌝ }
+{
+    let mut set = node;
+    let mut left = count;
+    while 0 < left {
+        let grown = swept(rows, count, choice, set);
+        if grown == set {
+            return set;
+        }
+        set = grown;
+        left -= 1;
+    }
+    set
+}
+
+// What subformula e requires beside the rest.
+fn with_required(rows: &[u8; 144], e: usize, q: Requirement) -> Requirement
+    requires { ⌜ Placed (now rows) e ⌝ }
+    ensures { λ r. ⌜ Requires-more (operator-at (now (rows .entry)) e) q r ⌝ }
+{
+    let op = rows[e];
+    let argument = base::wide(rows[48 + e]);
+    if op == 2 {
+        return Requirement {
+            present: q.present,
+            absent: q.absent,
+            falsum: true,
+            to: q.to,
+        };
+    }
+    if op == 3 {
+        let present = q.present | base::power(argument);
+        return Requirement {
+            present: present,
+            absent: q.absent,
+            falsum: q.falsum,
+            to: q.to,
+        };
+    }
+    if op == 4 {
+        let absent = q.absent | base::power(argument);
+        return Requirement {
+            present: q.present,
+            absent: absent,
+            falsum: q.falsum,
+            to: q.to,
+        };
+    }
+    if op == 8 {
+        let to = q.to | base::power(e + 1);
+        return Requirement {
+            present: q.present,
+            absent: q.absent,
+            falsum: q.falsum,
+            to: to,
+        };
+    }
+    q
+}
+
+// What the subformulas of a set require.
+fn required_by(rows: &[u8; 144], count: usize, set: u64) -> Requirement
+    requires { ⌜ Formed (now rows) count ⌝ }
+    ensures { λ r. ⌜ Required-by (now (rows .entry)) count count set r ⌝ }
+{
+    let mut all = Requirement {
+        present: 0,
+        absent: 0,
+        falsum: false,
+        to: 0,
+    };
+    let mut e = 0;
+    while e < count {
+        if base::has(set, e) {
+            all = with_required(rows, e, all);
+        }
+        e += 1;
+    }
+    all
+}
+
+// The transition of a node under a choice, which picks nothing at an or that is not met.
+pub fn transition(rows: &[u8; 144], count: usize, choice: u64, node: u64) -> Step
+    requires { ⌜ Formed (now rows) count ⌝ }
+    ensures { λ r. ⌜ Stepped (now (rows .entry)) count choice node r ⌝ }
+{
+    let set = saturated(rows, count, choice, node);
+    if choice & set != choice {
+        return Step::Nothing;
+    }
+    let r = required_by(rows, count, set);
+    if r.falsum {
+        return Step::Nothing;
+    }
+    if r.present & r.absent != 0 {
+        return Step::Nothing;
+    }
+    Step::Leads {
+        to: r.to,
+        letter: r.present,
+    }
+}
+
+// Eight bytes, the lowest first.
+fn get8(area: &[u8], at: usize) -> u64
+    requires { ⌜ at + 8 ≤ length (now area) ⌝ }
+    ensures { λ r. ⌜ r ≡ eight (now (area .entry)) at ⌝ }
+{
+    wide64(area[at])
+        + wide64(area[at + 1]) * 0x100
+        + wide64(area[at + 2]) * 0x1_0000
+        + wide64(area[at + 3]) * 0x100_0000
+        + wide64(area[at + 4]) * 0x1_0000_0000
+        + wide64(area[at + 5]) * 0x100_0000_0000
+        + wide64(area[at + 6]) * 0x1_0000_0000_0000
+        + wide64(area[at + 7]) * 0x100_0000_0000_0000
+}
+
+fn wide64(x: u8) -> u64
+    ensures { λ r. ⌜ (r ≡ x) × (r < 256) ⌝ }
+{
+    x as u64
+}
+
+fn put8(area: &mut [u8], at: usize, x: u64)
+    requires { ⌜ at + 8 ≤ length (now area) ⌝ }
+    ensures { λ _. ⌜ now (area .exit) ≡ put (now (area .entry)) at x ⌝ }
+{
+    area[at] = (x % 256) as u8;
+    area[at + 1] = (x / 0x100 % 256) as u8;
+    area[at + 2] = (x / 0x1_0000 % 256) as u8;
+    area[at + 3] = (x / 0x100_0000 % 256) as u8;
+    area[at + 4] = (x / 0x1_0000_0000 % 256) as u8;
+    area[at + 5] = (x / 0x100_0000_0000 % 256) as u8;
+    area[at + 6] = (x / 0x1_0000_0000_0000 % 256) as u8;
+    area[at + 7] = (x / 0x100_0000_0000_0000 % 256) as u8;
+}
+
+pub fn node(area: &[u8], number: NodeNumber) -> u64
+    requires { ⌜ (number .0 < 1024) × (8 * number .0 + 8 ≤ length (now area)) ⌝ }
+    ensures { λ r. ⌜ r ≡ eight (now (area .entry)) (8 * number .0) ⌝ }
+{
+    let i = number.0;
+    get8(area, 8 * i)
+}
+
+// The number of a node among the first `known`, or `known`.
+pub fn find(area: &[u8], known: usize, set: u64) -> usize
+    requires { ⌜ (known ≤ 1024) × (8 * known ≤ length (now area)) ⌝ }
+    ensures { λ r. ⌜ r ≡ index set (words-at (now (area .entry)) 0 known) ⌝ }
+{
+    let mut i = 0;
+    while i < known {
+        if node(area, NodeNumber(i)) == set {
+            return i;
+        }
+        i += 1;
+    }
+    known
+}
+
+// How many nodes are known once `set` is one of them; capacity + 1 where there is no room for it.
+fn add(area: &mut [u8], known: usize, capacity: usize, set: u64) -> usize
+    requires { ⌜ Room known capacity (length (now area)) ⌝ }
+    ensures { λ r. ⌜ Added known capacity set (now (area .entry)) (now (area .exit)) r ⌝ }
+    ensures { λ r. ⌜ (known ≤ r) × (r ≤ capacity + 1) ⌝ }
+{
+    if find(area, known, set) < known {
+        return known;
+    }
+    if known < capacity {
+        put8(area, 8 * known, set);
+        return known + 1;
+    }
+    known + 1
+}
+
+// Adds the node that a choice word leads to.
+fn follow(
+    rows: &[u8; 144],
+    count: usize,
+    area: &mut [u8],
+    from: u64,
+    choice_word: u64,
+    known: usize,
+    capacity: usize,
+) -> usize
+    requires { ⌜ Formed (now rows) count ⌝ }
+    requires { ⌜ Room known capacity (length (now area)) ⌝ }
+    ensures { λ r. ⌜ Followed (now (rows .entry)) count from «choice_word» known capacity (now (area .entry)) (now (area .exit)) r ⌝ }
+    ensures { λ r. ⌜ (known ≤ r) × (r ≤ capacity + 1) ⌝ }
+{
+    let choice = choice_of(rows, count, choice_word);
+    match transition(rows, count, choice, from) {
+        Step::Nothing => known,
+        Step::Leads { to, letter: _ } => add(area, known, capacity, to),
+    }
+}
+
+// Adds the nodes to which the transitions of a node lead, by rising choice word.
+fn expand(
+    rows: &[u8; 144],
+    count: usize,
+    area: &mut [u8],
+    number: NodeNumber,
+    known: usize,
+    capacity: usize,
+) -> usize
+    requires { ⌜ Formed (now rows) count ⌝ }
+    requires { ⌜ number .0 < known ⌝ }
+    requires { ⌜ Room known capacity (length (now area)) ⌝ }
+    ensures { λ r. ⌜ Expanded (now (rows .entry)) count (number .0) known capacity (now (area .entry)) (now (area .exit)) r ⌝ }
+    ensures { λ r. ⌜ (known ≤ r) × (r ≤ capacity + 1) ⌝ }
+{
+    let from = node(area, number);
+    let end = base::power(ors(rows, count));
+    let mut all = known;
+    let mut word = 0u64;
+    while word < end {
+        if capacity < all {
+            return all;
+        }
+        all = follow(rows, count, area, from, word, all, capacity);
+        word += 1;
+    }
+    all
+}
+
+// Writes the reachable nodes, the root first, breadth first; how many, or capacity + 1.
+pub fn nodes(rows: &[u8; 144], count: usize, area: &mut [u8], capacity: usize) -> usize
+    requires { ⌜ Formed (now rows) count ⌝ }
+    requires { ⌜ Room 1 capacity (length (now area)) ⌝ }
+    ensures { λ r. ⌜ Holds capacity r (now (area .entry)) (now (area .exit)) (reachable (table-of (now (rows .entry)) count)) ⌝ }
+{
+    put8(area, 0, 1);
+    let mut known = 1;
+    let mut i = 0;
+    while i < known {
+        if capacity < known {
+            return known;
+        }
+        known = expand(rows, count, area, NodeNumber(i), known, capacity);
+        i += 1;
+    }
+    known
+}
+
+// Zeros in the first n bytes.
+pub fn clear(area: &mut [u8], n: usize)
+    requires { ⌜ n ≤ length (now area) ⌝ }
+    ensures { λ _. ⌜ now (area .exit) ≡ zeros n ++ drop n (now (area .entry)) ⌝ }
+{
+    let mut i = 0;
+    while i < n {
+        area[i] = 0;
+        i += 1;
+    }
+}

@@ -1,0 +1,236 @@
+-- The loops over the rows, each as one turn: what holds of the first e rows holds, after the turn, of the first e + 1. So no loop needs
+-- more than the promise of the function it stands in, for a part of the table; the part grows at its end (`operators-more`), and the
+-- definitions go along with that (`sweep-append`, `choice-append`, `operators-in-more`). Assumes nothing.
+use mathlib.Core.Path.{_≡_, refl, sym, ap, subst, subst⁻¹, _∙_}
+use mathlib.Core.Bool.{Bool, true, false, cond, _||_, or-false}
+use mathlib.Core.List.{List, [], _∷_, _++_, append-nil}
+use Prim.Native.Nat.{ℕ, suc, _+_, _-_, _/_, _%_, _^_, _≤_, _<_}
+use native.Mathlib.Nat.{add-zero, zero-add}
+use native.Mathlib.Omega.{arith}
+use lib.Dec.{eqb}
+use lib.Pow.{shr-shr}
+use lib.ListN.{length, getD}
+use Rattle.base.specs.Lists.{gather, any, repeat}
+use Rattle.base.specs.Bits.{bit, word}
+use Rattle.base.proofs.BitLaws.{set-none}
+use Rattle.base.proofs.ListLaws.{repeat-add, repeat-suc, repeat-stays, repeat-keeps}
+use Rattle.base.proofs.AppendLaws.{any-append, gather-append}
+use Rattle.base.proofs.Inside.{inside-length}
+use Rattle.base.proofs.NumberLaws.{values-length, values-add}
+use Rattle.base.proofs.WordLaws.{word-bit, word-past, word-inj}
+use Rattle.formula.specs.Table.{Operator, Table}
+use Rattle.formula.specs.Rows.{operator-at}
+use Rattle.tableau.specs.Saturation.{Subset, has, add, moves, sweep, saturate}
+use Rattle.tableau.specs.Transition.{operators-in, requires, is-false, next-of, is-or, ors, choice-of}
+use Rattle.tableau.specs.Promise.{table-of, Formed, with-bits, Swept, Saturated, Requires-more, Required, Required-by}
+use Rattle.tableau.specs.declared.Requirement.{Requirement}
+use Rattle.tableau.proofs.SaturationLaws.{sweep-inside}
+use Rattle.tableau.proofs.ChoiceLaws.{choice-of-length}
+use Rattle.tableau.proofs.WordSets.{Below, with-bits-append, word-add, word-more}
+use Rattle.tableau.proofs.RowLaws.{moves-below, or-at, other-at}
+
+pub table-length : (rows : List ℕ) (count : ℕ) → length (table-of rows count) ≡ count
+table-length rows count = values-length (operator-at rows) 0 count
+
+operators-more : (rows : List ℕ) (e : ℕ) → table-of rows (e + 1) ≡ table-of rows e ++ (operator-at rows e ∷ [])
+operators-more rows e =
+    values-add (operator-at rows) 0 e 1 ∙ ap (λ (i : ℕ). table-of rows e ++ (operator-at rows i ∷ [])) (zero-add e)
+
+-- a loop that has come to its end
+pub at-end : {e count : ℕ} (P : ℕ → Type 0) → e ≤ count → count ≤ e → P e → P count
+at-end {e} {count} P h k p = subst P {x = e} {y = count} (omega arith) p
+
+-- how many ors there are
+ors-append : (s t : Table) → ors (s ++ t) ≡ ors s + ors t
+ors-append [] t = omega arith
+ors-append (o ∷ s) t = omega (arith, ors-append s t)
+
+ors-more : (rows : List ℕ) (e : ℕ) → ors (table-of rows (e + 1)) ≡ ors (table-of rows e) + cond (is-or (operator-at rows e)) 1 0
+ors-more rows e = ap ors (operators-more rows e) ∙ omega (arith, ors-append (table-of rows e) (operator-at rows e ∷ []))
+
+module _ (rows : List ℕ) (e : ℕ) where
+  pub ors-one : getD rows e 0 ≡ 6 → ors (table-of rows (e + 1)) ≡ ors (table-of rows e) + 1
+  ors-one h = ors-more rows e ∙ rw (or-at rows e h)
+
+  pub ors-same : {count : ℕ} → Formed rows count → e < count → (getD rows e 0 ≡ 6 → ⊥) → ors (table-of rows (e + 1)) ≡ ors (table-of rows e)
+  ors-same f h n = ors-more rows e ∙ rw (other-at e f h n) (add-zero (ors (table-of rows e)))
+
+-- the choice of a choice word: an or takes its last digit and leaves the others
+choice-append : (s t : Table) (x : ℕ) → choice-of (s ++ t) x ≡ choice-of s x ++ choice-of t (x / 2 ^ ors s)
+choice-append [] t x = ap (choice-of t) {x = x} {y = x / 2 ^ 0} (omega arith)
+choice-append (o ∷ s) t x = by (is-or o) (choice-append s t)
+  where
+    by : (b : Bool) → ((x : ℕ) → choice-of (s ++ t) x ≡ choice-of s x ++ choice-of t (x / 2 ^ ors s))
+        → cond b (eqb (x % 2) 1 ∷ choice-of (s ++ t) (x / 2)) (false ∷ choice-of (s ++ t) x)
+        ≡ cond b (eqb (x % 2) 1 ∷ choice-of s (x / 2)) (false ∷ choice-of s x) ++ choice-of t (x / 2 ^ (cond b 1 0 + ors s))
+    by true f = ap (λ (v : Subset). eqb (x % 2) 1 ∷ v) (f (x / 2) ∙ ap (λ (y : ℕ). choice-of s (x / 2) ++ choice-of t y) (shr-shr x 1 (ors s)))
+    by false f = ap (λ (v : Subset). false ∷ v) (f x ∙ ap (λ (n : ℕ). choice-of s x ++ choice-of t (x / 2 ^ n)) (sym (zero-add (ors s))))
+
+-- the first e rows' part of the choice, and what is left of the choice word behind them
+pub record Chosen (rows : List ℕ) (e x choice left : ℕ) : Type 0 where
+  pub choice-is : choice ≡ word (choice-of (table-of rows e) x)
+  pub left-is : left ≡ x / 2 ^ ors (table-of rows e)
+
+pub chosen-none : (rows : List ℕ) (x : ℕ) → Chosen rows 0 x 0 x
+chosen-none rows x = record { choice-is = refl; left-is = omega arith }
+
+module _ {rows : List ℕ} {e x choice left : ℕ} (c : Chosen rows e x choice left) where
+  abbrev before : Table
+  before = table-of rows e
+
+  long : length (choice-of before x) ≡ e
+  long = choice-of-length before x ∙ table-length rows e
+
+  -- the choice with a Bool more
+  grown : (b : Bool) (r : ℕ) → choice-of (operator-at rows e ∷ []) left ≡ b ∷ [] → ((k : ℕ) → bit r k ≡ cond (eqb k e) b (bit choice k))
+      → r ≡ word (choice-of (table-of rows (e + 1)) x)
+  grown b r q f =
+      word-more (choice-of before x) b r (λ k. f k ∙ rw (long, c .choice-is))
+      ∙ ap word (sym (ap (λ (t : Table). choice-of t x) (operators-more rows e) ∙ choice-append before (operator-at rows e ∷ []) x
+      ∙ ap (λ (y : ℕ). choice-of before x ++ choice-of (operator-at rows e ∷ []) y) (sym (c .left-is)) ∙ ap (λ (v : Subset). choice-of before x ++ v) q))
+
+  pub chosen-or : getD rows e 0 ≡ 6 → (r : ℕ) → ((k : ℕ) → bit r k ≡ cond (eqb k e) (eqb (left % 2) 1) (bit choice k))
+      → Chosen rows (e + 1) x r (left / 2)
+  chosen-or h r f = let q : is-or (operator-at rows e) ≡ true = or-at rows e h in record {
+    choice-is = grown (eqb (left % 2) 1) r (rw q) f;
+    left-is = ap (λ (y : ℕ). y / 2) (c .left-is) ∙ shr-shr x (ors before) 1 ∙ ap (λ (n : ℕ). x / 2 ^ n) (sym (ors-one rows e h));
+  }
+
+  pub chosen-other : {count : ℕ} → Formed rows count → e < count → (getD rows e 0 ≡ 6 → ⊥) → Chosen rows (e + 1) x choice left
+  chosen-other f h n = let q : is-or (operator-at rows e) ≡ false = other-at e f h n in record {
+    choice-is = grown false choice (rw q) (set-none choice e (ap (λ (y : ℕ). bit y e) (c .choice-is) ∙ word-past (choice-of before x) e (omega (arith, long))));
+    left-is = c .left-is ∙ ap (λ (n : ℕ). x / 2 ^ n) (sym (ors-same rows e f h n));
+  }
+
+  pub chosen-all : {count : ℕ} → e ≤ count → count ≤ e → choice ≡ word (choice-of (table-of rows count) x)
+  chosen-all h k = c .choice-is ∙ at-end (λ (n : ℕ). word (choice-of (table-of rows e) x) ≡ word (choice-of (table-of rows n) x)) h k refl
+
+-- a sweep
+sweep-length : (t : Table) (w : Subset) (e : ℕ) (v : Subset) → length (sweep t w e v) ≡ length v
+sweep-length t w e v = sym (inside-length (sweep-inside t w e v))
+
+sweep-append : (s t : Table) (w : Subset) (e : ℕ) (v : Subset) → sweep (s ++ t) w e v ≡ sweep t w (e + length s) (sweep s w e v)
+sweep-append [] t w e v = rw (add-zero e)
+sweep-append (o ∷ s) t w e v =
+    sweep-append s t w (suc e) (cond (has v e) (add (moves o (has w e)) v) v)
+    ∙ ap (λ (n : ℕ). sweep t w n (sweep (o ∷ s) w e v)) {x = suc e + length s} {y = e + suc (length s)} (omega arith)
+
+-- one operator's moves, on words
+moved-word : (o : Operator) (w u : Subset) (e : ℕ) → Below (length u) (moves o (has w e))
+    → cond (bit (word u) e) (with-bits (moves o (bit (word w) e)) (word u)) (word u) ≡ word (cond (has u e) (add (moves o (has w e)) u) u)
+moved-word o w u e h = rw (word-bit u e, word-bit w e) (by (has u e))
+  where
+    by : (b : Bool) → cond b (with-bits (moves o (has w e)) (word u)) (word u) ≡ word (cond b (add (moves o (has w e)) u) u)
+    by true = sym (word-add (moves o (has w e)) u h)
+    by false = refl
+
+pub swept-none : (rows : List ℕ) (count choice set : ℕ) → Swept rows count 0 choice set set
+swept-none rows count choice set = record { is = λ w v l p q. q }
+
+pub swept-more : {rows : List ℕ} {count choice set : ℕ} (e x y : ℕ) (b : Bool) → Formed rows count → e < count → Swept rows count e choice set x
+    → bit x e ≡ b → y ≡ cond b (with-bits (moves (operator-at rows e) (bit choice e)) x) x → Swept rows count (e + 1) choice set y
+swept-more {rows} {count} {choice} {set} e x y b f h s t q = record { is = λ w v l c n. go w v l c n }
+  where
+    go : (w v : Subset) → length v ≡ count → choice ≡ word w → set ≡ word v → y ≡ word (sweep (table-of rows (e + 1)) w 0 v)
+    go w v l c n =
+        let u : Subset = sweep (table-of rows e) w 0 v in
+        q ∙ ap (λ (d : Bool). cond d (with-bits (moves (operator-at rows e) (bit choice e)) x) x) (sym t)
+        ∙ ap (λ (z : ℕ). cond (bit z e) (with-bits (moves (operator-at rows e) (bit choice e)) z) z) (s .is w v l c n)
+        ∙ ap (λ (z : ℕ). cond (bit (word u) e) (with-bits (moves (operator-at rows e) (bit z e)) (word u)) (word u)) c
+        ∙ moved-word (operator-at rows e) w u e
+        (subst⁻¹ (λ (n : ℕ). Below n (moves (operator-at rows e) (has w e))) (sweep-length (table-of rows e) w 0 v ∙ l)
+        (moves-below (getD rows e 0) (getD rows (48 + e) 0) e count (has w e) (f .row e h)))
+        ∙ ap word (sym (ap (λ (t : Table). sweep t w 0 v) (operators-more rows e) ∙ sweep-append (table-of rows e) (operator-at rows e ∷ []) w 0 v
+        ∙ ap (λ (i : ℕ). sweep (operator-at rows e ∷ []) w i u) (zero-add (length (table-of rows e)) ∙ table-length rows e)))
+
+pub swept-all : {rows : List ℕ} {count e choice set r : ℕ} → Swept rows count e choice set r → e ≤ count → count ≤ e → Swept rows count count choice set r
+swept-all {rows} {count} {e} {choice} {set} {r} s h k = at-end (λ (n : ℕ). Swept rows count n choice set r) h k s
+
+-- the sweeps of saturation: the set after n of them
+pub record Rounds (rows : List ℕ) (count n choice node r : ℕ) : Type 0 where
+  pub is : (w v : Subset) → length v ≡ count → choice ≡ word w → node ≡ word v → r ≡ word (repeat n (sweep (table-of rows count) w 0) v)
+
+rounds-length : (t : Table) (w v : Subset) (n count : ℕ) → length v ≡ count → length (repeat n (sweep t w 0) v) ≡ count
+rounds-length t w v n count l = repeat-keeps (λ (u : Subset). length u ≡ count) n (sweep t w 0) (λ u q. sweep-length t w 0 u ∙ q) v l
+
+pub rounds-none : (rows : List ℕ) (count n choice node : ℕ) → n ≡ 0 → Rounds rows count n choice node node
+rounds-none rows count n choice node q = record { is = λ w v l c e. rw q e }
+
+module _ {rows : List ℕ} {count n choice node x : ℕ} (r : Rounds rows count n choice node x) where
+  pub rounds-more : {m y : ℕ} → m ≡ n + 1 → Swept rows count count choice x y → Rounds rows count m choice node y
+  rounds-more {m} q s = record {
+    is = λ w v l c e.
+        s .is w (repeat n (sweep (table-of rows count) w 0) v) (rounds-length (table-of rows count) w v n count l) c (r .is w v l c e)
+        ∙ ap word (sym (repeat-suc n (sweep (table-of rows count) w 0) v)
+        ∙ ap (λ (k : ℕ). repeat k (sweep (table-of rows count) w 0) v) {x = suc n} {y = m} (omega arith));
+  }
+
+  -- all rounds, and a round that changes nothing
+  pub rounds-all : count ≤ n → n ≤ count → Saturated rows count choice node x
+  rounds-all h k = record {
+    is = λ w v l c e.
+        r .is w v l c e
+        ∙ ap (λ (m : ℕ). word (repeat m (sweep (table-of rows count) w 0) v)) {x = n} {y = length (table-of rows count)} (omega (arith, table-length rows count));
+  }
+
+  pub rounds-rest : n ≤ count → Swept rows count count choice x x → Saturated rows count choice node x
+  rounds-rest h s = record { is = λ w v l c e. r .is w v l c e ∙ ap word (rest w v l c (r .is w v l c e)) }
+    where
+      rest : (w v : Subset) → length v ≡ count → choice ≡ word w → x ≡ word (repeat n (sweep (table-of rows count) w 0) v)
+          → repeat n (sweep (table-of rows count) w 0) v ≡ saturate (table-of rows count) w v
+      rest w v l c q =
+          let f : Subset → Subset = sweep (table-of rows count) w 0 in
+          let u : Subset = repeat n f v in
+          let still : f u ≡ u =
+          word-inj (f u) u (sweep-length (table-of rows count) w 0 u) (sym (s .is w u (rounds-length (table-of rows count) w v n count l) c q) ∙ q) in
+          sym (ap (λ (m : ℕ). repeat m f v) {x = length (table-of rows count)} {y = n + (count - n)} (omega (arith, table-length rows count))
+          ∙ repeat-add n (count - n) f v ∙ repeat-stays (count - n) f u still)
+
+-- what is required
+operators-in-more : (t : Table) (o : Operator) (s : Subset) → operators-in (t ++ (o ∷ [])) s ≡ operators-in t s ++ cond (has s (length t)) (o ∷ []) []
+operators-in-more [] o [] = refl
+operators-in-more [] o (true ∷ s) = refl
+operators-in-more [] o (false ∷ s) = refl
+operators-in-more (p ∷ t) o [] = refl
+operators-in-more (p ∷ t) o (true ∷ s) = ap (λ (l : List Operator). p ∷ l) (operators-in-more t o s)
+operators-in-more (p ∷ t) o (false ∷ s) = operators-in-more t o s
+
+gathered : (g : Operator → List ℕ) (os : List Operator) (o : Operator) (x y : ℕ) → x ≡ with-bits (gather g os) 0 → y ≡ with-bits (g o) x
+    → y ≡ with-bits (gather g (os ++ (o ∷ []))) 0
+gathered g os o x y p q =
+    q ∙ ap (with-bits (g o)) p ∙ sym (with-bits-append (gather g os) (g o) 0)
+    ∙ ap (λ (l : List ℕ). with-bits l 0) (sym (gather-append g os (o ∷ []) ∙ ap (λ (l : List ℕ). gather g os ++ l) (append-nil (g o))))
+
+required-one : (os : List Operator) (o : Operator) (q r : Requirement) → Required os q → Requires-more o q r → Required (os ++ (o ∷ [])) r
+required-one os o q r k m = record {
+  present-is = gathered (requires true) os o (q .present) (r .present) (k .present-is) (m .present-is);
+  absent-is = gathered (requires false) os o (q .absent) (r .absent) (k .absent-is) (m .absent-is);
+  falsum-is = m .falsum-is ∙ ap (λ (b : Bool). b || is-false o) (k .falsum-is) ∙ sym (any-append is-false os (o ∷ []) ∙ ap (λ (b : Bool). any is-false os || b) (or-false (is-false o)));
+  to-is = gathered next-of os o (q .to) (r .to) (k .to-is) (m .to-is);
+}
+
+pub required-none : (rows : List ℕ) (count set : ℕ) → Required-by rows count 0 set (record { present = 0; absent = 0; falsum = false; to = 0 })
+required-none rows count set = record { is = λ s l e. record { present-is = refl; absent-is = refl; falsum-is = refl; to-is = refl } }
+
+module _ {rows : List ℕ} {count e set : ℕ} {q : Requirement} (k : Required-by rows count e set q) where
+  in-more : (s : Subset) (b : Bool) → set ≡ word s → bit set e ≡ b
+      → operators-in (table-of rows (e + 1)) s ≡ operators-in (table-of rows e) s ++ cond b (operator-at rows e ∷ []) []
+  in-more s b n h =
+      ap (λ (t : Table). operators-in t s) (operators-more rows e) ∙ operators-in-more (table-of rows e) (operator-at rows e) s
+      ∙ ap (λ (i : ℕ). operators-in (table-of rows e) s ++ cond (has s i) (operator-at rows e ∷ []) []) (table-length rows e)
+      ∙ ap (λ (d : Bool). operators-in (table-of rows e) s ++ cond d (operator-at rows e ∷ []) []) (sym (word-bit s e) ∙ ap (λ (x : ℕ). bit x e) (sym n) ∙ h)
+
+  pub required-more : bit set e ≡ true → {r : Requirement} → Requires-more (operator-at rows e) q r → Required-by rows count (e + 1) set r
+  required-more h {r} m = record {
+    is = λ s l n.
+        subst⁻¹ (λ (os : List Operator). Required os r) (in-more s true n h)
+        (required-one (operators-in (table-of rows e) s) (operator-at rows e) q r (k .is s l n) m);
+  }
+
+  pub required-same : bit set e ≡ false → Required-by rows count (e + 1) set q
+  required-same h = record {
+    is = λ s l n. subst⁻¹ (λ (os : List Operator). Required os q) (in-more s false n h ∙ append-nil (operators-in (table-of rows e) s)) (k .is s l n);
+  }
+
+  pub required-all : e ≤ count → count ≤ e → Required-by rows count count set q
+  required-all h l = at-end (λ (n : ℕ). Required-by rows count n set q) h l k

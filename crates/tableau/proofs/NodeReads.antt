@@ -1,0 +1,72 @@
+-- What a caller reads of the nodes in the area, once all of them have found room: the words at the area's beginning are the nodes' words
+-- in order (`nodes-kept`), so node i is read as its word (`kept-at`), as long as only later bytes are changed (`kept-same`). Assumes nothing.
+use mathlib.Core.Path.{_≡_, refl, sym, ap, _∙_}
+use mathlib.Core.List.{List, [], map, Memᴰ·of-map}
+use Prim.Native.Nat.{ℕ, zero, suc, _+_, _*_, _≤_, _<_}
+use native.Mathlib.Nat.{zero-add}
+use native.Mathlib.Omega.{arith}
+use lib.ListN.{length, getD, drop, length-map, List·getD-map}
+use Rattle.base.specs.Bits.{word}
+use Rattle.base.specs.Search.{Item}
+use Rattle.formula.specs.Table.{Table}
+use Rattle.tableau.specs.Saturation.{Subset}
+use Rattle.tableau.specs.Transition.{Transition}
+use Rattle.tableau.specs.Nodes.{nodes}
+use Rattle.tableau.specs.Promise.{table-of, Formed}
+use Rattle.tableau.specs.Area.{eight, words-at, Holds, reachable, Sized}
+use Rattle.tableau.proofs.NodeLaws.{nodes-along, reachable-length}
+use Rattle.tableau.proofs.LoopLaws.{table-length}
+use Rattle.tableau.proofs.AreaLaws.{words-stored}
+use Rattle.tableau.proofs.NodeLoop.{words-small, all-stored}
+
+-- a node has a Bool for each subformula
+pub reachable-sized : (t : Table) → Sized (length t) (reachable t)
+reachable-sized t u m =
+    let (x, r, q) = Memᴰ·of-map (λ (x : Item Transition Subset). x .at) (nodes t) m in
+    ap length (sym q) ∙ reachable-length t (x .way, nodes-along t r)
+
+-- the area's first words are those of the nodes l
+pub record Kept (l : List Subset) (area : List ℕ) : Type 0 where
+  pub words : words-at area 0 (length l) ≡ map word l
+
+pub nodes-kept : {rows : List ℕ} {count capacity known : ℕ} {a area : List ℕ} → Formed rows count
+    → Holds capacity known a area (reachable (table-of rows count)) → known ≤ capacity → Kept (reachable (table-of rows count)) area
+nodes-kept {rows} {count} {a = a} f hs fits =
+    let l = reachable (table-of rows count) in
+    let sized : Sized count l = λ u m. reachable-sized (table-of rows count) u m ∙ table-length rows count in
+    record {
+      words = rw (all-stored hs fits, ← length-map l word) (words-stored (map word l) (drop (8 * length (map word l)) a) (words-small (f .few) sized));
+    }
+
+words-at-get : (a : List ℕ) (j n i : ℕ) → i < n → getD (words-at a j n) i 0 ≡ eight a (8 * (j + i))
+words-at-get a j zero i h = absurd (omega arith)
+words-at-get a j (suc n) zero h = ap (λ (k : ℕ). eight a (8 * k)) {x = j} {y = j + 0} (omega arith)
+words-at-get a j (suc n) (suc i) h =
+    words-at-get a (suc j) n i (omega arith) ∙ ap (λ (k : ℕ). eight a (8 * k)) {x = suc j + i} {y = j + suc i} (omega arith)
+
+eight-same : (a b : List ℕ) (at : ℕ) → ((k : ℕ) → k < at + 8 → getD b k 0 ≡ getD a k 0) → eight b at ≡ eight a at
+eight-same a b at f =
+    rw (
+      f at (omega arith),
+      f (at + 1) (omega arith),
+      f (at + 2) (omega arith),
+      f (at + 3) (omega arith),
+      f (at + 4) (omega arith),
+      f (at + 5) (omega arith),
+      f (at + 6) (omega arith),
+      f (at + 7) (omega arith),
+    )
+
+words-same : (a b : List ℕ) (j n : ℕ) → ((k : ℕ) → k < 8 * (j + n) → getD b k 0 ≡ getD a k 0) → words-at b j n ≡ words-at a j n
+words-same a b j zero f = refl
+words-same a b j (suc n) f =
+    rw (eight-same a b (8 * j) (λ k h. f k (omega arith)), words-same a b (suc j) n (λ k h. f k (omega arith)))
+
+module _ {l : List Subset} {area : List ℕ} (k : Kept l area) where
+  pub kept-at : (i : ℕ) → i < length l → eight area (8 * i) ≡ word (getD l i [])
+  kept-at i h =
+      ap (λ (j : ℕ). eight area (8 * j)) (sym (zero-add i)) ∙ sym (words-at-get area 0 (length l) i h)
+      ∙ ap (λ (ws : List ℕ). getD ws i 0) (k .words) ∙ List·getD-map word l i []
+
+  pub kept-same : (b : List ℕ) → ((j : ℕ) → j < 8 * length l → getD b j 0 ≡ getD area j 0) → Kept l b
+  kept-same b f = record { words = words-same area b 0 (length l) (λ j h. f j (omega arith)) ∙ k .words }

@@ -1,0 +1,147 @@
+-- The answer of `transition` is the definition's: what is required of a saturated set, as words, passes the code's three tests exactly
+-- if the transition exists (`test-is`), and then has its letter and its node (`letter-is`, `to-is`). Back from an answer: what it says of
+-- the definition's transition (`no-step`, `a-step`). Assumes nothing.
+use mathlib.Core.Path.{_≡_, refl, sym, ap, subst⁻¹, _∙_}
+use mathlib.Core.Logic.{inl, inr}
+use mathlib.Core.Bool.{Bool, true, false, cond, not, _&&_}
+use mathlib.Core.List.{List, [], _∷_, List·Memᴰ, List·Memᴰ·head, List·Memᴰ·tail, List·Memᴰ·not-nil, List·Memᴰ·cases-cons, Memᴰ·of-map}
+use Prim.Native.Nat.{ℕ, _+_}
+use native.Mathlib.Omega.{arith}
+use lib.Dec.{eqb}
+use lib.Bits.{bitAnd}
+use lib.ListN.{length, getD, length-map}
+use borrow.Author.Tests.{eq-eqb, ne-eqb}
+use Rattle.base.specs.Lists.{numbers, gather}
+use Rattle.base.specs.Bits.{word}
+use Rattle.base.proofs.AppendLaws.{numbers-of}
+use Rattle.base.proofs.MemberLaws.{gather-of}
+use Rattle.base.proofs.WordLaws.{word-none}
+use Rattle.formula.specs.Table.{Operator, Table}
+use Rattle.formula.specs.Rows.{operator-at}
+use Rattle.tableau.specs.Saturation.{Subset, nothing, add, saturate}
+use Rattle.tableau.specs.Transition.{operators-in, requires, next-of, possible, letter-of, within, transition-of}
+use Rattle.tableau.specs.Promise.{table-of, Row, Formed, with-bits, Saturated, Required, Required-by, step, Stepped}
+use Rattle.tableau.specs.declared.Requirement.{Requirement}
+use Rattle.tableau.specs.declared.Step.{Step}
+use Rattle.tableau.specs.declared.Step.the-variants.{Leads, Nothing}
+use Rattle.tableau.proofs.SaturationLaws.{saturate-length}
+use Rattle.tableau.proofs.TransitionLaws.{transition-with}
+use Rattle.tableau.proofs.WordSets.{Below, word-add, within-word, clash-word, members-word}
+use Rattle.tableau.proofs.RowLaws.{next-below, present-below}
+use Rattle.tableau.proofs.LoopLaws.{table-length}
+
+-- the operators of a set are operators of rows
+in-table : (t : Table) (s : Subset) {o : Operator} → List·Memᴰ o (operators-in t s) → List·Memᴰ o t
+in-table [] s m = m
+in-table (p ∷ t) [] m = absurd (List·Memᴰ·not-nil m)
+in-table (p ∷ t) (true ∷ s) m = elim (List·Memᴰ·cases-cons m) [ inl e ↦ List·Memᴰ·head e | inr r ↦ List·Memᴰ·tail (in-table t s r) ]
+in-table (p ∷ t) (false ∷ s) m = List·Memᴰ·tail (in-table t s m)
+
+module _ {rows : List ℕ} {count : ℕ} (f : Formed rows count) (s : Subset) where
+  abbrev os : List Operator
+  os = operators-in (table-of rows count) s
+
+  -- what is gathered of them is in its range
+  gathered-below : (g : Operator → List ℕ) (n : ℕ) → ((e : ℕ) → Row (getD rows e 0) (getD rows (48 + e) 0) e count → Below n (g (operator-at rows e))) → Below n (gather g os)
+  gathered-below g n h m r =
+      let (o, q, k) = gather-of g os r in
+      let (e, i, p) = Memᴰ·of-map (operator-at rows) (numbers 0 count) (in-table (table-of rows count) s q) in
+      h e (f .row e (omega (arith, numbers-of 0 count i))) m (subst⁻¹ (λ (x : Operator). List·Memᴰ m (g x)) p k)
+
+  -- the transition's letter and node, and whether it exists
+  module _ (r : Requirement) (q : Required os r) where
+    letter-is : r .present ≡ letter-of os
+    unfolding letter-of
+    letter-is =
+        q .present-is
+        ∙ members-word 16 (gather (requires true) os) (gathered-below (requires true) 16 (λ e. present-below (getD rows e 0) (getD rows (48 + e) 0) e count))
+
+    to-is : r .to ≡ word (add (gather next-of os) (nothing (table-of rows count)))
+    to-is =
+        q .to-is
+        ∙ ap (with-bits (gather next-of os)) (sym (word-none (table-of rows count)))
+        ∙ sym (word-add (gather next-of os) (nothing (table-of rows count))
+        (subst⁻¹ (λ (n : ℕ). Below n (gather next-of os)) (length-map (table-of rows count) (λ _. false) ∙ table-length rows count)
+        (gathered-below next-of count (λ e. next-below (getD rows e 0) (getD rows (48 + e) 0) e count))))
+
+    test-is : (w : Subset) → (within w s && possible os)
+        ≡ (eqb (bitAnd (word w) (word s)) (word w) && (not (r .falsum) && eqb (bitAnd (r .present) (r .absent)) 0))
+    unfolding possible
+    test-is w =
+        rw (within-word w s, clash-word (gather (requires true) os) (gather (requires false) os), q .falsum-is, q .present-is, q .absent-is)
+
+-- a choice that is not met
+pub step-unmet : {rows : List ℕ} {count choice node set : ℕ} → Saturated rows count choice node set → (bitAnd choice set ≡ choice → ⊥)
+    → Stepped rows count choice node Nothing
+unfolding possible letter-of
+step-unmet {rows} {count} {choice} {set = set} st h = record {
+  is = λ w v l c n.
+      let t = table-of rows count in
+      let s = saturate t w v in
+      let p : within w s ≡ false = within-word w s ∙ rw (← c, ← st .is w v l c n) (ne-eqb (bitAnd choice set) choice h) in
+      ap (λ (d : Bool). step (cond (d && possible (operators-in t s)) (transition-with t w s ∷ []) [])) (sym p);
+}
+
+-- the answer, from the outcome of the tests of what is required
+module _ {rows : List ℕ} {count choice node set : ℕ} {r : Requirement} (f : Formed rows count) (st : Saturated rows count choice node set) (rq : Required-by rows count count set r) where
+  abbrev test : Bool
+  test = eqb (bitAnd choice set) choice && (not (r .falsum) && eqb (bitAnd (r .present) (r .absent)) 0)
+
+  answer : (x : Step) (b : Bool) → test ≡ b → x ≡ cond b (Leads (r .to) (r .present)) Nothing → Stepped rows count choice node x
+  unfolding possible letter-of
+  answer x b h e = record { is = λ w v l c n. go w v l c n }
+    where
+      go : (w v : Subset) → length v ≡ count → choice ≡ word w → node ≡ word v
+          → x ≡ step (transition-of (table-of rows count) w (saturate (table-of rows count) w v))
+      go w v l c n =
+          let t : Table = table-of rows count in
+          let s : Subset = saturate t w v in
+          let k : set ≡ word s = st .is w v l c n in
+          let q : Required (operators-in t s) r = rq .is s (saturate-length t w v ∙ l) k in
+          let p : (within w s && possible (operators-in t s)) ≡ b =
+          test-is f s r q w ∙ ap (λ (y : ℕ). eqb (bitAnd y (word s)) y && (not (r .falsum) && eqb (bitAnd (r .present) (r .absent)) 0)) (sym c)
+          ∙ ap (λ (y : ℕ). eqb (bitAnd choice y) choice && (not (r .falsum) && eqb (bitAnd (r .present) (r .absent)) 0)) (sym k) ∙ h in
+          e ∙ by b (letter-is f s r q) (to-is f s r q) ∙ ap (λ (d : Bool). step (cond d (transition-with t w s ∷ []) [])) (sym p)
+        where
+          by : (b : Bool) → r .present ≡ letter-of (operators-in (table-of rows count) (saturate (table-of rows count) w v))
+              → r .to ≡ word (transition-with (table-of rows count) w (saturate (table-of rows count) w v) .to)
+              → cond b (Leads (r .to) (r .present)) Nothing ≡ step (cond b (transition-with (table-of rows count) w (saturate (table-of rows count) w v) ∷ []) [])
+          by true p t = rw (p, t)
+          by false p t = refl
+
+  pub step-false : bitAnd choice set ≡ choice → r .falsum ≡ true → Stepped rows count choice node Nothing
+  step-false m h = answer Nothing false (rw (eq-eqb (bitAnd choice set) choice m, h)) refl
+
+  pub step-clash : bitAnd choice set ≡ choice → r .falsum ≡ false → (bitAnd (r .present) (r .absent) ≡ 0 → ⊥) → Stepped rows count choice node Nothing
+  step-clash m h k = answer Nothing false (rw (eq-eqb (bitAnd choice set) choice m, h, ne-eqb (bitAnd (r .present) (r .absent)) 0 k)) refl
+
+  pub step-some : bitAnd choice set ≡ choice → r .falsum ≡ false → bitAnd (r .present) (r .absent) ≡ 0
+      → Stepped rows count choice node (Leads (r .to) (r .present))
+  step-some m h k =
+      answer (Leads (r .to) (r .present)) true (rw (eq-eqb (bitAnd choice set) choice m, h, eq-eqb (bitAnd (r .present) (r .absent)) 0 k)) refl
+
+-- what the code's answer says of the definition's transition
+pub no-step : (t : Table) (w s : Subset) → Nothing ≡ step (transition-of t w s) → transition-of t w s ≡ []
+unfolding possible letter-of
+no-step t w s = by (within w s && possible (operators-in t s))
+  where
+    by : (b : Bool) → Nothing ≡ step (cond b (transition-with t w s ∷ []) []) → cond b (transition-with t w s ∷ []) [] ≡ []
+    by true e = let z : _≡_ {A = ℕ} 0 1 = cc in absurd (omega arith)
+    by false e = refl
+
+pub record Found (t : Table) (w s : Subset) (to letter : ℕ) : Type 0 where
+  pub exists : transition-of t w s ≡ transition-with t w s ∷ []
+  pub to-is : to ≡ word (transition-with t w s .to)
+  pub letter-is : letter ≡ transition-with t w s .letter
+
+pub a-step : {to letter : ℕ} (t : Table) (w s : Subset) → Leads to letter ≡ step (transition-of t w s) → Found t w s to letter
+unfolding possible letter-of
+a-step {to} {letter} t w s e =
+    let (p, q, r) = by (within w s && possible (operators-in t s)) e in
+    record { exists = p; to-is = q; letter-is = r }
+  where
+    by : (b : Bool) → Leads to letter ≡ step (cond b (transition-with t w s ∷ []) [])
+        → (cond b (transition-with t w s ∷ []) [] ≡ transition-with t w s ∷ []) × (to ≡ word (transition-with t w s .to))
+        × (letter ≡ transition-with t w s .letter)
+    by true e = (refl, cc, cc)
+    by false e = let z : _≡_ {A = ℕ} 0 1 = cc in absurd (omega arith)

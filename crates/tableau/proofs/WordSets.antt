@@ -1,0 +1,140 @@
+-- Sets of subformulas as words: to add members is to put bits in (`word-add`), and the tests of the definitions are tests of words
+-- (`within-word`, `clash-word`, `same-word`). Each is shown bit by bit, for bit k of a set's word is whether k is in the set. Assumes nothing.
+use mathlib.Core.Path.{_≡_, refl, sym, ap, subst, _∙_}
+use mathlib.Core.Bool.{Bool, true, false, cond, not, _||_, _&&_, or-true, or-false}
+use mathlib.Core.List.{List, [], _∷_, _++_, map, List·Memᴰ, List·Memᴰ·head, List·Memᴰ·tail, List·Memᴰ·not-nil, List·Memᴰ·cases-cons}
+use mathlib.Core.Logic.{inl, inr}
+use Prim.Native.Nat.{ℕ, zero, suc, _^_, _<_}
+use native.Mathlib.Omega.{arith}
+use native.Mathlib.Decide.{decLt}
+use lib.Dec.{T, eqb, eqb·zero-suc, eqb·suc-zero, eqb·suc-suc, eqb→eq, T-not, not-T}
+use lib.Bits.{bitAnd, bitOr}
+use lib.ListN.{length, getD, set, length-set, length-map, List·getD-eq-default}
+use borrow.Author.Tests.{eq-eqb}
+use Rattle.base.specs.Lists.{numbers, any, member}
+use Rattle.base.specs.Bits.{bit, word}
+use Rattle.base.proofs.BoolLaws.{of-T, to-T, and-both}
+use Rattle.base.proofs.TestLaws.{not-of-T, same-truth}
+use Rattle.base.proofs.BitLaws.{bit-and, set-on}
+use Rattle.base.proofs.ListLaws.{getD-map, length-numbers, getD-numbers}
+use Rattle.base.proofs.MemberLaws.{any-of, any-in, member-of, member-in}
+use Rattle.base.proofs.WordLaws.{no-bit, word-bit, word-inj, same-bits, word-set}
+use Rattle.tableau.specs.Saturation.{Subset, has, same-subset, add}
+use Rattle.tableau.specs.Transition.{within}
+use Rattle.tableau.specs.Promise.{with-bits}
+use Rattle.tableau.proofs.SaturationLaws.{subset-sound, subset-refl}
+use Rattle.tableau.proofs.TransitionLaws.{within-of, within-in}
+
+-- all numbers of a list are below n
+abbrev pub Below : ℕ → List ℕ → Type 0
+Below n ms = (m : ℕ) → List·Memᴰ m ms → m < n
+
+pub below-none : (n : ℕ) → Below n []
+below-none n m r = absurd (List·Memᴰ·not-nil r)
+
+pub below-cons : {n x : ℕ} {ms : List ℕ} → x < n → Below n ms → Below n (x ∷ ms)
+below-cons {n} h f m r = elim (List·Memᴰ·cases-cons r) [ inl e ↦ omega arith | inr q ↦ f m q ]
+
+pub below-one : (n x : ℕ) → x < n → Below n (x ∷ [])
+below-one n x h = below-cons h (below-none n)
+
+-- bits put in one after another
+pub with-bits-append : (ms ns : List ℕ) (x : ℕ) → with-bits (ms ++ ns) x ≡ with-bits ns (with-bits ms x)
+with-bits-append [] ns x = refl
+with-bits-append (m ∷ ms) ns x = with-bits-append ms ns (bitOr x (2 ^ m))
+
+with-bits-bit : (ms : List ℕ) (x k : ℕ) → bit (with-bits ms x) k ≡ (member k ms || bit x k)
+with-bits-bit [] x k = refl
+with-bits-bit (m ∷ ms) x k =
+    with-bits-bit ms (bitOr x (2 ^ m)) k ∙ ap (λ (b : Bool). member k ms || b) (set-on x m k) ∙ turn (eqb k m) (member k ms) (bit x k)
+  where
+    turn : (p q r : Bool) → (q || cond p true r) ≡ ((p || q) || r)
+    turn true q r = or-true q
+    turn false q r = refl
+
+-- the word whose bits are a list's numbers
+bits-of : (ms : List ℕ) (k : ℕ) → bit (with-bits ms 0) k ≡ member k ms
+bits-of ms k = with-bits-bit ms 0 k ∙ ap (λ (b : Bool). member k ms || b) (no-bit k) ∙ or-false (member k ms)
+
+-- what is added to a set is put into its word
+pub word-add : (ms : List ℕ) (v : Subset) → Below (length v) ms → word (add ms v) ≡ with-bits ms (word v)
+word-add [] v h = refl
+word-add (m ∷ ms) v h =
+    word-add ms (set v m true) (λ k r. subst (λ (n : ℕ). k < n) (sym (length-set v m true)) (h k (List·Memᴰ·tail r)))
+    ∙ ap (with-bits ms) (word-set v m (h m (List·Memᴰ·head refl)))
+
+-- a set with one Bool more at its end
+pub word-more : (v : Subset) (b : Bool) (r : ℕ) → ((k : ℕ) → bit r k ≡ cond (eqb k (length v)) b (bit (word v) k)) → r ≡ word (v ++ (b ∷ []))
+word-more v b r h =
+    same-bits r (word (v ++ (b ∷ []))) (λ k. h k ∙ ap (λ (c : Bool). cond (eqb k (length v)) b c) (word-bit v k) ∙ sym (word-bit (v ++ (b ∷ [])) k ∙ last v k))
+  where
+    last : (v : Subset) (k : ℕ) → getD (v ++ (b ∷ [])) k false ≡ cond (eqb k (length v)) b (getD v k false)
+    last [] zero = refl
+    last [] (suc k) = rw (eqb·suc-zero k)
+    last (c ∷ v) zero = rw (eqb·zero-suc (length v))
+    last (c ∷ v) (suc k) = rw (eqb·suc-suc k (length v)) (last v k)
+
+-- the test of two sets
+pub same-word : (v u : Subset) → length v ≡ length u → eqb (word v) (word u) ≡ same-subset v u
+same-word v u l =
+    same-truth (eqb (word v) (word u)) (same-subset v u)
+    (λ h. subst (λ (x : Subset). T (same-subset v x)) (word-inj v u l (eqb→eq (word v) (word u) h)) (subset-refl v))
+    (λ h. to-T (eqb (word v) (word u)) (eq-eqb (word v) (word u) (ap word (subset-sound v u h))))
+
+and-words : (w v : Subset) (k : ℕ) → bit (bitAnd (word w) (word v)) k ≡ (has w k && has v k)
+and-words w v k = bit-and (word w) (word v) k ∙ ap (λ (b : Bool). b && bit (word v) k) (word-bit w k) ∙ ap (λ (b : Bool). has w k && b) (word-bit v k)
+
+pub within-word : (w v : Subset) → within w v ≡ eqb (bitAnd (word w) (word v)) (word w)
+within-word w v =
+    same-truth (within w v) (eqb (bitAnd (word w) (word v)) (word w))
+    (λ h. to-T (eqb (bitAnd (word w) (word v)) (word w))
+    (eq-eqb (bitAnd (word w) (word v)) (word w)
+    (same-bits (bitAnd (word w) (word v)) (word w) (λ k. and-words w v k ∙ less (has w k) (has v k) (within-of w v h k) ∙ sym (word-bit w k)))))
+    (λ h. within-in w v
+    (λ k p. both (has w k) (has v k) (sym (and-words w v k) ∙ ap (λ (x : ℕ). bit x k) (eqb→eq (bitAnd (word w) (word v)) (word w) h) ∙ word-bit w k) p))
+  where
+    less : (a b : Bool) → (T a → T b) → (a && b) ≡ a
+    less true b f = of-T b (f tt)
+    less false b f = refl
+
+    both : (a b : Bool) → (a && b) ≡ a → T a → T b
+    both true b e h = to-T b e
+    both false b e h = absurd h
+
+-- two lists have no number in common exactly if their words have no bit in common
+pub clash-word : (ps qs : List ℕ) → not (any (λ j. member j qs) ps) ≡ eqb (bitAnd (with-bits ps 0) (with-bits qs 0)) 0
+clash-word ps qs =
+    same-truth (not (any (λ j. member j qs) ps)) (eqb (bitAnd (with-bits ps 0) (with-bits qs 0)) 0)
+    (λ h. to-T (eqb (bitAnd (with-bits ps 0) (with-bits qs 0)) 0)
+    (eq-eqb (bitAnd (with-bits ps 0) (with-bits qs 0)) 0
+    (same-bits (bitAnd (with-bits ps 0) (with-bits qs 0)) 0
+    (λ k. bits k ∙ apart (member k ps) (member k qs)
+    (λ p q. T-not (any (λ j. member j qs) ps) h (any-in (λ j. member j qs) (member-of k ps p) q)) ∙ sym (no-bit k)))))
+    (λ h. not-T (any (λ j. member j qs) ps)
+    (λ a. let (j, m, q) = any-of (λ j. member j qs) ps a in
+    subst T (sym (bits j) ∙ ap (λ (x : ℕ). bit x j) (eqb→eq (bitAnd (with-bits ps 0) (with-bits qs 0)) 0 h) ∙ no-bit j)
+    (and-both (member j ps) (member j qs) (member-in m) q)))
+  where
+    bits : (k : ℕ) → bit (bitAnd (with-bits ps 0) (with-bits qs 0)) k ≡ (member k ps && member k qs)
+    bits k = bit-and (with-bits ps 0) (with-bits qs 0) k ∙ ap (λ (b : Bool). b && bit (with-bits qs 0) k) (bits-of ps k) ∙ ap (λ (b : Bool). member k ps && b) (bits-of qs k)
+
+    apart : (a b : Bool) → (T a → T b → ⊥) → (a && b) ≡ false
+    apart true b f = not-of-T b (f tt)
+    apart false b f = refl
+
+-- numbers below n, as the word of n Bools
+pub members-word : (n : ℕ) (ms : List ℕ) → Below n ms → with-bits ms 0 ≡ word (map (λ j. member j ms) (numbers 0 n))
+members-word n ms h =
+    same-bits (with-bits ms 0) (word (map (λ j. member j ms) (numbers 0 n)))
+    (λ k. bits-of ms k ∙ by k (decLt k n) ∙ sym (word-bit (map (λ j. member j ms) (numbers 0 n)) k))
+  where
+    long : length (map (λ (j : ℕ). member j ms) (numbers 0 n)) ≡ n
+    long = length-map (numbers 0 n) (λ (j : ℕ). member j ms) ∙ length-numbers 0 n
+
+    by : (k : ℕ) → Dec (k < n) → member k ms ≡ getD (map (λ (j : ℕ). member j ms) (numbers 0 n)) k false
+    by k (yes l) =
+        sym (getD-map (λ (j : ℕ). member j ms) (numbers 0 n) k 0 false (omega (arith, length-numbers 0 n))
+        ∙ ap (λ (j : ℕ). member j ms) {x = getD (numbers 0 n) k 0} {y = k} (omega (arith, getD-numbers 0 n k 0 l)))
+    by k (no l) =
+        not-of-T (member k ms) (λ t. l (h k (member-of k ms t)))
+        ∙ sym (List·getD-eq-default (map (λ (j : ℕ). member j ms) (numbers 0 n)) false (omega (arith, long)))

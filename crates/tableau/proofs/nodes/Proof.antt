@@ -1,0 +1,65 @@
+-- `tableau::nodes` is the breadth-first search over the area: after i turns, the area holds what the search has found by then. Past the
+-- capacity it may stop.
+use mathlib.Core.List.{List}
+use lib.ListN.{length}
+use Rattle.tableau.specs.Area.{put}
+use Rattle.tableau.proofs.NodeLoop.{Finding, find-start, find-turn, find-end, find-full}
+use borrow.Author.Needs.{needs}
+use native.Mathlib.Omega.{arith}
+use Prim.Native.Nat.{ℕ, _+_, _-_, _≤_}
+use mathlib.Core.Path.{_≡_, refl}
+use Rattle.tableau.proofs.nodes.Statement.{statement}
+use Rattle.tableau.proofs.nodes.Tie as tie
+
+abbrev Inv-loop : tie.InvT-loop
+Inv-loop rows count area₀ capacity known₀ i₀ area known i = (i ≤ known) × ((i ≤ capacity) × ((known ≤ capacity + 1) × ((length area ≡ length area₀) × ((a : List ℕ) → area₀ ≡ put a 0 1 → Finding rows count capacity known i a area))))
+
+abbrev μ-loop : tie.MeasureT-loop
+μ-loop rows count area₀ capacity known₀ i₀ area known i = (capacity + 1) - i
+
+put8-requires : tie.Need-put8-requires Inv-loop μ-loop
+put8-requires c κs = search needs
+
+loop-holds : tie.Need-loop-holds Inv-loop μ-loop
+loop-holds c = (omega arith, (omega arith, (omega arith, (refl, λ a e. find-start _ _ _ (c .before .before .before .before .before .pre .0) (omega arith) e))))
+
+same-length : tie.Need-same-length Inv-loop μ-loop
+same-length c = search needs
+
+returns : tie.Need-returns Inv-loop μ-loop
+returns c = find-full (c .before .before .loop .inv .1 .1 .1 .1 (c .before .before .before .before .before .before .before .before .args .area .now) (c .before .before .before .before .before .put8 .ensures)) (c .if1 .taken)
+
+expand-requires : tie.Need-expand-requires Inv-loop μ-loop
+expand-requires c κs = (c .before .before .before .before .before .before .before .before .before .pre .0, (c .before .before .loop-test .taken, search needs))
+
+add-i : tie.Need-add-i Inv-loop μ-loop
+add-i c = search needs
+
+loop-less : tie.Need-loop-less Inv-loop μ-loop
+loop-less c = search needs
+
+loop-again : tie.Need-loop-again Inv-loop μ-loop
+loop-again c = (omega (arith, c .before .before .expand .ensures .1), (omega arith, (omega (arith, c .before .before .expand .ensures .1), (search needs, λ a e. find-turn (c .before .before .before .before .before .before .loop .inv .1 .1 .1 .1 a e) (c .before .before .before .before .before .loop-test .taken) (c .before .before .expand .ensures .0)))))
+
+same-length-2 : tie.Need-same-length-2 Inv-loop μ-loop
+same-length-2 c = search needs
+
+returns-2 : tie.Need-returns-2 Inv-loop μ-loop
+returns-2 c = find-end (c .before .loop .inv .1 .1 .1 .1 (c .before .before .before .before .before .before .before .args .area .now) (c .before .before .before .before .put8 .ensures)) (c .loop-test .left) (c .before .loop .inv .1 .0)
+
+pub nodes-spec : {M : Type 1} → statement M
+nodes-spec =
+    tie.close
+    (tie.spec
+    Inv-loop
+    μ-loop
+    put8-requires
+    loop-holds
+    same-length
+    returns
+    expand-requires
+    add-i
+    loop-less
+    loop-again
+    same-length-2
+    returns-2)

@@ -1,0 +1,28 @@
+-- `tableau::transition` is the definition's transition: the choice is met, and what the saturated set requires can be.
+use Rattle.tableau.proofs.StepLaws.{step-unmet, step-false, step-clash, step-some}
+use borrow.Author.Needs.{needs}
+use Rattle.tableau.proofs.transition.Statement.{statement}
+use Rattle.tableau.proofs.transition.Tie as tie
+
+saturated-requires : tie.Need-saturated-requires
+saturated-requires c κs = search needs
+
+returns : tie.Need-returns
+returns c = step-unmet (c .before .saturated .ensures) (c .if1 .taken)
+
+required-by-requires : tie.Need-required-by-requires
+required-by-requires c κs = search needs
+
+returns-2 : tie.Need-returns-2
+returns-2 c = step-false (c .before .before .before .before .pre) (c .before .before .before .saturated .ensures) (c .before .required-by .ensures) (c .before .before .if1 .left) (c .if2 .taken)
+
+returns-3 : tie.Need-returns-3
+returns-3 c = step-clash (c .before .before .before .before .before .before .pre) (c .before .before .before .before .before .saturated .ensures) (c .before .before .before .required-by .ensures) (c .before .before .before .before .if1 .left) (c .before .before .if2 .left) (c .if3 .taken)
+
+returns-4 : tie.Need-returns-4
+returns-4 c = step-some (c .before .before .before .before .before .before .pre) (c .before .before .before .before .before .saturated .ensures) (c .before .before .before .required-by .ensures) (c .before .before .before .before .if1 .left) (c .before .before .if2 .left) (c .if3 .left)
+
+pub transition-spec : {M : Type 1} → statement M
+transition-spec =
+    tie.close
+    (tie.spec saturated-requires returns required-by-requires returns-2 returns-3 returns-4)

@@ -1,0 +1,83 @@
+-- What the functions of the tableau ask of the rows and promise of their results, in terms of the definitions. Sets of subformulas are
+-- words in the code and lists of Bools in the definitions: a promise speaks of any list whose word is the code's. A reader of the
+-- decision's contract need not read it. Assumes nothing.
+use mathlib.Core.Path.{_≡_}
+use mathlib.Core.Bool.{Bool, _||_}
+use mathlib.Core.List.{List, [], _∷_}
+use Prim.Native.Nat.{ℕ, _+_, _^_, _≤_, _<_}
+use lib.Bits.{bitOr}
+use lib.ListN.{length, getD}
+use Rattle.base.specs.Lists.{gather, any}
+use Rattle.base.specs.Bits.{word}
+use Rattle.formula.specs.Table.{Operator, Table}
+use Rattle.formula.specs.Rows.{operators-of}
+use Rattle.tableau.specs.Saturation.{Subset, sweep, saturate}
+use Rattle.tableau.specs.Transition.{operators-in, requires, is-false, next-of, ors, Transition, transition-of}
+use Rattle.tableau.specs.declared.Requirement.{Requirement}
+use Rattle.tableau.specs.declared.Step.{Step}
+use Rattle.tableau.specs.declared.Step.the-variants.{Leads, Nothing}
+
+-- the table of the first count rows
+abbrev pub table-of : List ℕ → ℕ → Table
+table-of rows count = operators-of rows 0 count
+
+-- What is asked of a row: an opcode that document 01 has, and operands in their ranges. The number n is above all subformulas.
+pub record Row (op argument e n : ℕ) : Type 0 where
+  pub some : 0 < op
+  pub known : op ≤ 10
+  pub signal : 2 < op → op < 5 → argument < 16
+  pub argument-below : 4 < op → op < 8 → argument < n
+  pub first-below : 5 < op → e + 1 < n
+
+-- subformula e has a place in the rows, and its row is right
+pub record Placed (rows : List ℕ) (e : ℕ) : Type 0 where
+  pub place : e < 48
+  pub row : Row (getD rows e 0) (getD rows (48 + e) 0) e 48
+
+-- What is asked of the rows. Those of an accepted formula are so (proofs/FormedLaws.antt).
+pub record Formed (rows : List ℕ) (count : ℕ) : Type 0 where
+  pub some : 0 < count
+  pub few : count ≤ 48
+  pub row : (e : ℕ) → e < count → Row (getD rows e 0) (getD rows (48 + e) 0) e count
+  pub few-ors : ors (table-of rows count) ≤ 12
+
+-- a word with the bits of a list put in
+abbrev pub with-bits : List ℕ → ℕ → ℕ
+with-bits [] x = x
+with-bits (m ∷ ms) x = with-bits ms (bitOr x (2 ^ m))
+
+-- The set became r by a sweep over the first e rows.
+pub record Swept (rows : List ℕ) (count e choice set r : ℕ) : Type 0 where
+  pub is : (w v : Subset) → length v ≡ count → choice ≡ word w → set ≡ word v → r ≡ word (sweep (table-of rows e) w 0 v)
+
+-- The node became r by saturation.
+pub record Saturated (rows : List ℕ) (count choice node r : ℕ) : Type 0 where
+  pub is : (w v : Subset) → length v ≡ count → choice ≡ word w → node ≡ word v → r ≡ word (saturate (table-of rows count) w v)
+
+-- The requirement r is the requirement q and what the operator o requires.
+pub record Requires-more (o : Operator) (q r : Requirement) : Type 0 where
+  pub present-is : r .present ≡ with-bits (requires Bool.true o) (q .present)
+  pub absent-is : r .absent ≡ with-bits (requires Bool.false o) (q .absent)
+  pub falsum-is : r .falsum ≡ (q .falsum || is-false o)
+  pub to-is : r .to ≡ with-bits (next-of o) (q .to)
+
+-- The requirement r is what the operators require.
+pub record Required (os : List Operator) (r : Requirement) : Type 0 where
+  pub present-is : r .present ≡ with-bits (gather (requires Bool.true) os) 0
+  pub absent-is : r .absent ≡ with-bits (gather (requires Bool.false) os) 0
+  pub falsum-is : r .falsum ≡ any is-false os
+  pub to-is : r .to ≡ with-bits (gather next-of os) 0
+
+-- The requirement r is what the operators of a set in the first e rows require.
+pub record Required-by (rows : List ℕ) (count e set : ℕ) (r : Requirement) : Type 0 where
+  pub is : (s : Subset) → length s ≡ count → set ≡ word s → Required (operators-in (table-of rows e) s) r
+
+-- the code's answer for the definition's transition, if it exists
+abbrev pub step : List Transition → Step
+step [] = Nothing
+step (x ∷ xs) = Leads (word (x .to)) (x .letter)
+
+-- The step r of a node under a choice is the definition's.
+pub record Stepped (rows : List ℕ) (count choice node : ℕ) (r : Step) : Type 0 where
+  pub is : (w v : Subset) → length v ≡ count → choice ≡ word w → node ≡ word v
+      → r ≡ step (transition-of (table-of rows count) w (saturate (table-of rows count) w v))
