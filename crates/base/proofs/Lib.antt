@@ -13,3 +13,4 @@ pub mod TestLaws
 pub mod At
 pub mod Pairs
 pub mod AppendLaws
+pub mod ShiftLaws

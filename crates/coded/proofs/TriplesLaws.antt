@@ -1,21 +1,21 @@
 -- Laws of sets of triples as tables of bits: what a search below a number finds, when a priority is the smaller of two, that a table
 -- holds what the test it was made by says, and so what joining and uniting tables made by tests gives; two tables are the same exactly
 -- if they hold the same. Assumes nothing.
-use mathlib.Core.Path.{_≡_, refl, sym, ap, subst, subst⁻¹, _∙_}
-use mathlib.Core.Logic.{_⊎_, inl, inr}
+use mathlib.Core.Path.{_≡_, refl, sym, ap, subst, _∙_}
+use mathlib.Core.Logic.{inl, inr}
 use mathlib.Core.Bool.{Bool, true, false, _&&_, _||_}
-use mathlib.Core.List.{List, [], _∷_, map}
-use Prim.Native.Nat.{ℕ, zero, suc, _+_, _*_, _≤_, _<_, min}
+use mathlib.Core.List.{List, [], map}
+use Prim.Native.Nat.{ℕ, zero, suc, _+_, _<_, min}
 use native.Mathlib.Omega.{arith}
 use native.Mathlib.Decide.{ℕ-discrete}
 use lib.Dec.{T, eqb, eqb→eq, eqb-refl}
 use lib.ListN.{getD}
-use Rattle.base.specs.Lists.{numbers, repeat, alike, same-bit}
+use Rattle.base.specs.Lists.{numbers, alike, same-bit}
 use Rattle.base.proofs.BoolLaws.{of-T, and-left, and-right, and-both, or-cases, or-left, or-right, same-bit-sound, same-bit-refl}
-use Rattle.base.proofs.TestLaws.{not-of-T, same-truth}
+use Rattle.base.proofs.TestLaws.{not-of-T}
 use Rattle.base.proofs.MemberLaws.{alike-sound, alike-refl}
 use Rattle.base.proofs.NumberLaws.{values-at, values-same}
-use Rattle.coded.specs.Triples.{some, smaller, Triples, holds, same-triples, those, join, either, lap}
+use Rattle.coded.specs.Triples.{some, smaller, Triples, holds, same-triples, those, join, either, laps, rejecting}
 
 -- some number below n
 pub some-of : (n : ℕ) (q : ℕ → Bool) → T (some n q) → (i : ℕ) × (i < n) × T (q i)
@@ -141,3 +141,12 @@ agree-of n q r e f x g hf hx hg =
 pub other-those : (n : ℕ) (q r : Test) → (Agree n q r → ⊥) → same-triples (those n q) (those n r) ≡ false
 other-those n q r d =
     not-of-T (same-triples (those n q) (those n r)) (λ h. d (agree-of n q r (same-triples-sound (those n q) (those n r) h)))
+
+-- which priorities are least is asked below 8 alone
+pub rejecting-same : (p q : ℕ → Bool) (n : ℕ) (a : Triples) → ((x : ℕ) → x < 8 → p x ≡ q x) → rejecting p n a ≡ rejecting q n a
+unfolding rejecting
+rejecting-same p q n a h =
+    some-same n (λ f. some 8 (λ x. p x && holds (laps n a) f x f)) (λ f. some 8 (λ x. q x && holds (laps n a) f x f))
+    (λ f hf.
+    some-same 8 (λ x. p x && holds (laps n a) f x f) (λ x. q x && holds (laps n a) f x f)
+    (λ x hx. ap (λ (t : Bool). t && holds (laps n a) f x f) (h x hx)))

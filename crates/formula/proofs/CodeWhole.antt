@@ -1,23 +1,24 @@
--- The whole formula: where the command at byte 0 is read, the bytes have ended or not, and the table holds the entries of the formula.
--- Assumes nothing.
-use mathlib.Core.Path.{_≡_, subst, _∙_}
+-- The whole formula: where the command that it begins with is read, the bytes have ended or not, and the table holds the entries of the
+-- formula. Assumes nothing.
+use mathlib.Core.Path.{_≡_, sym, subst, _∙_}
 use mathlib.Core.List.{List, []}
 use Prim.Native.Nat.{ℕ, _+_, _≤_, _<_}
 use native.Mathlib.Omega.{arith}
-use lib.ListN.{length, drop-of-length-le}
+use lib.ListN.{length, drop, length-drop, drop-of-length-le}
 use lib.Seq.{drop-cons}
 use Rattle.formula.specs.Formula.{Formula, size}
 use Rattle.formula.specs.Table.{table}
-use Rattle.formula.specs.Reading.{Head as Point, Read, Reading, ended, whole, with-entries, parse, reading, formula, start}
-use Rattle.formula.specs.Rows.{entries-of, reading-of}
-use Rattle.formula.specs.Holds.{Some, Holds, no-table}
+use Rattle.formula.specs.Reading.{Head as Point, Read, Reading, ended, whole, with-entries, formula}
+use Rattle.formula.specs.Rows.{entries-of}
+use Rattle.formula.specs.Holds.{Some, no-table}
 use Rattle.formula.specs.declared.Head.{Head}
 use Rattle.formula.specs.declared.Reading as code
 use Rattle.formula.specs.declared.Parsed.{Parsed}
 use Rattle.formula.specs.declared.Refusal.{Refusal}
 use Rattle.formula.specs.declared.Outcome.the-variants.{Accepted, Refused}
-use Rattle.formula.specs.Promise.{Agrees}
+use Rattle.formula.specs.Promise.{Agrees, Answered}
 use Rattle.formula.proofs.CodeFormula.{clash}
+use Rattle.formula.proofs.From.{start-at, reading-from-is}
 
 -- the whole formula
 module _ {s rows : List ℕ} {h : Head} {p : Parsed} where
@@ -56,30 +57,27 @@ module _ {s rows : List ℕ} {h : Head} {p : Parsed} where
       some-size (Formula.next a) = omega arith
       some-size (Formula.fix g a) = omega arith
 
--- what `read` promises of its answer
-abbrev pub Answer : List ℕ → code.Reading → Type 0
-Answer s r = (reading-of r ≡ reading s) × Holds (r .outcome) (r .table)
-
--- the three answers, from the command at byte 0
+-- the three answers, from the command at h, where reading begins
 module _ {s rows : List ℕ} {h : Head} {p : Parsed}
-    (command : (k : ℕ) → length s ≤ 0 + k → Agrees s 0 h [] rows p (formula k [] (start s))) where
-  a : Agrees s 0 h [] rows p (formula (length s) [] (start s))
-  a = command (length s) (omega arith)
+    (command : (k : ℕ) → length s ≤ h .at + k → Agrees s 0 h [] rows p (formula k [] (start-at s (h .at)))) where
+  abbrev first : Read Formula
+  first = formula (length (drop (h .at) s)) [] (start-at s (h .at))
 
-  refused-by : {r : code.Reading} {why : Refusal} → whole (formula (length s) [] (start s)) ≡ Reading.refused (why .code) (why .at) →
-      (r .outcome ≡ Refused why) × (r .table ≡ no-table) → Answer s r
-  unfolding reading parse
-  refused-by w o = (rw (o .0, w), rw (o .0) (o .1))
+  a : Agrees s 0 h [] rows p first
+  a = command (length (drop (h .at) s)) (simp length-drop (omega arith))
+
+  refused-by : {r : code.Reading} {why : Refusal} → whole first ≡ Reading.refused (why .code) (why .at) →
+      (r .outcome ≡ Refused why) × (r .table ≡ no-table) → Answered s (h .at) r
+  refused-by w o = record { reading = rw (o .0, reading-from-is, w); table = rw (o .0) (o .1) }
 
   pub refused-reading : {r : code.Reading} {why : Refusal} → p .outcome ≡ Refused why →
-      (r .outcome ≡ Refused why) × (r .table ≡ no-table) → Answer s r
+      (r .outcome ≡ Refused why) × (r .table ≡ no-table) → Answered s (h .at) r
   refused-reading q o = refused-by (whole-refused a q) o
 
   pub extra-reading : {r : code.Reading} → p .outcome ≡ Accepted → p .head .at < length s →
-      (r .outcome ≡ Refused (record { code = 9; at = p .head .at })) × (r .table ≡ no-table) → Answer s r
+      (r .outcome ≡ Refused (record { code = 9; at = p .head .at })) × (r .table ≡ no-table) → Answered s (h .at) r
   extra-reading q l o = refused-by (whole-extra a q l) o
 
   pub accepted-reading : p .outcome ≡ Accepted → length s ≤ p .head .at →
-      Answer s (record { outcome = Accepted; table = record { count = p .head .count; rows = p .rows } })
-  unfolding reading parse
-  accepted-reading q l = (whole-accepted a q l, some-command a q)
+      Answered s (h .at) (record { outcome = Accepted; table = record { count = p .head .count; rows = p .rows } })
+  accepted-reading q l = record { reading = whole-accepted a q l ∙ sym (reading-from-is s (h .at)); table = some-command a q }

@@ -9,7 +9,7 @@ use native.Mathlib.Omega.{arith}
 use lib.ListN.{length}
 use Rattle.formula.specs.Formula.{Formula}
 use Rattle.formula.specs.Reading.{Head, Read, Reader, Scope, questions, formula, Reading, ended, whole, start, parse}
-use Rattle.formula.proofs.Alike.{AtByte, AtEnd, Alike, Look, Looks, Near, over, questions-alike, formula-alike}
+use Rattle.formula.proofs.Alike.{AtByte, AtEnd, Alike, Look, Looks, Near, same, over, questions-alike, formula-alike}
 
 -- a refusal of an input of `total` bytes: at the length where a byte is missing, else at one of the bytes
 pub record Stopped (total code place : ℕ) : Type 0 where
@@ -45,7 +45,7 @@ module _ (total : ℕ) where
   look-same s h [] i = Look.none (λ code c. at-end (omega arith) c)
   look-same s h (b ∷ x) i = Look.some {x = x} (record { same = refl; sum = omega arith })
 
-  looks-same : Looks (Stopped total) (Same total)
+  pub looks-same : Looks (Stopped total) (Same total)
   looks-same =
       record {
         look = λ s h l r. subst (Look (Stopped total) (Same total s) h (h .left)) (r .same) (look-same s h (h .left) (r .sum));
@@ -55,7 +55,7 @@ module _ (total : ℕ) where
       }
 
   abbrev Kept : ℕ → ℕ → Read Formula → Read Formula → Type 0
-  Kept n m = Alike (Stopped total) (Near (Same total) n m 1)
+  Kept n m = Alike (Stopped total) same (Near (Same total) n m 1)
 
   kept-equal : {n m : ℕ} {x y : Read Formula} → Kept n m x y → x ≡ y
   kept-equal (Alike.refused p) = refl
@@ -64,7 +64,7 @@ module _ (total : ℕ) where
   -- reading beside itself, with two bounds on the nesting
   kept : (d e : ℕ) (scope : Scope) (h : Head) (l : List ℕ) → Near (Same total) d e 1 h l
       → Kept d e (formula d scope h) (formula e scope (over h l))
-  kept = formula-alike (Stopped total) (Same total) looks-same
+  kept = formula-alike (Stopped total) same (λ i. refl) (Same total) looks-same
 
   ended-stopped : (f : Formula) (h : Head) (x : List ℕ) (code place : ℕ) → h .at + length x ≡ total → ended f h x ≡ Reading.refused code place
       → Stopped total code place
@@ -75,14 +75,14 @@ module _ (total : ℕ) where
       other code (omega arith) (omega arith) (λ q. omega arith) (omega arith)
 
   whole-stopped : {n m : ℕ} {x y : Read Formula} (code place : ℕ) → Kept n m x y → whole x ≡ Reading.refused code place → Stopped total code place
-  whole-stopped code place (Alike.refused {code = c} {place = p} s) e =
+  whole-stopped code place (Alike.refused {code = c} {at = p} s) e =
       let a : c ≡ code = cc in
       let b : p ≡ place = cc in
       rw (← a, ← b) s
   whole-stopped code place (Alike.got {a} {h} r) e = ended-stopped a h (h .left) code place (r .alike .sum) e
 
 -- a head beside itself
-near : (n m : ℕ) (h : Head) → length (h .left) ≤ n → length (h .left) ≤ m
+pub near : (n m : ℕ) (h : Head) → length (h .left) ≤ n → length (h .left) ≤ m
     → Near (Same (h .at + length (h .left))) n m 1 h (h .left)
 near n m h i j = record { alike = record { same = refl; sum = refl }; first = i; second = j }
 
@@ -104,7 +104,7 @@ formula-unfolds scope h = by (h .left)
         let g = over h (b ∷ x) in
         let total = g .at + length (g .left) in
         kept-equal total
-        (questions-alike (Stopped total) (Same total) (looks-same total) (length x) (length x) (formula (length x)) formula-at
+        (questions-alike (Stopped total) same (λ i. refl) (Same total) (looks-same total) (length x) (length x) (formula (length x)) formula-at
         (λ scope k l r. subst (Kept total (length x) (length x) (formula (length x) scope k))
         (formula-fuel (length x) (length l) scope (over k l) (r .second) (omega arith))
         (kept total (length x) (length x) scope k l r))

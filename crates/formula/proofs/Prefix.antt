@@ -8,7 +8,7 @@ use lib.ListN.{length, take}
 use lib.Seq.{take-take}
 use Rattle.formula.specs.Formula.{Formula}
 use Rattle.formula.specs.Reading.{Head, Read, ended, whole, start, parse, reading, with-entries}
-use Rattle.formula.proofs.Alike.{Alike, Look, Looks, Near, over, formula-alike}
+use Rattle.formula.proofs.Alike.{Alike, Look, Looks, Near, same, over, formula-alike}
 
 -- s more bytes may be looked at before the next command counts, and the bytes left agree up to place 97
 pub record Window (s : ℕ) (h : Head) (l : List ℕ) : Type 0 where
@@ -47,7 +47,7 @@ ended-alike : {R : Head → List ℕ → Type 0} (f : Formula) (h : Head) {x y :
 ended-alike f h (Look.none p) = refl
 ended-alike f h (Look.some r) = refl
 
-whole-alike : {n m : ℕ} {x y : Read Formula} → Alike Any (Near Window n m 1) x y → whole x ≡ whole y
+whole-alike : {n m : ℕ} {x y : Read Formula} → Alike Any same (Near Window n m 1) x y → whole x ≡ whole y
 whole-alike (Alike.refused p) = refl
 whole-alike (Alike.got {a} {h} {l} r) = ended-alike a h (looks-in .look 0 h l (r .alike))
 
@@ -55,7 +55,7 @@ whole-alike (Alike.got {a} {h} {l} r) = ended-alike a h (looks-in .look 0 h l (r
 pub parse-alike : (a b : List ℕ) → take 97 a ≡ take 97 b → parse a ≡ parse b
 unfolding parse
 parse-alike a b e =
-    whole-alike (formula-alike Any Window looks-in (length a) (length b) [] (start a) b
+    whole-alike (formula-alike Any same (λ i. refl) Window looks-in (length a) (length b) [] (start a) b
     (record { alike = record { place = omega arith; few = omega arith; agree = e }; first = omega arith; second = omega arith }))
 
 pub parse-prefix : (bytes : List ℕ) → parse (take 97 bytes) ≡ parse bytes

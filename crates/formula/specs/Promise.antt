@@ -8,11 +8,13 @@ use lib.Dec.{ltb}
 use lib.ListN.{length, getD, drop}
 use Rattle.formula.specs.Formula.{Formula, size}
 use Rattle.formula.specs.Table.{Operator, Table as Operators, table-from, ends-from}
-use Rattle.formula.specs.Reading.{opcode, Head as Point, Read, Reader, Scope as Enclosing, within, counted, operands, formula}
-use Rattle.formula.specs.Rows.{operator-of, operator-at, end-at, operators-of, ends-of}
+use Rattle.formula.specs.Reading.{opcode, Head as Point, Read, Reader, Scope as Enclosing, within, counted, operands, formula, reading-from}
+use Rattle.formula.specs.Rows.{operator-of, operator-at, end-at, operators-of, ends-of, reading-of}
+use Rattle.formula.specs.Holds.{Holds}
 use Rattle.formula.specs.declared.Head.{Head}
 use Rattle.formula.specs.declared.Scope.{Scope}
 use Rattle.formula.specs.declared.Parsed.{Parsed}
+use Rattle.formula.specs.declared.Reading as code
 use Rattle.formula.specs.declared.Refusal.{Refusal}
 use Rattle.formula.specs.declared.Outcome.the-variants.{Accepted, Refused}
 use Rattle.formula.specs.declared.Taken.{Taken}
@@ -187,3 +189,8 @@ pub record Inside (scope : Scope) (e op : ℕ) (x : Scope) : Type 0 where
   pub fix : 8 < op → Around (false ∷ enclosing scope) (e ∷ binders scope) x
   pub guarded : x .guarded ≤ x .depth
   pub depth : (n : ℕ) → scope .depth ≤ n → (8 < op → scope .depth < n) → x .depth ≤ n
+
+-- The answer r is the definition's reading from the byte at a place, and the table beside it holds what it must.
+pub record Answered (s : List ℕ) (at : ℕ) (r : code.Reading) : Type 0 where
+  pub reading : reading-of r ≡ reading-from s at
+  pub table : Holds (r .outcome) (r .table)

@@ -3,7 +3,7 @@ use mathlib.Core.Bool.{Bool, true, false}
 use mathlib.Core.List.{List, [], _∷_, map}
 use Prim.Native.Nat.{ℕ, zero, suc, _+_, _-_}
 use lib.Dec.{ltb, leb}
-use lib.ListN.{length, getD}
+use lib.ListN.{length, getD, drop}
 use Rattle.formula.specs.Formula.{Leaf, Formula}
 use Rattle.formula.specs.Table.{Entries, entries}
 
@@ -180,3 +180,13 @@ with-entries (Reading.accepted f) = Reading.accepted (entries f)
 unfoldable pub reading : List ℕ → Reading Entries
 unfolding parse
 reading bytes = with-entries (parse bytes)
+
+-- "The reader holds the rule's bytes together with the byte it stands at": reading from that byte on, with places counted from the
+-- start of the bytes. Past their end no byte is left, so the refusal is 1, at the place where the reader stands.
+abbrev pub places-from : {A : Type 0} → ℕ → Reading A → Reading A
+places-from n (Reading.refused code place) = Reading.refused code (n + place)
+places-from n (Reading.accepted a) = Reading.accepted a
+
+unfoldable pub reading-from : List ℕ → ℕ → Reading Entries
+unfolding reading
+reading-from bytes at = places-from at (reading (drop at bytes))

@@ -8,7 +8,7 @@ ghost use Rattle.formula.specs.Reading.{opcode, reading, within as allow
 ghost use Rattle.formula.specs.Rows.{reading-of};
 ghost use Rattle.formula.specs.Holds.{Holds, no-table};
 ghost use Rattle.formula.specs.Promise.{point, behind, Limits, Room, Counted, Opening, Ready, Inside};
-ghost use Rattle.formula.specs.Promise.{Placed, Finished, Argues, Leaves, Completed, Command};
+ghost use Rattle.formula.specs.Promise.{Placed, Finished, Argues, Leaves, Completed, Command, Answered};
 
 // The number of a subformula (document 01: an entry), kept apart from positions on a lasso.
 pub struct Subformula(pub usize);
@@ -296,13 +296,12 @@ fn refused(why: Refusal) -> Reading
     }
 }
 
-// Reads a whole formula.
-pub fn read(s: &[u8]) -> Reading
-    ensures { λ r. ⌜ reading-of r ≡ reading (now (s .entry)) ⌝ }
-    ensures { λ r. ⌜ Holds (r .outcome) (r .table) ⌝ }
+// Reads a whole formula that begins at a byte: a slice and a position by value.
+fn read_at(s: &[u8], at: usize) -> Reading
+    ensures { λ r. ⌜ Answered (now (s .entry)) at r ⌝ }
 {
     let start = Head {
-        at: 0,
+        at: at,
         count: 0,
         ors: 0,
         nexts: 0,
@@ -332,4 +331,32 @@ pub fn read(s: &[u8]) -> Reading
             }
         }
     }
+}
+
+// The bytes of a formula together with the place of the byte that reading begins at.
+pub struct Reader<'a> {
+    pub src: &'a [u8],
+    pub at: usize,
+}
+
+// The reader at the first byte.
+fn new<'a>(src: &'a [u8]) -> Reader<'a>
+    ensures { λ r. ⌜ (r .src ≡ src .entry) × (r .at ≡ 0) ⌝ }
+{
+    Reader { src, at: 0 }
+}
+
+// Reads the formula that begins where the reader stands.
+fn read_from<'a>(r: Reader<'a>) -> Reading
+    ensures { λ q. ⌜ Answered (now (r .entry .src)) (r .entry .at) q ⌝ }
+{
+    read_at(r.src, r.at)
+}
+
+// Reads a whole formula.
+pub fn read(s: &[u8]) -> Reading
+    ensures { λ r. ⌜ reading-of r ≡ reading (now (s .entry)) ⌝ }
+    ensures { λ r. ⌜ Holds (r .outcome) (r .table) ⌝ }
+{
+    read_from(new(s))
 }

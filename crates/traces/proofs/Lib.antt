@@ -1,0 +1,6 @@
+pub mod OperatorLaws
+pub mod RankLaws
+pub mod MarkLaws
+pub mod NextLaws
+pub mod LeastLaws
+pub mod LimitLaws

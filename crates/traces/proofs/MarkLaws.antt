@@ -1,0 +1,248 @@
+-- Marks in bytes: what is put into one byte, what one operator passes on by its opcode, what a sweep over the rows makes of them, and
+-- sweeping until nothing changes, which is what the definition reaches by a fixed number of rounds. Assumes nothing.
+use mathlib.Core.Path.{_≡_, refl, sym, ap, subst, _∙_}
+use mathlib.Core.Bool.{Bool, true, false, cond, _||_}
+use mathlib.Core.List.{List, [], _∷_, map}
+use Prim.Native.Nat.{ℕ, zero, suc, _+_, _-_, _*_, _^_, _≤_, _<_}
+use native.Mathlib.Omega.{arith}
+use native.Mathlib.Decide.{decLt, ℕ-discrete}
+use native.Mathlib.Numerals.{add-one}
+use borrow.Author.Tests.{eq-eqb, ne-eqb}
+use lib.Dec.{eqb}
+use lib.Bits.{bitOr}
+use lib.ListN.{length, getD, set, length-set}
+use lib.Seq.{ext-getD, getD-set-same, getD-set-other, set-out}
+use Rattle.base.specs.Lists.{numbers, repeat}
+use Rattle.base.specs.Bits.{bit, word}
+use Rattle.base.proofs.ListLaws.{repeat-stays}
+use Rattle.base.proofs.NumberLaws.{values-at, values-same, values-length}
+use Rattle.base.proofs.BitLaws.{bit-or, bit-same, bit-other}
+use Rattle.base.proofs.WordLaws.{no-bit, word-bit}
+use Rattle.formula.specs.Table.{Operator}
+use Rattle.formula.specs.Rows.{operator-at, operators-of}
+use Rattle.tableau.specs.Saturation.{Subset, has, moves}
+use Rattle.tableau.specs.Promise.{table-of}
+use Rattle.profile.specs.Traces.{is-fix}
+use Rattle.coded.specs.Triples.{smaller}
+use Rattle.coded.specs.Marks.{Marks, weighs, bit-of, passed, mark, sweep, blank, reached}
+use Rattle.coded.proofs.TriplesLaws.{smaller-same}
+use Rattle.triples.specs.Promise.{Bits}
+use Rattle.traces.specs.Promise.{marks-of, fix-rank, Marked, Passed}
+use Rattle.traces.proofs.OperatorLaws.{decoded, is-5, is-6, is-7, is-8, is-fixpoint, is-leaf}
+use Rattle.traces.proofs.RankLaws.{fix-same}
+
+pub bit-weighs : (q : ℕ → Bool) (x : ℕ) → x < 8 → bit-of (weighs q) x ≡ q x
+bit-weighs q x h = values-at q 0 8 x false h ∙ ap q (omega arith)
+
+pub weighs-same : (q r : ℕ → Bool) → ((x : ℕ) → x < 8 → q x ≡ r x) → weighs q ≡ weighs r
+weighs-same q r h = values-same q r 0 8 (λ x i j. h x (omega arith))
+
+-- a byte without marks
+pub no-marks : (b : ℕ) → b ≡ 0 → weighs (bit b) ≡ blank
+no-marks b q = weighs-same (bit b) (λ x. false) (λ x h. ap (λ (w : ℕ). bit w x) q ∙ no-bit x)
+
+-- a byte with one mark
+pub one-bit : (k x : ℕ) → bit (2 ^ k) x ≡ eqb k x
+one-bit k x = go (ℕ-discrete x k)
+  where
+    go : Dec (x ≡ k) → bit (2 ^ k) x ≡ eqb k x
+    go (yes p) = ap (bit (2 ^ k)) p ∙ bit-same k ∙ sym (eq-eqb k x (sym p))
+    go (no p) = bit-other k x p ∙ sym (ne-eqb k x (λ q. p (sym q)))
+
+module _ (n : ℕ) (b : List ℕ) where
+  marks-length : length (marks-of n b) ≡ n
+  marks-length = values-length (λ e. weighs (bit (getD b e 0))) 0 n
+
+  pub marks-at : (i : ℕ) → i < n → getD (marks-of n b) i [] ≡ weighs (bit (getD b i 0))
+  marks-at i h =
+      values-at (λ e. weighs (bit (getD b e 0))) 0 n i [] h
+      ∙ ap (λ (e : ℕ). weighs (bit (getD b e 0))) {x = 0 + i} {y = i} (omega arith)
+
+  pub marks-same : (a : List ℕ) → ((i : ℕ) → i < n → getD b i 0 ≡ getD a i 0) → marks-of n b ≡ marks-of n a
+  marks-same a h =
+      values-same (λ e. weighs (bit (getD b e 0))) (λ e. weighs (bit (getD a e 0))) 0 n
+      (λ i k l. ap (λ (w : ℕ). weighs (bit w)) (h i (omega arith)))
+
+-- one byte stored
+marks-set : (n : ℕ) (b : List ℕ) (m v : ℕ) → m < length b → marks-of n (set b m v) ≡ set (marks-of n b) m (weighs (bit v))
+marks-set n b m v k =
+    ext-getD [] (marks-of n (set b m v)) (set (marks-of n b) m (weighs (bit v)))
+    (marks-length n (set b m v) ∙ sym (length-set (marks-of n b) m (weighs (bit v)) ∙ marks-length n b))
+    (λ i l. at i (subst (λ (j : ℕ). i < j) (marks-length n (set b m v)) l) (ℕ-discrete i m))
+  where
+    at : (i : ℕ) → i < n → Dec (i ≡ m) → getD (marks-of n (set b m v)) i [] ≡ getD (set (marks-of n b) m (weighs (bit v))) i []
+    at i l (yes e) =
+        marks-at n (set b m v) i l
+        ∙ ap (λ (w : ℕ). weighs (bit w)) (ap (λ (j : ℕ). getD (set b m v) j 0) e ∙ getD-set-same b m v 0 k)
+        ∙ sym
+        (ap (λ (j : ℕ). getD (set (marks-of n b) m (weighs (bit v))) j []) e
+        ∙ getD-set-same (marks-of n b) m (weighs (bit v)) [] (omega (arith, marks-length n b)))
+    at i l (no d) =
+        marks-at n (set b m v) i l
+        ∙ ap (λ (w : ℕ). weighs (bit w)) (getD-set-other b m i v 0 d)
+        ∙ sym (getD-set-other (marks-of n b) m i (weighs (bit v)) [] d ∙ marks-at n b i l)
+
+-- what `marked` does
+pub marked-one : (b : List ℕ) (m w : ℕ) → m < length b → Marked (m ∷ []) w b (set b m (bitOr (getD b m 0) w))
+marked-one b m w k n h = marks-set n b m (bitOr (getD b m 0) w) k ∙ at (decLt m n)
+  where
+    at : Dec (m < n) → set (marks-of n b) m (weighs (bit (bitOr (getD b m 0) w))) ≡ mark (m ∷ []) (weighs (bit w)) (marks-of n b)
+    at (yes l) =
+        ap (set (marks-of n b) m)
+        (weighs-same (bit (bitOr (getD b m 0) w)) (λ x. bit-of (getD (marks-of n b) m []) x || bit-of (weighs (bit w)) x)
+        (λ x hx.
+        let p : bit-of (getD (marks-of n b) m []) x ≡ bit (getD b m 0) x =
+        ap (λ (r : List Bool). bit-of r x) (marks-at n b m l) ∙ bit-weighs (bit (getD b m 0)) x hx in
+        let q = bit-weighs (bit w) x hx in
+        bit-or (getD b m 0) w x ∙ sym (λ i. p i || q i)))
+    at (no l) =
+        set-out (marks-of n b) m (weighs (bit (bitOr (getD b m 0) w))) (omega (arith, marks-length n b))
+        ∙ sym
+        (set-out (marks-of n b) m (weighs (λ x. bit-of (getD (marks-of n b) m []) x || bit-of (weighs (bit w)) x)) (omega (arith, marks-length n b)))
+
+-- what `passing` does, by the opcode
+module _ (op a e : ℕ) (p : Bool) (k : ℕ) (b r : List ℕ) where
+  abbrev here : ℕ
+  here = getD b e 0
+
+  abbrev With : (n : ℕ) → List ℕ → ℕ → Marks
+  With n ms w = mark ms (weighs (bit w)) (marks-of n b)
+
+  -- an operator that is no fixpoint passes on what it has
+  plain : (o : Operator) (ms : List ℕ) → decoded op a e ≡ o → moves o p ≡ ms → is-fix o ≡ false
+      → ((n : ℕ) → n ≤ 48 → marks-of n r ≡ With n ms here) → Passed (decoded op a e) p e k b r
+  unfolding passed
+  plain o ms q m f g n h l =
+      g n l
+      ∙ ap (λ (xs : List ℕ). With n xs here) (sym m)
+      ∙ ap (λ (x : List Bool). mark (moves o p) x (marks-of n b))
+      (sym (marks-at n b e h)
+      ∙ ap (λ (t : Bool). cond t (weighs (smaller (bit-of (getD (marks-of n b) e [])) (eqb k))) (getD (marks-of n b) e [])) (sym f))
+      ∙ ap (λ (d : Operator). mark (moves d p) (passed d k (getD (marks-of n b) e [])) (marks-of n b)) (sym q)
+
+  module _ (argument : ℕ) (ea : argument ≡ a) where
+    pub pass-5 : op ≡ 5 → Marked (argument ∷ []) here b r → Passed (decoded op a e) p e k b r
+    pass-5 o g =
+        plain (Operator.variable a) (a ∷ []) (is-5 op a e o) refl refl (λ n l. g n l ∙ ap (λ (m : ℕ). With n (m ∷ []) here) ea)
+
+    pub pass-6 : op ≡ 6 → (c : Bool) → p ≡ c → (m : ℕ) → m ≡ cond c a (e + 1) → Marked (m ∷ []) here b r → Passed (decoded op a e) p e k b r
+    pass-6 o c q m em g =
+        plain (Operator.pair true (e + 1) a) (m ∷ []) (is-6 op a e o) (ap (λ (t : Bool). cond t a (e + 1) ∷ []) q ∙ ap (λ (i : ℕ). i ∷ []) (sym em)) refl g
+
+    pub pass-7 : op ≡ 7 → (l : List ℕ) → Marked ((e + 1) ∷ []) here b l → Marked (argument ∷ []) here l r → Passed (decoded op a e) p e k b r
+    pass-7 o l f g =
+        plain (Operator.pair false (e + 1) a) ((e + 1) ∷ a ∷ []) (is-7 op a e o) refl refl
+        (λ n h.
+        g n h
+        ∙ ap (λ (v : Marks). mark (argument ∷ []) (weighs (bit here)) v) (f n h)
+        ∙ ap (λ (m : ℕ). With n ((e + 1) ∷ m ∷ []) here) ea)
+
+  -- nothing moves from a leaf or a next
+  pub pass-none : 0 < op → op ≤ 8 → (op ≡ 5 → ⊥) → (op ≡ 6 → ⊥) → (op ≡ 7 → ⊥) → ((n : ℕ) → n ≤ 48 → marks-of n r ≡ marks-of n b)
+      → Passed (decoded op a e) p e k b r
+  pass-none s h x y z g = go (ℕ-discrete op 8)
+    where
+      go : Dec (op ≡ 8) → Passed (decoded op a e) p e k b r
+      go (yes q) = plain (Operator.next (e + 1)) [] (is-8 op a e q) refl refl g
+      go (no d) = let (l, q) = is-leaf op a e s (omega arith) in plain (Operator.leaf l) [] q refl refl g
+
+  -- a fixpoint passes on the smaller of its own priority and of those that it has
+  pub pass-fix : 8 < op → op ≤ 10 → (rank one low : ℕ) → rank ≡ k → one ≡ 2 ^ rank → Bits low (smaller (bit here) (bit one))
+      → Marked ((e + 1) ∷ []) low b r → Passed (decoded op a e) p e k b r
+  unfolding passed
+  pass-fix o j rank one low er eo q g n h l =
+      let (gr, is) = is-fixpoint op a e o j in
+      let power : one ≡ 2 ^ k = eo ∙ ap (λ (i : ℕ). 2 ^ i) er in
+      let w : weighs (bit low) ≡ weighs (smaller (bit-of (getD (marks-of n b) e [])) (eqb k)) =
+      weighs-same (bit low) (smaller (bit-of (getD (marks-of n b) e [])) (eqb k))
+      (λ x hx.
+      q x hx
+      ∙ smaller-same (bit here) (bit one) (bit-of (getD (marks-of n b) e [])) (eqb k) x
+      (λ i hi. sym (ap (λ (s : List Bool). bit-of s i) (marks-at n b e h) ∙ bit-weighs (bit here) i hi))
+      (λ i hi. ap (λ (v : ℕ). bit v i) power ∙ one-bit k i)) in
+      g n l
+      ∙ ap (λ (s : List Bool). mark ((e + 1) ∷ []) s (marks-of n b)) w
+      ∙ ap (λ (d : Operator). mark (moves d p) (passed d k (getD (marks-of n b) e [])) (marks-of n b)) (sym is)
+
+-- a sweep, from subformula e on
+abbrev pub swept-from : List ℕ → (count e : ℕ) → Subset → List ℕ → Marks
+swept-from rows count e w b = sweep (operators-of rows e (count - e)) w e (fix-rank rows e) (marks-of count b)
+
+abbrev pub Sweeping : List ℕ → (count e choice : ℕ) → List ℕ → List ℕ → Type 0
+Sweeping rows count e choice b₀ b =
+    (w : Subset) → choice ≡ word w → sweep (table-of rows count) w 0 0 (marks-of count b₀) ≡ swept-from rows count e w b
+
+module _ (rows : List ℕ) (count choice : ℕ) (b₀ : List ℕ) where
+  pub swept-start : Sweeping rows count 0 choice b₀ b₀
+  swept-start w q = ap (λ (k : ℕ). sweep (operators-of rows 0 k) w 0 0 (marks-of count b₀)) {x = count} {y = count - 0} (omega arith)
+
+  pub swept-more : (e k : ℕ) (b r : List ℕ) → e < count → count ≤ 48 → 0 < getD rows e 0 → getD rows e 0 ≤ 10 → k ≡ fix-rank rows e
+      → Sweeping rows count e choice b₀ b → Passed (operator-at rows e) (bit choice e) e k b r → Sweeping rows count (e + 1) choice b₀ r
+  unfolding passed
+  swept-more e k b r h few s j ek p q w c =
+      let o = operator-at rows e in
+      let right : bit choice e ≡ has w e = ap (λ (x : ℕ). bit x e) c ∙ word-bit w e in
+      let one : marks-of count r ≡ mark (moves o (has w e)) (passed o (fix-rank rows e) (getD (marks-of count b) e [])) (marks-of count b) =
+      q count h few ∙ (λ i. mark (moves o (right i)) (passed o (ek i) (getD (marks-of count b) e [])) (marks-of count b)) in
+      p w c
+      ∙ ap (λ (n : ℕ). sweep (operators-of rows e n) w e (fix-rank rows e) (marks-of count b)) {x = count - e} {y = suc (count - (e + 1))} (omega arith)
+      ∙ ap (sweep (operators-of rows (suc e) (count - (e + 1))) w (suc e) (cond (is-fix o) (suc (fix-rank rows e)) (fix-rank rows e))) (sym one)
+      ∙ ap (λ (t : Bool). sweep (operators-of rows (suc e) (count - (e + 1))) w (suc e) (cond t (suc (fix-rank rows e)) (fix-rank rows e)) (marks-of count r))
+      (fix-same (getD rows e 0) (getD rows (48 + e) 0) e s j)
+      ∙ ap (λ (i : ℕ). sweep (operators-of rows i (count - (e + 1))) w i (fix-rank rows i) (marks-of count r)) (sym (add-one e))
+
+  pub swept-end : (e : ℕ) (b : List ℕ) → count ≤ e → Sweeping rows count e choice b₀ b
+      → (w : Subset) → choice ≡ word w → marks-of count b ≡ sweep (table-of rows count) w 0 0 (marks-of count b₀)
+  unfolding passed
+  swept-end e b h p w c =
+      sym (p w c ∙ ap (λ (k : ℕ). sweep (operators-of rows e k) w e (fix-rank rows e) (marks-of count b)) {x = count - e} {y = 0} (omega arith))
+
+-- sweeps until nothing changes
+abbrev pub Reaching : List ℕ → (count choice f left : ℕ) → List ℕ → Type 0
+Reaching rows count choice f left b =
+    (w : Subset) → choice ≡ word w
+    → reached (table-of rows count) w f ≡ repeat left (sweep (table-of rows count) w 0 0) (marks-of count b)
+
+blanks : {A : Type 0} (g : ℕ → A) (k n : ℕ) → map (λ (a : A). blank) (map g (numbers k n)) ≡ map (λ e. blank) (numbers k n)
+blanks g k zero = refl
+blanks g k (suc n) = ap (λ (l : Marks). blank ∷ l) (blanks g (suc k) n)
+
+module _ (rows : List ℕ) (count choice f : ℕ) where
+  -- at the start, priority none at f and nothing elsewhere
+  start-marks : (z : List ℕ) → f < length z → ((i : ℕ) → i < count → getD z i 0 ≡ 0)
+      → marks-of count (set z f 128) ≡ set (map (λ (o : Operator). blank) (table-of rows count)) f (weighs (eqb 7))
+  start-marks z k none =
+      marks-set count z f 128 k
+      ∙ ap (λ (r : List Bool). set (marks-of count z) f r) (weighs-same (bit 128) (eqb 7) (λ x hx. one-bit 7 x))
+      ∙ ap (λ (v : Marks). set v f (weighs (eqb 7)))
+      (values-same (λ e. weighs (bit (getD z e 0))) (λ e. blank) 0 count (λ i j l. no-marks (getD z i 0) (none i (omega arith)))
+      ∙ sym (blanks (operator-at rows) 0 count))
+
+  pub reach-start : (z : List ℕ) → f < length z → ((i : ℕ) → i < count → getD z i 0 ≡ 0) → Reaching rows count choice f (8 * count) (set z f 128)
+  unfolding passed
+  reach-start z k none w c =
+      ap (λ (n : ℕ). repeat (8 * n) (sweep (table-of rows count) w 0 0) (set (map (λ (o : Operator). blank) (table-of rows count)) f (weighs (eqb 7))))
+      (values-length (operator-at rows) 0 count)
+      ∙ ap (repeat (8 * count) (sweep (table-of rows count) w 0 0)) (sym (start-marks z k none))
+
+  -- one sweep: b becomes r
+  abbrev Sweep : List ℕ → List ℕ → Type 0
+  Sweep b r = (w : Subset) → choice ≡ word w → marks-of count r ≡ sweep (table-of rows count) w 0 0 (marks-of count b)
+
+  pub reach-more : (left : ℕ) (b r : List ℕ) → 0 < left → Reaching rows count choice f left b → Sweep b r → Reaching rows count choice f (left - 1) r
+  reach-more zero b r h e q w c = absurd (omega arith)
+  reach-more (suc left) b r h e q w c =
+      let s = sweep (table-of rows count) w 0 0 in
+      e w c
+      ∙ ap (repeat left s) (sym (q w c))
+      ∙ ap (λ (k : ℕ). repeat k s (marks-of count r)) {x = left} {y = suc left - 1} (omega arith)
+
+  pub reach-still : (left : ℕ) (b r : List ℕ) → Reaching rows count choice f left b → Sweep b r → ((i : ℕ) → i < count → getD r i 0 ≡ getD b i 0)
+      → (w : Subset) → choice ≡ word w → marks-of count b ≡ reached (table-of rows count) w f
+  reach-still left b r e q same w c =
+      sym (e w c ∙ repeat-stays left (sweep (table-of rows count) w 0 0) (marks-of count b) (sym (q w c) ∙ marks-same count r b same))
+
+  pub reach-end : (left : ℕ) (b : List ℕ) → left ≤ 0 → Reaching rows count choice f left b
+      → (w : Subset) → choice ≡ word w → marks-of count b ≡ reached (table-of rows count) w f
+  reach-end zero b h e w c = sym (e w c)
+  reach-end (suc left) b h e w c = absurd (omega arith)

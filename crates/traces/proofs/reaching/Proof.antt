@@ -1,0 +1,83 @@
+-- `traces::reaching` passes on until nothing changes, which later rounds then do not either. The invariant: the rounds left lead to the
+-- definition's marks.
+use Prim.Native.Nat.{ℕ, _≤_}
+use native.Mathlib.Omega.{arith}
+use borrow.Author.Needs.{needs}
+use lib.ListN.{replicate, getD-replicate, length-replicate}
+use Rattle.traces.proofs.MarkLaws.{Reaching, reach-start, reach-more, reach-still, reach-end}
+use Rattle.traces.proofs.reaching.Statement.{statement}
+use Rattle.traces.proofs.reaching.Tie as tie
+
+abbrev Inv-loop : tie.InvT-loop
+Inv-loop rows count fix choice f w₀ left₀ w left = (left ≤ 384) × Reaching rows count choice f left w
+
+abbrev μ-loop : tie.MeasureT-loop
+μ-loop rows count fix choice f w₀ left₀ w left = left
+
+array-write-w : tie.Need-array-write-w Inv-loop μ-loop
+array-write-w c = search needs
+
+mul-left : tie.Need-mul-left Inv-loop μ-loop
+mul-left c = omega (arith, c .pre .0 .formed .few)
+
+loop-holds : tie.Need-loop-holds Inv-loop μ-loop
+loop-holds c = (
+  omega (arith, c .pre .0 .formed .few),
+  reach-start (c .args .rows .now) (c .args .count) (c .args .choice) (c .args .f) (replicate 48 0)
+      (omega (arith, length-replicate {A = ℕ} 48 0))
+      (λ i h. getD-replicate 48 i 0 0 (omega (arith, c .pre .0 .formed .few))),
+)
+
+passed-requires : tie.Need-passed-requires Inv-loop μ-loop
+passed-requires c κs = search needs
+
+same48-requires : tie.Need-same48-requires Inv-loop μ-loop
+same48-requires c κs = search needs
+
+returns : tie.Need-returns Inv-loop μ-loop
+returns c =
+    let start = c .before .before .before .before .before .before .before in
+    let loop = c .before .before .before .before .before .before .loop in
+    reach-still (start .args .rows .now) (start .args .count) (start .args .choice) (start .args .f) (loop .left) (loop .w)
+    (c .before .before .before .before .passed .result) (loop .inv .1) (c .before .before .before .before .passed .ensures)
+    (λ i h. c .before .same48 .ensures (c .if1 .taken) i (omega (arith, start .pre .0 .formed .few)))
+
+sub-left : tie.Need-sub-left Inv-loop μ-loop
+sub-left c = search needs
+
+loop-less : tie.Need-loop-less Inv-loop μ-loop
+loop-less c = search needs
+
+loop-again : tie.Need-loop-again Inv-loop μ-loop
+loop-again c =
+    let start = c .before .before .before .before .before .before .before in
+    let loop = c .before .before .before .before .before .before .loop in (
+      omega arith,
+      reach-more (start .args .rows .now) (start .args .count) (start .args .choice) (start .args .f) (loop .left) (loop .w)
+          (c .before .before .before .before .passed .result) (omega arith) (loop .inv .1)
+          (c .before .before .before .before .passed .ensures),
+    )
+
+returns-2 : tie.Need-returns-2 Inv-loop μ-loop
+returns-2 c =
+    let start = c .before .before in
+    let loop = c .before .loop in
+    reach-end (start .args .rows .now) (start .args .count) (start .args .choice) (start .args .f) (loop .left) (loop .w)
+    (omega arith) (loop .inv .1)
+
+pub reaching-spec : {M : Type 1} → statement M
+reaching-spec =
+    tie.close
+    (tie.spec
+    Inv-loop
+    μ-loop
+    array-write-w
+    mul-left
+    loop-holds
+    passed-requires
+    same48-requires
+    returns
+    sub-left
+    loop-less
+    loop-again
+    returns-2)

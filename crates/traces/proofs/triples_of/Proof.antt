@@ -1,0 +1,44 @@
+-- `traces::triples_of` goes over the rows. The invariant: the nexts passed have their rows, and the rows after these are empty.
+use Prim.Native.Nat.{_-_, _≤_}
+use native.Mathlib.Omega.{arith}
+use borrow.Author.Needs.{needs}
+use lib.ListN.{getD-replicate}
+use Rattle.traces.specs.Promise.{Done-to}
+use Rattle.traces.proofs.NextLaws.{all-done}
+use Rattle.traces.proofs.triples_of.Statement.{statement}
+use Rattle.traces.proofs.triples_of.Tie as tie
+
+abbrev Inv-loop : tie.InvT-loop
+Inv-loop rows count r choice node t₀ e₀ t e = (e ≤ count) × Done-to rows count choice node e t
+
+abbrev μ-loop : tie.MeasureT-loop
+μ-loop rows count r choice node t₀ e₀ t e = count - e
+
+loop-holds : tie.Need-loop-holds Inv-loop μ-loop
+loop-holds c = (omega arith, ((λ v w nv cw i d h. absurd (omega arith)), λ i h k. getD-replicate 144 i 0 0 k))
+
+with-row-requires : tie.Need-with-row-requires Inv-loop μ-loop
+with-row-requires c κs =
+    let start = c .before .before in
+    (start .pre .0, (start .pre .1, (c .loop-test .taken, c .before .loop .inv .1)))
+
+add-e : tie.Need-add-e Inv-loop μ-loop
+add-e c = search needs
+
+loop-less : tie.Need-loop-less Inv-loop μ-loop
+loop-less c = search needs
+
+loop-again : tie.Need-loop-again Inv-loop μ-loop
+loop-again c = (omega arith, c .with-row .ensures)
+
+returns : tie.Need-returns Inv-loop μ-loop
+returns c =
+    let start = c .before .before in
+    let loop = c .before .loop in
+    all-done (start .args .rows .now) (start .args .count) (start .args .choice) (start .args .node) (loop .t) (start .pre .0)
+    (λ v w nv cw i d h. loop .inv .1 .0 v w nv cw i d (omega arith))
+
+pub triples-of-spec : {M : Type 1} → statement M
+triples-of-spec =
+    tie.close
+    (tie.spec Inv-loop μ-loop loop-holds with-row-requires add-e loop-less loop-again returns)

@@ -1,0 +1,160 @@
+-- Sets of triples in bytes: filled cell by cell, compared byte by byte, joined until a lap adds nothing. Assumes nothing.
+use mathlib.Core.Path.{_≡_, refl, sym, ap, subst, subst⁻¹, _∙_}
+use mathlib.Core.Bool.{Bool, true, false, _&&_, _||_}
+use mathlib.Core.List.{List}
+use Prim.Native.Nat.{ℕ, zero, suc, _+_, _-_, _*_, _^_, _≤_, _<_}
+use native.Mathlib.Omega.{arith}
+use native.Mathlib.Nat.{mul-le-mul-right}
+use native.Mathlib.Decide.{ℕ-discrete}
+use native.Mathlib.Numerals.{add-one}
+use lib.Dec.{T}
+use lib.Bits.{bitAnd}
+use lib.ListN.{length, getD, set}
+use lib.Seq.{getD-set-same, getD-set-other}
+use Rattle.base.specs.Lists.{repeat}
+use Rattle.base.specs.Bits.{bit}
+use Rattle.base.proofs.BoolLaws.{of-T, to-T}
+use Rattle.base.proofs.ListLaws.{repeat-stays}
+use Rattle.base.proofs.WordLaws.{no-bit}
+use Rattle.coded.specs.Triples.{Triples, some, holds, same-triples, join, either, lap, laps, rejecting}
+use Rattle.coded.proofs.TriplesLaws.{Test, some-in, some-same, holds-those, those-same, join-those, either-those, same-those, other-those, same-triples-sound}
+use Rattle.triples.specs.Promise.{bytes, bytes-from, bits, triples-in, triples-at, Bits, by-way, joined-test, Rows, Same-row, Decides}
+use Rattle.triples.proofs.ByteLaws.{met, met-none, met-some}
+
+-- row f is as the test says in its first k columns
+abbrev pub Row-to : Test → List ℕ → (f k : ℕ) → Type 0
+Row-to q t f k = (x g : ℕ) → x < 8 → g < k → bits (bytes t) f x g ≡ q f x g
+
+module _ (n : ℕ) (q : Test) (t : List ℕ) (f : ℕ) where
+  pub rows-set : (g v : ℕ) → n ≤ 12 → Rows n q t f → Rows n q (set t (f * 12 + g) v) f
+  rows-set g v h r i x j a b d =
+      ap (λ (w : ℕ). bit w x) (getD-set-other t (f * 12 + g) (i * 12 + j) v 0 (λ e. omega arith)) ∙ r i x j a b d
+
+  pub row-set : (g v : ℕ) → f * 12 + g < length t → Row-to q t f g → Bits v (λ x. q f x g) → Row-to q (set t (f * 12 + g) v) f (g + 1)
+  row-set g v h r w x j a b = at (ℕ-discrete j g)
+    where
+      at : Dec (j ≡ g) → bits (bytes (set t (f * 12 + g) v)) f x j ≡ q f x j
+      at (yes e) =
+          subst⁻¹ (λ (k : ℕ). bits (bytes (set t (f * 12 + g) v)) f x k ≡ q f x k) e
+          (ap (λ (u : ℕ). bit u x) (getD-set-same t (f * 12 + g) v 0 h) ∙ w x a)
+      at (no d) =
+          let away : f * 12 + j ≡ f * 12 + g → ⊥ = λ e. d (omega arith) in
+          ap (λ (u : ℕ). bit u x) (getD-set-other t (f * 12 + g) (f * 12 + j) v 0 away) ∙ r x j a (omega arith)
+
+  pub rows-more : Rows n q t f → Row-to q t f n → Rows n q t (f + 1)
+  rows-more r s i x j a b d = at (ℕ-discrete i f)
+    where
+      at : Dec (i ≡ f) → bits (bytes t) i x j ≡ q i x j
+      at (yes e) = subst⁻¹ (λ (k : ℕ). bits (bytes t) k x j ≡ q k x j) e (s x j b d)
+      at (no e) = r i x j (omega arith) b d
+
+-- all rows filled
+pub joined-all : (n : ℕ) (s a b r : List ℕ) → Rows n (joined-test s a b n) r n
+    → triples-in n r ≡ either n (triples-in n s) (join n (triples-in n a) (triples-in n b))
+joined-all n s a b r h =
+    those-same n (bits (bytes r)) (joined-test s a b n) h
+    ∙ sym (ap (either n (triples-in n s)) (join-those n (bits (bytes a)) (bits (bytes b))) ∙ either-those n (bits (bytes s)) (by-way a b n))
+
+pub joined-none : (n : ℕ) (z a b : List ℕ) → n ≤ 12 → ((i : ℕ) → i < 144 → getD z i 0 ≡ 0)
+    → either n (triples-in n z) (join n (triples-in n a) (triples-in n b)) ≡ join n (triples-in n a) (triples-in n b)
+joined-none n z a b h none =
+    ap (either n (triples-in n z)) (join-those n (bits (bytes a)) (bits (bytes b)))
+    ∙ either-those n (bits (bytes z)) (by-way a b n)
+    ∙ those-same n (joined-test z a b n) (by-way a b n)
+    (λ f x g hf hx hg. ap (λ (t : Bool). t || by-way a b n f x g) (ap (λ (w : ℕ). bit w x) (none (f * 12 + g) (omega arith)) ∙ no-bit x))
+    ∙ sym (join-those n (bits (bytes a)) (bits (bytes b)))
+
+-- bytes at a place and from 0 on
+pub triples-copied : (n : ℕ) (l t : List ℕ) (at : ℕ) → n ≤ 12 → ((i : ℕ) → i < 144 → getD t i 0 ≡ getD l (at + i) 0)
+    → triples-in n t ≡ triples-at n l at
+triples-copied n l t at k h =
+    those-same n (bits (bytes t)) (bits (bytes-from l at)) (λ f x g hf hx hg. ap (λ (w : ℕ). bit w x) (h (f * 12 + g) (omega arith)))
+
+pub triples-at-0 : (n : ℕ) (l : List ℕ) → n ≤ 12 → triples-in n l ≡ triples-at n l 0
+triples-at-0 n l h = triples-copied n l l 0 h (λ i k. ap (λ (j : ℕ). getD l j 0) (omega arith))
+
+pub copied-more : (l t : List ℕ) (at i v : ℕ) → i < length t → ((j : ℕ) → j < i → getD t j 0 ≡ getD l (at + j) 0) → v ≡ getD l (at + i) 0
+    → (j : ℕ) → j < i + 1 → getD (set t i v) j 0 ≡ getD l (at + j) 0
+copied-more l t at i v h r e j k = go (ℕ-discrete j i)
+  where
+    go : Dec (j ≡ i) → getD (set t i v) j 0 ≡ getD l (at + j) 0
+    go (yes q) = subst⁻¹ (λ (k : ℕ). getD (set t i v) k 0 ≡ getD l (at + k) 0) q (getD-set-same t i v 0 h ∙ e)
+    go (no q) = getD-set-other t i j v 0 q ∙ r j (omega arith)
+
+-- the same or not
+pub decides-no : {P : Type 0} → (P → ⊥) → Decides false P
+decides-no d = record { holds = λ e. absurd (subst T (sym e) tt); fails = λ e. d }
+
+pub decides-yes : {P : Type 0} → P → Decides true P
+decides-yes p = record { holds = λ e. p; fails = λ e q. subst T e tt }
+
+module _ (n : ℕ) (l : List ℕ) (at : ℕ) (t : List ℕ) where
+  pub all-same : ((f : ℕ) → f < n → Same-row l at t f n) → true ≡ same-triples (triples-at n l at) (triples-in n t)
+  all-same h = sym (same-those n (bits (bytes-from l at)) (bits (bytes t)) (λ f x g hf hx hg. h f hf g hg x hx))
+
+  pub not-same : (f : ℕ) → f < n → (Same-row l at t f n → ⊥) → false ≡ same-triples (triples-at n l at) (triples-in n t)
+  not-same f hf d = sym (other-those n (bits (bytes-from l at)) (bits (bytes t)) (λ h. d (λ g hg x hx. h f x g hf hx hg)))
+
+-- laps
+module _ (n : ℕ) (a : List ℕ) where
+  abbrev base : Triples
+  base = triples-in n a
+
+  -- s is on the way to the laps, with that many rounds left
+  abbrev pub On-way : List ℕ → ℕ → Type 0
+  On-way s left = laps n base ≡ repeat left (lap n base) (triples-in n s)
+
+  -- m is s with one lap more
+  abbrev pub Lapped : List ℕ → List ℕ → Type 0
+  Lapped s m = triples-in n m ≡ either n (triples-in n s) (join n (triples-in n s) base)
+
+  pub laps-start : On-way a (8 * (n * n))
+  unfolding laps
+  laps-start = refl
+
+  pub laps-more : (s m : List ℕ) (left : ℕ) → 0 < left → On-way s left → Lapped s m → On-way m (left - 1)
+  unfolding lap
+  laps-more s m (suc left) h e q =
+      e
+      ∙ ap (repeat left (lap n base)) (sym q)
+      ∙ ap (λ (k : ℕ). repeat k (lap n base) (triples-in n m)) {x = left} {y = suc left - 1} (omega arith)
+  laps-more s m zero h e q = absurd (omega arith)
+
+  pub laps-still : (s m : List ℕ) (left : ℕ) → On-way s left → Lapped s m → n ≤ 12 → true ≡ same-triples (triples-at n m 0) (triples-in n s)
+      → triples-in n s ≡ laps n base
+  unfolding lap
+  laps-still s m left e q h same =
+      let still : triples-in n m ≡ triples-in n s =
+      triples-at-0 n m h ∙ same-triples-sound (triples-at n m 0) (triples-in n s) (to-T (same-triples (triples-at n m 0) (triples-in n s)) (sym same)) in
+      sym (e ∙ repeat-stays left (lap n base) (triples-in n s) (sym q ∙ still))
+
+  pub laps-end : (s : List ℕ) (left : ℕ) → left ≤ 0 → On-way s left → triples-in n s ≡ laps n base
+  laps-end s zero h e = sym e
+  laps-end s (suc left) h e = absurd (omega arith)
+
+pub square : (n : ℕ) → n ≤ 12 → n * n ≤ 144
+square n h = omega (arith, mul-le-mul-right n h)
+
+-- rejecting, by the diagonal of the laps
+abbrev pub diagonal : List ℕ → (mask : ℕ) → ℕ → Bool
+diagonal s mask f = met (bytes s (f * 12 + f)) mask
+
+module _ (n mask : ℕ) (a : Triples) (s : List ℕ) (e : triples-in n s ≡ laps n a) where
+  pub rejecting-diagonal : rejecting (bit mask) n a ≡ some n (diagonal s mask)
+  unfolding rejecting
+  rejecting-diagonal =
+      ap (λ (l : Triples). some n (λ f. some 8 (λ x. bit mask x && holds l f x f))) (sym e)
+      ∙ some-same n (λ f. some 8 (λ x. bit mask x && holds (triples-in n s) f x f)) (diagonal s mask)
+      (λ f hf.
+      some-same 8 (λ x. bit mask x && holds (triples-in n s) f x f) (λ x. bit mask x && bits (bytes s) f x f)
+      (λ x hx. ap (λ (t : Bool). bit mask x && t) (holds-those n (bits (bytes s)) f x f hf hx hf)))
+
+  pub rejecting-found : (f : ℕ) → f < n → bytes s (f * 12 + f) < 2 ^ 8 → (bitAnd (bytes s (f * 12 + f)) mask ≡ 0 → ⊥) → true ≡ rejecting (bit mask) n a
+  rejecting-found f h b d =
+      sym
+      (rejecting-diagonal
+      ∙ of-T (some n (diagonal s mask)) (some-in n (diagonal s mask) f h (to-T (diagonal s mask f) (met-some (bytes s (f * 12 + f)) mask b d))))
+
+pub diagonal-more : (s : List ℕ) (mask f : ℕ) → some f (diagonal s mask) ≡ false → bitAnd (bytes s (f * 12 + f)) mask ≡ 0
+    → some (f + 1) (diagonal s mask) ≡ false
+diagonal-more s mask f h e = rw add-one (cc (h, met-none (bytes s (f * 12 + f)) mask e))
