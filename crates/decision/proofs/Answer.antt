@@ -56,7 +56,7 @@ fitting : {N M workspace buffer : ℕ} {t : Table} {o : Verdict} → Decided N M
 fitting d f = after (after (after (after (after d (f .capacity)) (f .workspace-fits)) (f .buffer-fits)) (f .nodes-fit)) (f .profiles-fit)
 
 module _ (bytes : List ℕ) (f : Formula) (reads : parse bytes ≡ Reading.accepted f) where
-  witness-holds : {stem cycle : ℕ} {letters : List ℕ} → Witness (table f) stem cycle letters → meets (lasso letters stem) f ≡ true
+  pub witness-holds : {stem cycle : ℕ} {letters : List ℕ} → Witness (table f) stem cycle letters → meets (lasso letters stem) f ≡ true
   witness-holds w =
       subst⁻¹ (λ (c : Lasso). meets c f ≡ true) (λ i. lasso (w .letters-are i) (w .stem-is i))
       (cycle-meets f (parse-guarded bytes f reads) (parse-limited bytes f reads .signals) (w .leads) (w .accepted))

@@ -2,3 +2,9 @@ pub mod Cases
 pub mod WitnessLaws
 pub mod VerdictLaws
 pub mod Answer
+pub mod ChainLaws
+pub mod StemLaws
+pub mod TryLaws
+pub mod ConcludeLaws
+pub mod SettleLaws
+pub mod SearchedLaws

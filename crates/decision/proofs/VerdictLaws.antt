@@ -67,7 +67,7 @@ module _ {Question : Type 0} (code : ℕ) (After : Verdict → Type 0) (o : Verd
 asked-le : (m n code : ℕ) (After : Verdict → Type 0) (o : Verdict) → After o → Asked (m ≤ n) code After (cond (leb m n) o (Verdict.refused code))
 asked-le m n code After o = asked code After o (leb m n) (leb→le m n) (le→leb m n)
 
-capacity-of : (N M : ℕ) → T (between 1 1024 N && between 1 4096 M) → Capacity N M
+pub capacity-of : (N M : ℕ) → T (between 1 1024 N && between 1 4096 M) → Capacity N M
 capacity-of N M h =
     let p = and-left (between 1 1024 N) (between 1 4096 M) h in
     let q = and-right (between 1 1024 N) (between 1 4096 M) h in
@@ -78,7 +78,7 @@ capacity-of N M h =
       profiles-fit = leb→le M 4096 (and-right (leb 1 M) (leb M 4096) q);
     }
 
-capacity-in : (N M : ℕ) → Capacity N M → T (between 1 1024 N && between 1 4096 M)
+pub capacity-in : (N M : ℕ) → Capacity N M → T (between 1 1024 N && between 1 4096 M)
 capacity-in N M c =
     and-both (between 1 1024 N) (between 1 4096 M)
     (and-both (leb 1 N) (leb N 1024) (le→leb 1 N (c .some-nodes)) (le→leb N 1024 (c .nodes-fit)))

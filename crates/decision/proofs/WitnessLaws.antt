@@ -39,7 +39,7 @@ witness-length w =
     ∙ omega (arith, length-append (w .there) (w .around), w .stem-is, w .cycle-is)
 
 -- the stem to a node is the way that the node comes with
-stem-of : (ns : List (Item Transition Subset)) → Distinct ns → {x : Item Transition Subset} → List·Memᴰ x ns → stem-to (x .at) ns ≡ x .way
+pub stem-of : (ns : List (Item Transition Subset)) → Distinct ns → {x : Item Transition Subset} → List·Memᴰ x ns → stem-to (x .at) ns ≡ x .way
 stem-of [] d m = absurd (List·Memᴰ·not-nil m)
 stem-of (n ∷ ns) (Distinct.more f d) {x} m =
     by-test (same-subset (x .at) (n .at)) (λ b. cond b (n .way) (stem-to (x .at) ns) ≡ x .way)

@@ -50,10 +50,10 @@ decide N M t =
 abbrev pub between : ℕ → ℕ → ℕ → Bool
 between low high n = leb low n && leb n high
 
-abbrev pub lent : (N M workspace buffer : ℕ) → Formula → Verdict
-unfolding table decide
-lent N M workspace buffer f =
-    let decided = decide N M (table f) in
+abbrev pub lent : (N M workspace buffer : ℕ) → Table → Verdict
+unfolding decide
+lent N M workspace buffer t =
+    let decided = decide N M t in
     let third = cond (leb (N + M) buffer) decided (Verdict.refused 13) in
     let second = cond (leb (8 * N + 192 * M) workspace) third (Verdict.refused 12) in
     cond (between 1 1024 N && between 1 4096 M) second (Verdict.refused 11)
@@ -61,7 +61,7 @@ lent N M workspace buffer f =
 abbrev pub after-reading : (N M workspace buffer : ℕ) → Reading Formula → Verdict
 unfolding table decide
 after-reading N M workspace buffer (Reading.refused code place) = Verdict.unread code place
-after-reading N M workspace buffer (Reading.accepted f) = lent N M workspace buffer f
+after-reading N M workspace buffer (Reading.accepted f) = lent N M workspace buffer (table f)
 
 -- the lengths of the lent workspace and witness buffer, and the formula's bytes
 unfoldable pub verdict : (N M workspace buffer : ℕ) → List ℕ → Verdict

@@ -192,7 +192,7 @@ pub record Expanding (rows : List ℕ) (count from known capacity : ℕ) (area�
 pub expand-start : (rows : List ℕ) (count from known capacity : ℕ) (area : List ℕ) → Expanding rows count from known capacity area known 0 area
 expand-start rows count from known capacity area = record { is = λ l v a h s e n. h }
 
-at-sized : (count : ℕ) (l : List Subset) (i : ℕ) → Sized count l → i < length l → length (getD l i []) ≡ count
+pub at-sized : (count : ℕ) (l : List Subset) (i : ℕ) → Sized count l → i < length l → length (getD l i []) ≡ count
 at-sized count [] i s h = absurd (omega arith)
 at-sized count (u ∷ l) zero s h = s u (List·Memᴰ·head refl)
 at-sized count (u ∷ l) (suc i) s h = at-sized count l i (λ x m. s x (List·Memᴰ·tail m)) (omega arith)

@@ -44,7 +44,7 @@ words-at-get a j (suc n) zero h = ap (λ (k : ℕ). eight a (8 * k)) {x = j} {y 
 words-at-get a j (suc n) (suc i) h =
     words-at-get a (suc j) n i (omega arith) ∙ ap (λ (k : ℕ). eight a (8 * k)) {x = suc j + i} {y = j + suc i} (omega arith)
 
-eight-same : (a b : List ℕ) (at : ℕ) → ((k : ℕ) → k < at + 8 → getD b k 0 ≡ getD a k 0) → eight b at ≡ eight a at
+pub eight-same : (a b : List ℕ) (at : ℕ) → ((k : ℕ) → k < at + 8 → getD b k 0 ≡ getD a k 0) → eight b at ≡ eight a at
 eight-same a b at f =
     rw (
       f at (omega arith),
@@ -57,7 +57,7 @@ eight-same a b at f =
       f (at + 7) (omega arith),
     )
 
-words-same : (a b : List ℕ) (j n : ℕ) → ((k : ℕ) → k < 8 * (j + n) → getD b k 0 ≡ getD a k 0) → words-at b j n ≡ words-at a j n
+pub words-same : (a b : List ℕ) (j n : ℕ) → ((k : ℕ) → k < 8 * (j + n) → getD b k 0 ≡ getD a k 0) → words-at b j n ≡ words-at a j n
 words-same a b j zero f = refl
 words-same a b j (suc n) f =
     rw (eight-same a b (8 * j) (λ k h. f k (omega arith)), words-same a b (suc j) n (λ k h. f k (omega arith)))

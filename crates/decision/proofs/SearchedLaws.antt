@@ -1,0 +1,232 @@
+-- The nodes and then the profiles in the workspace: what the two searches promise, put together. The nodes stand at the beginning of the
+-- workspace and the shelf of profiles behind them, so the search of profiles leaves the nodes as they are; both leave all behind the
+-- shelf. The counts are K and P, or one more than there is room for. Assumes nothing.
+use mathlib.Core.Path.{_≡_, sym, ap, subst, subst⁻¹, _∙_}
+use mathlib.Core.List.{List, _++_, map}
+use Prim.Native.Nat.{ℕ, _+_, _*_, _-_, _≤_, _<_}
+use native.Mathlib.Omega.{arith}
+use lib.ListN.{length, length-append, length-map, length-take, length-drop, getD, take, drop}
+use lib.Seq.{getD-append-add, getD-drop, ext-getD}
+use Rattle.base.specs.Lists.{gather}
+use Rattle.base.specs.Bits.{word}
+use Rattle.base.specs.Search.{Item}
+use Rattle.formula.specs.Table.{Table}
+use Rattle.tableau.specs.Saturation.{Subset}
+use Rattle.tableau.specs.Transition.{Transition}
+use Rattle.tableau.specs.Nodes.{operands, nodes}
+use Rattle.tableau.specs.Promise.{table-of}
+use Rattle.tableau.specs.Area.{bytes8, Holds, reachable, Sized}
+use Rattle.tableau.proofs.NodeLaws.{nodes-first}
+use Rattle.tableau.proofs.LoopLaws.{table-length}
+use Rattle.tableau.proofs.AreaLaws.{stored-length}
+use Rattle.tableau.proofs.NodeReads.{reachable-sized, Kept, nodes-kept, kept-at, kept-same}
+use Rattle.profile.specs.Profiles as literal
+use Rattle.coded.specs.Runs.{same-profile, longer, profiles-from, ones, profiles}
+use Rattle.coded.proofs.NodeNumbers.{sets}
+use Rattle.coded.proofs.AgreeLaws.{Agrees, agrees}
+use Rattle.traces.specs.Promise.{Limited, Ranks-of}
+use Rattle.traces.specs.declared.Ranks.{Ranks}
+use Rattle.runs.specs.Stored.{stored, Lent, Grown}
+use Rattle.runs.specs.Singles.{Given, nodes-in}
+use Rattle.runs.specs.declared.Shelf.{Shelf}
+use Rattle.runs.proofs.SpreadLaws.{spread-length}
+use Rattle.runs.proofs.RecordLaws.{changed-then}
+use Rattle.runs.proofs.GrowLaws.{grown-longer}
+use Rattle.runs.proofs.SingleLaws.{nodes-in-are, node-sets}
+use Rattle.decision.specs.Promise.{node-count, profile-count}
+use Rattle.decision.specs.Searched.{Decoded, Profiled, Answers, concluded, Within, Searched, Lends}
+use Rattle.decision.specs.declared.Verdict as code
+use Rattle.decision.specs.declared.Verdict.the-variants.{Refused}
+use Rattle.decision.proofs.SettleLaws.{searched-14, searched-15, searched-on}
+
+-- The profiles of one transition, and then all.
+module _ (t : Table) (vs : List Subset) {s : Shelf} {a b : List ℕ} {one : ℕ} (g : Grown s 0 a one b (ones t vs)) where
+  pub profiles-full : s .capacity < one → (fuel : ℕ) → Grown s 0 a one b (profiles fuel t vs)
+  unfolding profiles profiles-from
+  profiles-full h fuel =
+      grown-longer g h (spread-length same-profile (longer (length (operands t)) (ones t vs)) fuel 0 (ones t vs))
+
+  pub profiles-all : {r : ℕ} {d : List ℕ} → one ≤ s .capacity → s .n ≡ length (operands t)
+      → ((fuel : ℕ) → s .capacity < fuel → Grown s one b r d (profiles-from fuel (s .n) (stored s b one)))
+      → (fuel : ℕ) → s .capacity < fuel → Grown s 0 a r d (profiles fuel t vs)
+  unfolding profiles
+  profiles-all {r} {d} h e f fuel l =
+      let k = f fuel l in
+      let same : profiles-from fuel (s .n) (stored s b one) ≡ profiles fuel t vs =
+      ap (λ (n : ℕ). profiles-from fuel n (stored s b one)) e ∙ ap (profiles-from fuel (length (operands t))) (g .records h) in
+      subst (Grown s 0 a r d) same
+      (record {
+        more = omega arith;
+        count-is = k .count-is;
+        records = k .records;
+        elsewhere = changed-then (g .elsewhere) (omega arith) (omega arith) (k .elsewhere);
+      })
+
+-- What changes only before byte n.
+within-of : {n : ℕ} {a b : List ℕ} → length b ≡ length a → ((i : ℕ) → n ≤ i → getD b i 0 ≡ getD a i 0) → Within n a b
+within-of {n} {a} {b} e f =
+    record {
+      same-length = e;
+      behind =
+          ext-getD 0 (drop n b) (drop n a) (length-drop n b ∙ ap (λ (k : ℕ). k - n) e ∙ sym (length-drop n a))
+          (λ i h. getD-drop n b i 0 ∙ f (n + i) (omega arith) ∙ sym (getD-drop n a i 0));
+    }
+
+-- A list written over the beginning of another.
+module _ (g a : List ℕ) (h : length g ≤ length a) where
+  over-length : length (g ++ drop (length g) a) ≡ length a
+  over-length = omega (arith, length-append g (drop (length g) a), length-drop (length g) a)
+
+  over-beyond : (i : ℕ) → length g ≤ i → getD (g ++ drop (length g) a) i 0 ≡ getD a i 0
+  over-beyond i l =
+      let j = i - length g in
+      ap (λ (k : ℕ). getD (g ++ drop (length g) a) k 0) {x = i} {y = length g + j} (omega arith)
+      ∙ getD-append-add g (drop (length g) a) j 0
+      ∙ getD-drop (length g) a j 0
+      ∙ ap (λ (k : ℕ). getD a k 0) {x = length g + j} {y = i} (omega arith)
+
+-- The nodes, as the search of nodes leaves them.
+module _ {rows : List ℕ} {count : ℕ} (d : Decoded rows count) {N M buffer : ℕ} {a : List ℕ} (lends : Lends N M (length a) buffer)
+    {known : ℕ} {area : List ℕ} (holds : Holds N known a area (reachable (table-of rows count)))
+  where
+    abbrev t : Table
+    t = table-of rows count
+
+    reachable-length : length (reachable t) ≡ node-count t
+    reachable-length = length-map (nodes t) (λ (x : Item Transition Subset). x .at)
+
+    abbrev words : List ℕ
+    words = take N (map word (reachable t))
+
+    words-few : length (gather bytes8 words) ≤ 8 * N
+    words-few = omega (arith, stored-length words, length-take N (map word (reachable t)))
+
+    area-is : area ≡ gather bytes8 words ++ drop (length (gather bytes8 words)) a
+    area-is = holds .area-is ∙ ap (λ (k : ℕ). gather bytes8 words ++ drop k a) (sym (stored-length words))
+
+    area-length : length area ≡ length a
+    area-length = ap length area-is ∙ over-length (gather bytes8 words) a (omega (arith, words-few, lends .workspace-fits))
+
+    area-beyond : (i : ℕ) → 8 * N ≤ i → getD area i 0 ≡ getD a i 0
+    area-beyond i h =
+        ap (λ (l : List ℕ). getD l i 0) area-is
+        ∙ over-beyond (gather bytes8 words) a (omega (arith, words-few, lends .workspace-fits)) i (omega (arith, words-few))
+
+    -- Theorem: without room for them the answer is 14.
+    pub nodes-14 : N < known → (letters : List ℕ) → Searched t N M a area letters letters (Refused 14)
+    nodes-14 h letters =
+        searched-14 N M t letters (omega (arith, holds .known-is, reachable-length)) (within-of area-length (λ i k. area-beyond i (omega arith)))
+
+-- The nodes have room, and the shelf s stands behind them.
+pub record Behind (rows : List ℕ) (count N M buffer : ℕ) (a area : List ℕ) (known : ℕ) (r : Ranks) (s : Shelf) : Type 0 where
+  pub decoded : Decoded rows count
+  pub lends : Lends N M (length a) buffer
+  pub holds : Holds N known a area (reachable (table-of rows count))
+  pub fits : known ≤ N
+  pub ranks : Ranks-of rows count r
+  pub base-is : s .base ≡ 8 * N
+  pub capacity-is : s .capacity ≡ M
+  pub nexts-are : s .n ≡ r .nexts
+
+module _ {rows : List ℕ} {count N M buffer : ℕ} {a area : List ℕ} {known : ℕ} {r : Ranks} {s : Shelf} (b : Behind rows count N M buffer a area known r s) where
+  abbrev table′ : Table
+  table′ = table-of rows count
+
+  abbrev limited : Limited rows count
+  limited = b .decoded .limited
+
+  same-length : length area ≡ length a
+  same-length = area-length (b .decoded) (b .lends) (b .holds)
+
+  known-length : known ≡ length (reachable table′)
+  known-length = omega (arith, b .holds .known-is, b .fits)
+
+  known-is : known ≡ node-count table′
+  known-is = known-length ∙ reachable-length (b .decoded) (b .lends) (b .holds)
+
+  sized : Sized count (reachable table′)
+  sized u m = reachable-sized table′ u m ∙ table-length rows count
+
+  kept : Kept (reachable table′) area
+  kept = nodes-kept (limited .formed) (b .holds) (b .fits)
+
+  on-shelf : (x : List ℕ) → length x ≡ length a → Lent s (length x)
+  on-shelf x e =
+      record {
+        next = omega (arith, b .nexts-are, b .ranks .nexts-are, limited .few-nexts);
+        low = omega (arith, b .base-is, b .lends .few-nodes);
+        few = omega (arith, b .capacity-is, b .lends .few-profiles);
+        enough = omega (arith, b .base-is, ap (λ (k : ℕ). 192 * k) (b .capacity-is), b .lends .workspace-fits, e);
+      }
+
+  pub given : Given rows count r s known area
+  given =
+      record {
+        limited = limited;
+        ranks = b .ranks;
+        lent = on-shelf area same-length;
+        nexts = b .nexts-are;
+        some = omega (arith, known-is, ap length (nodes-first table′));
+        few = omega (arith, b .fits, b .lends .few-nodes);
+        behind = omega (arith, b .fits, b .base-is);
+        sets = λ i h. node-sets sized kept i (omega (arith, known-length));
+      }
+
+  module _ {all : ℕ} {after : List ℕ} (g : (fuel : ℕ) → s .capacity < fuel → Grown s 0 area all after (profiles fuel table′ (nodes-in count area known))) where
+    -- fuel enough for both searches
+    abbrev fuel : ℕ
+    fuel = M + profile-count table′ + 1
+
+    grown : Grown s 0 area all after (profiles fuel table′ (reachable table′))
+    grown =
+        subst (λ (l : List Subset). Grown s 0 area all after (profiles fuel table′ l))
+        (ap (nodes-in count area) known-length ∙ nodes-in-are sized kept) (g fuel (omega (arith, b .capacity-is)))
+
+    profiles-length : length (profiles fuel table′ (reachable table′)) ≡ profile-count table′
+    profiles-length =
+        subst⁻¹ (λ (u : Table). length (literal.profiles u (nodes u)) ≤ fuel → Agrees u (profiles fuel u (sets (nodes u))) (literal.profiles u (nodes u)))
+        (b .decoded .is) (agrees (b .decoded .bytes) (b .decoded .formula) (b .decoded .parsed) fuel) (omega arith) .count
+
+    all-within : Within (8 * N + 192 * M) a after
+    all-within =
+        within-of (grown .elsewhere .same-length ∙ same-length)
+        (λ i h.
+        grown .elsewhere .beyond i (omega (arith, b .base-is, ap (λ (k : ℕ). 192 * k) (b .capacity-is)))
+        ∙ area-beyond (b .decoded) (b .lends) (b .holds) i (omega arith))
+
+    -- Theorem: without room for all profiles the answer is 15.
+    pub profiles-15 : M < all → (letters : List ℕ) → Searched table′ N M a after letters letters (Refused 15)
+    profiles-15 h letters =
+        searched-15 N M table′ letters (omega (arith, known-is, b .fits)) (omega (arith, grown .count-is, profiles-length, b .capacity-is)) all-within
+
+    module _ (h : all ≤ M) where
+      all-is : all ≡ profile-count table′
+      all-is = omega (arith, grown .count-is, profiles-length, b .capacity-is)
+
+      -- Theorem: with room, all nodes and all profiles stand in the workspace,
+      pub all-profiled : Profiled rows count after s known all
+      all-profiled =
+          record {
+            decoded = b .decoded;
+            standing =
+                record {
+                  formed = limited .formed;
+                  few = omega (arith, known-is, b .fits, b .lends .few-nodes);
+                  room = omega (arith, known-is, b .fits, b .lends .workspace-fits, grown .elsewhere .same-length, same-length);
+                  words = λ i l.
+                      kept-at (kept-same kept after (λ j k. grown .elsewhere .below j (omega (arith, b .fits, b .base-is, known-length)))) i (omega (arith, known-is, known-length));
+                };
+            lent = on-shelf after (grown .elsewhere .same-length ∙ same-length);
+            operands-are = b .nexts-are ∙ b .ranks .nexts-are;
+            few = omega (arith, b .capacity-is);
+            nodes-are = known-is;
+            profiles-are = all-is;
+            stored-are = (fuel, omega (arith, all-is), grown .records (omega (arith, b .capacity-is)));
+          }
+
+      pub buffer-room : known + all ≤ buffer
+      buffer-room = omega (arith, b .fits, b .lends .buffer-fits)
+
+      -- and the answer over them is the answer.
+      pub answer-on : {before after′ : List ℕ} {v : code.Verdict} → Answers table′ (concluded table′) before after′ v → Searched table′ N M a after before after′ v
+      answer-on v = searched-on N M table′ (omega (arith, known-is, b .fits)) (omega (arith, all-is)) v all-within

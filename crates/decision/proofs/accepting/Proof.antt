@@ -1,0 +1,58 @@
+-- `decision::accepting` tests the profiles one after another. The invariant: none of those passed is accepting.
+use Prim.Native.Nat.{ℕ, _-_, _≤_, _<_}
+use mathlib.Core.Path.{_≡_, sym, _∙_}
+use mathlib.Core.Bool.{Bool, false}
+use mathlib.Core.List.{List}
+use native.Mathlib.Omega.{arith}
+use borrow.Author.Needs.{needs}
+use Rattle.base.specs.Bits.{bit}
+use Rattle.runs.specs.Stored.{record-of}
+use Rattle.runs.specs.declared.Shelf.{Shelf}
+use Rattle.decision.specs.Chain.{accepts}
+use Rattle.decision.proofs.ChainLaws.{first-start, first-next, first-found, first-none}
+use Rattle.decision.proofs.accepting.Statement.{statement}
+use Rattle.decision.proofs.accepting.Tie as tie
+
+abbrev test : List ℕ → Shelf → ℕ → ℕ → Bool
+test area shelf mask i = accepts (bit mask) (shelf .n) (record-of shelf area i)
+
+abbrev Inv-loop : tie.InvT-loop
+Inv-loop area shelf count mask p₀ p = (p ≤ count) × ((i : ℕ) → i < p → test area shelf mask i ≡ false)
+
+abbrev μ-loop : tie.MeasureT-loop
+μ-loop area shelf count mask p₀ p = count - p
+
+loop-holds : tie.Need-loop-holds Inv-loop μ-loop
+loop-holds c = (omega arith, first-start (test (c .before .args .area .now) (c .before .args .shelf) (c .before .args .mask)))
+
+is-accepting-requires : tie.Need-is-accepting-requires Inv-loop μ-loop
+is-accepting-requires c κs = (c .before .before .before .pre .0, omega (arith, c .before .before .before .pre .1))
+
+returns : tie.Need-returns Inv-loop μ-loop
+returns c = first-found (test (c .before .before .before .before .before .args .area .now) (c .before .before .before .before .before .args .shelf) (c .before .before .before .before .before .args .mask)) (c .before .before .before .before .before .args .count) (c .before .before .before .loop .p) (omega arith) (c .before .before .before .loop .inv .1) (sym (c .before .is-accepting .ensures) ∙ c .if1 .taken)
+
+add-p : tie.Need-add-p Inv-loop μ-loop
+add-p c = search needs
+
+loop-less : tie.Need-loop-less Inv-loop μ-loop
+loop-less c = search needs
+
+loop-again : tie.Need-loop-again Inv-loop μ-loop
+loop-again c = (omega arith, first-next (test (c .before .before .before .before .before .args .area .now) (c .before .before .before .before .before .args .shelf) (c .before .before .before .before .before .args .mask)) (c .before .before .before .loop .p) (c .before .before .before .loop .inv .1) (sym (c .before .is-accepting .ensures) ∙ c .if1 .left))
+
+returns-2 : tie.Need-returns-2 Inv-loop μ-loop
+returns-2 c = first-none (test (c .before .before .before .args .area .now) (c .before .before .before .args .shelf) (c .before .before .before .args .mask)) (c .before .before .before .args .count) (c .before .loop .p) (c .before .loop .inv .0) (omega arith) (c .before .loop .inv .1)
+
+pub accepting-spec : {M : Type 1} → statement M
+accepting-spec =
+    tie.close
+    (tie.spec
+    Inv-loop
+    μ-loop
+    loop-holds
+    is-accepting-requires
+    returns
+    add-p
+    loop-less
+    loop-again
+    returns-2)

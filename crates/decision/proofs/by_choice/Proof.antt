@@ -1,0 +1,44 @@
+-- `decision::by_choice` tries the transition of one choice word, which is the definition's.
+use Rattle.decision.proofs.TryLaws.{tries-nothing, tries-found, tries-other}
+use borrow.Author.Needs.{needs}
+use Rattle.decision.proofs.by_choice.Statement.{statement}
+use Rattle.decision.proofs.by_choice.Tie as tie
+
+choice-of-requires : tie.Need-choice-of-requires
+choice-of-requires c κs = search needs
+
+transition-requires : tie.Need-transition-requires
+transition-requires c κs = search needs
+
+enum-told : tie.Need-enum-told
+enum-told c = search needs
+
+enum-known-to : tie.Need-enum-known-to
+enum-known-to c = search needs
+
+returns : tie.Need-returns
+returns c =
+    let a = c .before .before .before .before .before .before .args in
+    tries-found (a .rows .now) (a .count) (a .choice-word) (a .number) (a .set) (c .before .before .before .before .before .choice-of .ensures) (c .before .before .before .before .transition .ensures) (c .before .before .to .given .1) (c .if1 .taken)
+
+returns-2 : tie.Need-returns-2
+returns-2 c =
+    let a = c .before .before .before .before .args in
+    tries-nothing (a .rows .now) (a .count) (a .choice-word) (a .number) (a .set) (c .before .before .before .choice-of .ensures) (c .before .before .transition .ensures) (c .enum-told .given .1)
+
+returns-3 : tie.Need-returns-3
+returns-3 c =
+    let a = c .before .before .before .before .before .before .args in
+    tries-other (a .rows .now) (a .count) (a .choice-word) (a .number) (a .set) (c .before .before .before .before .before .choice-of .ensures) (c .before .before .before .before .transition .ensures) (c .before .before .to .given .1) (c .if1 .left)
+
+pub by-choice-spec : {M : Type 1} → statement M
+by-choice-spec =
+    tie.close
+    (tie.spec
+    choice-of-requires
+    transition-requires
+    enum-told
+    enum-known-to
+    returns
+    returns-2
+    returns-3)

@@ -1,0 +1,52 @@
+-- `decision::decide` passes a refusal of reading on; else the table is that of the formula in the bytes, and the answer over it is the
+-- decision's.
+use borrow.Author.Needs.{needs}
+use Rattle.formula.proofs.RowLaws.{reading-held}
+use Rattle.decision.proofs.SettleLaws.{held-decided, unread-decided, reading-refused, held-decoded}
+use Rattle.decision.proofs.decide.Statement.{statement}
+use Rattle.decision.proofs.decide.Tie as tie
+
+read-requires : tie.Need-read-requires
+read-requires c κs = search needs
+
+enum-known-outcome : tie.Need-enum-known-outcome
+enum-known-outcome c = search needs
+
+enum-told : tie.Need-enum-told
+enum-told c = search needs
+
+lent-requires : tie.Need-lent-requires
+lent-requires c κs =
+    let u = c .before .before .before .before .before .before .before .before .before in
+    held-decoded (reading-held (u .args .s .now) (c .before .before .before .before .before .read .result) (c .before .before .before .before .before .read .ensures .0) (c .before .before .enum-told .given .1))
+
+returns : tie.Need-returns
+returns c =
+    let u = c .before .before .before .before .before .before .before .before in
+    unread-decided (u .args .s .now) (u .args .n) (u .args .m) (u .args .workspace .now) (u .args .letters .now) (c .before .outcome .given .0 .0)
+    (reading-refused (u .args .s .now) (c .before .before .before .before .read .result) (c .before .outcome .given .0 .0) (c .before .before .before .before .read .ensures .0) (c .before .outcome .given .1))
+
+same-length : tie.Need-same-length
+same-length c = search needs
+
+same-length-2 : tie.Need-same-length-2
+same-length-2 c = search needs
+
+returns-2 : tie.Need-returns-2
+returns-2 c =
+    let u = c .before .before .before .before .before .before .before .before .before .before .before .before .before .before in
+    held-decided (u .args .s .now) (u .args .n) (u .args .m) (u .args .workspace .now) (u .args .letters .now)
+    (reading-held (u .args .s .now) (c .before .before .before .before .before .before .before .before .before .before .read .result) (c .before .before .before .before .before .before .before .before .before .before .read .ensures .0) (c .before .before .before .before .before .before .before .enum-told .given .1)) (c .before .before .before .before .lent .ensures)
+
+pub decide-spec : {M : Type 1} → statement M
+decide-spec =
+    tie.close
+    (tie.spec
+    read-requires
+    enum-known-outcome
+    enum-told
+    lent-requires
+    returns
+    same-length
+    same-length-2
+    returns-2)

@@ -1,0 +1,32 @@
+-- `decision::profiles_of` goes on from the profiles of one transition, if there is room for them; where there is none, there is none for all.
+use mathlib.Core.Path.{_∙_}
+use native.Mathlib.Omega.{arith}
+use borrow.Author.Needs.{needs}
+use Rattle.tableau.specs.Promise.{table-of}
+use Rattle.runs.specs.Singles.{nodes-in}
+use Rattle.decision.proofs.SearchedLaws.{profiles-full, profiles-all}
+use Rattle.decision.proofs.profiles_of.Statement.{statement}
+use Rattle.decision.proofs.profiles_of.Tie as tie
+
+singles-requires : tie.Need-singles-requires
+singles-requires c κs = c .before .before .pre
+
+same-length : tie.Need-same-length
+same-length c = search needs
+
+returns : tie.Need-returns
+returns c = λ fuel h. profiles-full (table-of (c .before .before .before .before .before .before .before .args .rows .now) (c .before .before .before .before .before .before .before .args .count)) (nodes-in (c .before .before .before .before .before .before .before .args .count) (c .before .before .before .before .before .before .before .args .area .now) (c .before .before .before .before .before .before .before .args .nodes)) (c .before .before .before .before .singles .ensures) (c .if1 .taken) fuel
+
+profiles-requires : tie.Need-profiles-requires
+profiles-requires c κs = search needs
+
+same-length-2 : tie.Need-same-length-2
+same-length-2 c = search needs
+
+returns-2 : tie.Need-returns-2
+returns-2 c = profiles-all (table-of (c .before .before .before .before .before .before .before .before .before .before .before .args .rows .now) (c .before .before .before .before .before .before .before .before .before .before .before .args .count)) (nodes-in (c .before .before .before .before .before .before .before .before .before .before .before .args .count) (c .before .before .before .before .before .before .before .before .before .before .before .args .area .now) (c .before .before .before .before .before .before .before .before .before .before .before .args .nodes)) (c .before .before .before .before .before .before .before .before .singles .ensures) (omega (arith, c .before .before .before .before .if1 .left)) (c .before .before .before .before .before .before .before .before .before .before .before .pre .nexts ∙ c .before .before .before .before .before .before .before .before .before .before .before .pre .ranks .nexts-are) (c .before .before .profiles .ensures)
+
+pub profiles-of-spec : {M : Type 1} → statement M
+profiles-of-spec =
+    tie.close
+    (tie.spec singles-requires same-length returns profiles-requires same-length-2 returns-2)

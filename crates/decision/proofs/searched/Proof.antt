@@ -1,0 +1,84 @@
+-- `decision::searched` builds the nodes and, if there is room for them, the profiles behind them. Where there is room for these too, they are
+-- all that the answer is made from.
+use Prim.Native.Nat.{_*_}
+use mathlib.Core.Path.{refl}
+use lib.ListN.{length}
+use native.Mathlib.Omega.{arith}
+use borrow.Author.Needs.{needs}
+use Rattle.decision.proofs.SearchedLaws.{nodes-14, Behind, given, profiles-15, all-profiled, buffer-room, answer-on}
+use Rattle.decision.proofs.searched.Statement.{statement}
+use Rattle.decision.proofs.searched.Tie as tie
+
+nodes-requires : tie.Need-nodes-requires
+nodes-requires c κs = search needs
+
+same-length : tie.Need-same-length
+same-length c = search needs
+
+returns : tie.Need-returns
+returns c = let u = c .before .before .before .before .before .before .before in nodes-14 (u .pre .0) (u .pre .1) (c .before .before .before .nodes .ensures) (c .if1 .taken) (u .args .letters .now)
+
+ranked-requires : tie.Need-ranked-requires
+ranked-requires c κs = search needs
+
+mul-t15 : tie.Need-mul-t15
+mul-t15 c = search needs
+
+-- the nodes have room, and the shelf stands behind them
+behind : (c : tie.After-ranked) → let u = c .before .before .before .before .before .before .before .before in
+    Behind (u .args .rows .now) (u .args .count) (u .args .node-capacity) (u .args .profile-capacity) (length (u .args .letters .now)) (u .args .area .now)
+    (c .before .before .before .before .nodes .last .1 .1 .0) (c .before .before .before .before .nodes .result) (c .ranked .result)
+    (record { base = 8 * u .args .node-capacity; capacity = u .args .profile-capacity; n = c .ranked .result .nexts })
+behind c =
+    let u = c .before .before .before .before .before .before .before .before in
+    record {
+      decoded = u .pre .0;
+      lends = u .pre .1;
+      holds = c .before .before .before .before .nodes .ensures;
+      fits = omega (arith, c .before .if1 .left);
+      ranks = c .ranked .ensures;
+      base-is = refl;
+      capacity-is = refl;
+      nexts-are = refl;
+    }
+
+profiles-of-requires : tie.Need-profiles-of-requires
+profiles-of-requires c κs = given (behind (c .before))
+
+same-length-2 : tie.Need-same-length-2
+same-length-2 c = search needs
+
+returns-2 : tie.Need-returns-2
+returns-2 c = profiles-15 (behind (c .before .before .before .before .before)) (c .before .before .before .profiles-of .ensures) (c .if2 .taken) (c .before .before .before .before .before .before .before .before .before .before .before .before .before .args .letters .now)
+
+answered-requires : tie.Need-answered-requires
+answered-requires c κs =
+    let b = behind (c .before .before .before .before .before .before .before .before .before) in
+    let g = c .before .before .before .before .before .before .before .profiles-of .ensures in
+    (all-profiled b g (omega (arith, c .before .before .before .before .if2 .left)), (b .ranks .fix-is, buffer-room b g (omega (arith, c .before .before .before .before .if2 .left))))
+
+same-length-3 : tie.Need-same-length-3
+same-length-3 c = search needs
+
+same-length-4 : tie.Need-same-length-4
+same-length-4 c = search needs
+
+returns-3 : tie.Need-returns-3
+returns-3 c = answer-on (behind (c .before .before .before .before .before .before .before .before .before .before .before .before)) (c .before .before .before .before .before .before .before .before .before .before .profiles-of .ensures) (omega (arith, c .before .before .before .before .before .before .before .if2 .left)) (c .before .before .answered .ensures)
+
+pub searched-spec : {M : Type 1} → statement M
+searched-spec =
+    tie.close
+    (tie.spec
+    nodes-requires
+    same-length
+    returns
+    ranked-requires
+    mul-t15
+    profiles-of-requires
+    same-length-2
+    returns-2
+    answered-requires
+    same-length-3
+    same-length-4
+    returns-3)

@@ -1,0 +1,81 @@
+-- What the functions promise that build the tableau, search the profiles and answer. A reader of the decision's contract need not read
+-- it. Assumes nothing.
+use mathlib.Core.Path.{_≡_}
+use mathlib.Core.List.{List, _++_}
+use Prim.Native.Nat.{ℕ, _+_, _*_, _≤_}
+use lib.ListN.{length, drop}
+use Rattle.base.specs.Lists.{first}
+use Rattle.formula.specs.Formula.{Formula}
+use Rattle.formula.specs.Table.{Table, table}
+use Rattle.formula.specs.Reading.{Reading, parse}
+use Rattle.tableau.specs.Nodes.{operands, nodes}
+use Rattle.tableau.specs.Promise.{table-of}
+use Rattle.tableau.specs.Area.{reachable}
+use Rattle.profile.specs.Profiles as literal
+use Rattle.coded.specs.Runs.{profiles}
+use Rattle.traces.specs.Promise.{Limited}
+use Rattle.runs.specs.Stored.{stored, Lent}
+use Rattle.runs.specs.declared.Shelf.{Shelf}
+use Rattle.decision.specs.Verdict.{Verdict, conclude, decide, lent}
+use Rattle.decision.specs.Promise.{says, node-count, profile-count, Witness, cleared}
+use Rattle.decision.specs.declared.Verdict as code
+use Rattle.decision.specs.Stem.{Standing}
+
+-- The rows hold the table of a formula that was read.
+pub record Decoded (rows : List ℕ) (count : ℕ) : Type 0 where
+  pub bytes : List ℕ
+  pub formula : Formula
+  pub parsed : parse bytes ≡ Reading.accepted formula
+  pub is : table-of rows count ≡ table formula
+  pub limited : Limited rows count
+
+-- The area holds the K nodes, and on the shelf the P profiles, of the rows' table.
+pub record Profiled (rows : List ℕ) (count : ℕ) (area : List ℕ) (s : Shelf) (K P : ℕ) : Type 0 where
+  pub decoded : Decoded rows count
+  pub standing : Standing rows count area
+  pub lent : Lent s (length area)
+  pub operands-are : s .n ≡ length (operands (table-of rows count))
+  pub few : P ≤ s .capacity
+  pub nodes-are : K ≡ node-count (table-of rows count)
+  pub profiles-are : P ≡ profile-count (table-of rows count)
+  pub stored-are : (fuel : ℕ) × (P ≤ fuel) × (stored s area P ≡ profiles fuel (table-of rows count) (reachable (table-of rows count)))
+
+-- What the answer leaves in the witness buffer: for MET the letters of a witness, which need not be the definition's.
+abbrev pub Leaves : Table → Verdict → (before after : List ℕ) → Type 0
+Leaves t (Verdict.unread c p) before after = after ≡ before
+Leaves t (Verdict.refused c) before after = after ≡ before
+Leaves t (Verdict.satisfiable stem cycle K P _) before after =
+    (letters : List ℕ) × Witness t stem cycle letters × (after ≡ letters ++ drop (stem + cycle) before)
+Leaves t (Verdict.unsatisfiable K P) before after = after ≡ before
+
+pub record Answers (t : Table) (v : Verdict) (before after : List ℕ) (r : code.Verdict) : Type 0 where
+  pub answered : r ≡ says v
+  pub buffered : Leaves t v before after
+
+-- the definition's verdict once K and P fit
+abbrev pub concluded : Table → Verdict
+concluded t = conclude (nodes t) (literal.profiles t (nodes t)) (first (literal.accepting t) (literal.profiles t (nodes t)))
+
+-- The area changed at most in its first n bytes.
+pub record Within (n : ℕ) (before after : List ℕ) : Type 0 where
+  pub same-length : length after ≡ length before
+  pub behind : drop n after ≡ drop n before
+
+-- The answer to the questions 14 and 15 and what comes after them.
+pub record Searched (t : Table) (N M : ℕ) (area area′ before after : List ℕ) (r : code.Verdict) : Type 0 where
+  pub answers : Answers t (decide N M t) before after r
+  pub within : Within (8 * N + 192 * M) area area′
+
+-- What 11 to 13 ask is so.
+pub record Lends (N M workspace buffer : ℕ) : Type 0 where
+  pub some-nodes : 1 ≤ N
+  pub few-nodes : N ≤ 1024
+  pub some-profiles : 1 ≤ M
+  pub few-profiles : M ≤ 4096
+  pub workspace-fits : 8 * N + 192 * M ≤ workspace
+  pub buffer-fits : N + M ≤ buffer
+
+-- The answer to all questions after reading, and what it leaves.
+pub record Settled (t : Table) (N M : ℕ) (workspace workspace′ buffer buffer′ : List ℕ) (r : code.Verdict) : Type 0 where
+  pub answers : Answers t (lent N M (length workspace) (length buffer) t) buffer buffer′ r
+  pub worked : workspace′ ≡ cleared N M (lent N M (length workspace) (length buffer) t) workspace

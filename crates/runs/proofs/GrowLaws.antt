@@ -1,0 +1,148 @@
+-- The records of a shelf as a list: it grows at its end, stays while later bytes change, and a profile is known if its list has it
+-- (`seen-more`, `seen-found`). What one profile more makes of it (`grown-known`, `grown-new`, `grown-full`), and what several make, one
+-- after the other (`grown-then`). Once there is no room, whatever is still to come changes nothing (`grown-longer`), so a loop may stop
+-- there; every loop that adds the lists of rising numbers goes by `turn-more` and `turn-stop`. Assumes nothing.
+use mathlib.Core.Path.{_≡_, refl, sym, ap, subst, _∙_}
+use mathlib.Core.Bool.{Bool, true, false, cond, _||_}
+use mathlib.Core.List.{List, [], _∷_, _++_, map, append-nil}
+use Prim.Native.Nat.{ℕ, _+_, _-_, _≤_, _<_}
+use native.Mathlib.Nat.{zero-add}
+use native.Mathlib.Omega.{arith}
+use lib.ListN.{length, getD, length-append}
+use Rattle.base.specs.Lists.{numbers, gather, any}
+use Rattle.base.proofs.BoolLaws.{of-T, to-T, or-left, or-right}
+use Rattle.base.proofs.AppendLaws.{any-append, gather-append, numbers-append}
+use Rattle.base.proofs.NumberLaws.{values-length, values-add, values-at, values-same, values-one}
+use Rattle.coded.specs.Spread.{seen, add, adds}
+use Rattle.coded.specs.Runs.{Profile, Found, same-profile}
+use Rattle.runs.specs.declared.Shelf.{Shelf}
+use Rattle.runs.specs.Stored.{place, record-of, stored, Changed, Grown, Added}
+use Rattle.runs.proofs.RecordLaws.{changed-none, changed-then, changed-wide, record-kept}
+use Rattle.runs.proofs.SpreadLaws.{adds-append, adds-length}
+
+module _ (s : Shelf) (b : List ℕ) where
+  pub stored-length : (k : ℕ) → length (stored s b k) ≡ k
+  unfolding stored
+  stored-length k = values-length (record-of s b) 0 k
+
+  pub stored-more : (k : ℕ) → stored s b (k + 1) ≡ stored s b k ++ (record-of s b k ∷ [])
+  unfolding stored
+  stored-more k = values-add (record-of s b) 0 k 1 ∙ ap (λ (i : ℕ). stored s b k ++ (record-of s b i ∷ [])) (zero-add k)
+
+  pub stored-at : (k p : ℕ) (d : Found) → p < k → getD (stored s b k) p d ≡ record-of s b p
+  unfolding stored
+  stored-at k p d h = values-at (record-of s b) 0 k p d h ∙ ap (record-of s b) (zero-add p)
+
+  pub stored-kept : {a : List ℕ} {to : ℕ} (k : ℕ) → s .n ≤ 12 → Changed (place s k) to a b → stored s b k ≡ stored s a k
+  unfolding stored
+  stored-kept {a} k h c = values-same (record-of s b) (record-of s a) 0 k (λ p l m. record-kept c (s .n) (place s p) h (omega arith))
+
+  -- whether a profile is known
+  module _ (x : Profile) where
+    abbrev is-known : ℕ → Bool
+    is-known k = seen same-profile x (stored s b k)
+
+    pub seen-none : is-known 0 ≡ false
+    unfolding stored
+    seen-none = refl
+
+    pub seen-more : (p : ℕ) → is-known p ≡ false → same-profile (record-of s b p .at) x ≡ false → is-known (p + 1) ≡ false
+    seen-more p h e =
+        ap (seen same-profile x) (stored-more p)
+        ∙ any-append (λ (y : Found). same-profile (y .at) x) (stored s b p) (record-of s b p ∷ []) ∙ rw (h, e)
+
+    pub seen-found : (count p : ℕ) → p < count → same-profile (record-of s b p .at) x ≡ true → is-known count ≡ true
+    unfolding stored
+    seen-found count p h e =
+        let rest = map (record-of s b) (numbers (0 + p + 1) (count - p - 1)) in
+        ap (λ (k : ℕ). is-known k) {x = count} {y = p + (1 + (count - p - 1))} (omega arith)
+        ∙ ap (seen same-profile x)
+        (values-add (record-of s b) 0 p (1 + (count - p - 1)) ∙ ap (λ (l : List Found). stored s b p ++ l) (values-one (record-of s b) (0 + p) (count - p - 1)))
+        ∙ any-append same (stored s b p) (record-of s b (0 + p) ∷ rest)
+        ∙ of-T (is-known p || (same (record-of s b (0 + p)) || any same rest))
+        (or-right (is-known p) (same (record-of s b (0 + p)) || any same rest)
+        (or-left (same (record-of s b (0 + p))) (any same rest)
+        (to-T (same (record-of s b (0 + p))) (ap (λ (i : ℕ). same (record-of s b i)) (zero-add p) ∙ e))))
+      where
+        same : Found → Bool
+        same y = same-profile (y .at) x
+
+-- the list grows
+module _ (s : Shelf) (count : ℕ) (a : List ℕ) where
+  abbrev before : List Found
+  before = stored s a count
+
+  pub grown-still : count ≤ s .capacity → Grown s count a count a before
+  grown-still h = record {
+    more = omega arith;
+    count-is = omega (arith, stored-length s a count);
+    records = λ l. refl;
+    elsewhere = changed-none (place s count) (place s (s .capacity)) a;
+  }
+
+  -- one profile more
+  module _ (x : Found) (h : count ≤ s .capacity) where
+    abbrev new : Bool → List Found
+    new known = cond known before (before ++ (x ∷ []))
+
+    pub grown-known : true ≡ seen same-profile (x .at) before → Grown s count a count a (add same-profile before x)
+    grown-known e = subst (λ (known : Bool). Grown s count a count a (new known)) e (grown-still h)
+
+    pub grown-new : (b : List ℕ) → s .n ≤ 12 → false ≡ seen same-profile (x .at) before → count < s .capacity → record-of s b count ≡ x
+        → Changed (place s count) (place s count + 192) a b → Grown s count a (count + 1) b (add same-profile before x)
+    grown-new b n e l q c =
+        subst (λ (known : Bool). Grown s count a (count + 1) b (new known)) e (record {
+          more = omega arith;
+          count-is = omega (arith, stored-length s a count, length-append before (x ∷ []));
+          records = λ m. stored-more s b count ∙ ap (λ (l : List Found). l ++ (record-of s b count ∷ [])) (stored-kept s b count n c) ∙ ap (λ (y : Found). before ++ (y ∷ [])) q;
+          elsewhere = changed-wide c (omega arith) (omega arith);
+        })
+
+    pub grown-full : false ≡ seen same-profile (x .at) before → s .capacity ≤ count → Grown s count a (count + 1) a (add same-profile before x)
+    grown-full e l =
+        subst (λ (known : Bool). Grown s count a (count + 1) a (new known)) e (record {
+          more = omega arith;
+          count-is = omega (arith, stored-length s a count, length-append before (x ∷ []));
+          records = λ m. absurd (omega arith);
+          elsewhere = changed-none (place s count) (place s (s .capacity)) a;
+        })
+
+module _ {s : Shelf} {count all : ℕ} {a b : List ℕ} {xs : List Found} (g : Grown s count a all b xs) where
+  -- no room: any longer list
+  pub grown-longer : {ys : List Found} → s .capacity < all → length xs ≤ length ys → Grown s count a all b ys
+  grown-longer h l = record { more = g .more; count-is = omega (arith, g .count-is); records = λ m. absurd (omega arith); elsewhere = g .elsewhere }
+
+  -- room: more profiles
+  pub grown-then : {r : ℕ} {d : List ℕ} (zs : List Found) → all ≤ s .capacity → Added s all b r d zs
+      → Grown s count a r d (adds same-profile xs zs)
+  grown-then {r} {d} zs h n =
+      subst (λ (l : List Found). Grown s count a r d (adds same-profile l zs)) (g .records h) (record {
+        more = omega (arith, g .more, n .more);
+        count-is = n .count-is;
+        records = n .records;
+        elsewhere = changed-then (g .elsewhere) (omega (arith, g .more)) (omega arith) (n .elsewhere);
+      })
+
+-- A list with the lists f k, f (k + 1), .., of which there are i, and one turn of a loop that adds them.
+module _ (xs : List Found) (f : ℕ → List Found) (k : ℕ) where
+  abbrev pub with-first : ℕ → List Found
+  with-first i = adds same-profile xs (gather f (numbers k i))
+
+  split : (i j : ℕ) → with-first (i + j) ≡ adds same-profile (with-first i) (gather f (numbers (k + i) j))
+  split i j =
+      ap (λ (l : List ℕ). adds same-profile xs (gather f l)) (numbers-append k i j)
+      ∙ ap (adds same-profile xs) (gather-append f (numbers k i) (numbers (k + i) j))
+      ∙ adds-append same-profile xs (gather f (numbers k i)) (gather f (numbers (k + i) j))
+
+  pub turn-more : {s : Shelf} {count all r : ℕ} {a b d : List ℕ} (i : ℕ) → all ≤ s .capacity → Grown s count a all b (with-first i)
+      → Added s all b r d (f (k + i)) → Grown s count a r d (with-first (i + 1))
+  turn-more {s} {count} {r = r} {a = a} {d = d} i h g n =
+      subst (λ (l : List Found). Grown s count a r d l) (sym (split i 1 ∙ ap (adds same-profile (with-first i)) (append-nil (f (k + i)))))
+      (grown-then g (f (k + i)) h n)
+
+  pub turn-stop : {s : Shelf} {count all : ℕ} {a b : List ℕ} (i m : ℕ) → s .capacity < all → i ≤ m → Grown s count a all b (with-first i)
+      → Grown s count a all b (with-first m)
+  turn-stop i m h l g =
+      grown-longer g h
+      (subst (λ (n : ℕ). length (with-first i) ≤ length (with-first n)) {x = i + (m - i)} {y = m} (omega arith)
+      (omega (arith, ap length (split i (m - i)), adds-length same-profile (with-first i) (gather f (numbers (k + i) (m - i))))))

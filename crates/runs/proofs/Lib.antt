@@ -1,0 +1,6 @@
+pub mod SpreadLaws
+pub mod RecordLaws
+pub mod GrowLaws
+pub mod TurnLaws
+pub mod SingleLaws
+pub mod ParentLaws

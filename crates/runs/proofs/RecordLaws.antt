@@ -1,0 +1,125 @@
+-- The bytes of a record: what is put is what is read (`put-two`), the five stores of a record make the profile that is meant (`written`),
+-- a record stays while bytes elsewhere change (`record-kept`), and the tests that compare a record with a profile. Assumes nothing.
+use mathlib.Core.Path.{_≡_, refl, sym, ap, subst⁻¹, _∙_}
+use mathlib.Core.Bool.{Bool, false, _&&_}
+use mathlib.Core.List.{List}
+use Prim.Native.Nat.{ℕ, _+_, _*_, _/_, _%_, _≤_, _<_}
+use native.Mathlib.Omega.{arith}
+use native.Mathlib.Decide.{ℕ-discrete}
+use borrow.Author.Tests.{ne-eqb, eq-eqb}
+use lib.Dec.{eqb}
+use lib.ListN.{length, getD, set, length-set}
+use lib.Seq.{getD-set-same, getD-set-other}
+use Rattle.base.specs.Bits.{bit}
+use Rattle.coded.specs.Triples.{Triples, same-triples}
+use Rattle.coded.specs.Runs.{same-profile}
+use Rattle.coded.proofs.TriplesLaws.{those-same}
+use Rattle.triples.specs.Promise.{bytes, bytes-from, bits, triples-in, triples-at}
+use Rattle.runs.specs.declared.Ends.{Ends}
+use Rattle.runs.specs.Stored.{two, profile-of, found-of, found-at, Changed}
+
+-- bytes that change, and those that do not
+pub changed-none : (from to : ℕ) (a : List ℕ) → Changed from to a a
+changed-none from to a = record { same-length = refl; below = λ i h. refl; beyond = λ i h. refl }
+
+module _ {from to : ℕ} {a b : List ℕ} (c : Changed from to a b) where
+  pub changed-set : (k v : ℕ) → from ≤ k → k < to → Changed from to a (set b k v)
+  changed-set k v h l =
+      record {
+        same-length = length-set b k v ∙ c .same-length;
+        below = λ i m. getD-set-other b k i v 0 (λ e. omega arith) ∙ c .below i m;
+        beyond = λ i m. getD-set-other b k i v 0 (λ e. omega arith) ∙ c .beyond i m;
+      }
+
+  pub changed-then : {low high : ℕ} {d : List ℕ} → from ≤ low → high ≤ to → Changed low high b d → Changed from to a d
+  changed-then {low} {high} {d} h l m =
+      record {
+        same-length = m .same-length ∙ c .same-length;
+        below = λ i k. m .below i (omega arith) ∙ c .below i k;
+        beyond = λ i k. m .beyond i (omega arith) ∙ c .beyond i k;
+      }
+
+  pub changed-wide : {low high : ℕ} → low ≤ from → to ≤ high → Changed low high a b
+  changed-wide h l = record { same-length = c .same-length; below = λ i k. c .below i (omega arith); beyond = λ i k. c .beyond i (omega arith) }
+
+  pub two-kept : (j : ℕ) → j + 2 ≤ from → two b j ≡ two a j
+  two-kept j h = omega (arith, c .below j (omega arith), c .below (j + 1) (omega arith))
+
+  pub record-kept : (n at : ℕ) → n ≤ 12 → at + 192 ≤ from → found-at n b at ≡ found-at n a at
+  unfolding found-at
+  record-kept n at h l =
+      let p = two-kept (at + 144) (omega arith) in
+      let q = two-kept (at + 146) (omega arith) in
+      let r = two-kept (at + 148) (omega arith) in
+      let s = two-kept (at + 150) (omega arith) in
+      let t : triples-at n b at ≡ triples-at n a at =
+      those-same n (bits (bytes-from b at)) (bits (bytes-from a at)) (λ f x g hf hx hg. ap (λ (v : ℕ). bit v x) (c .below (at + (f * 12 + g)) (omega arith))) in
+      λ i. found-of (record { first = p i; last = q i; parent = r i; letter = s i }) (t i)
+
+-- two bytes are put
+module _ (a : List ℕ) (at x : ℕ) (h : at + 2 ≤ length a) where
+  abbrev put : List ℕ
+  put = set (set a at (x % 256)) (at + 1) (x / 256 % 256)
+
+  pub put-two : x < 65536 → two put at ≡ x
+  put-two l =
+      let low : getD put at 0 ≡ x % 256 =
+      getD-set-other (set a at (x % 256)) (at + 1) at (x / 256 % 256) 0 (λ e. omega arith) ∙ getD-set-same a at (x % 256) 0 (omega arith) in
+      let high : getD put (at + 1) 0 ≡ x / 256 % 256 =
+      getD-set-same (set a at (x % 256)) (at + 1) (x / 256 % 256) 0 (omega (arith, length-set a at (x % 256))) in
+      omega arith
+
+  pub put-changed : Changed at (at + 2) a put
+  put-changed = changed-set (changed-set (changed-none at (at + 2) a) at (x % 256) (omega arith) (omega arith)) (at + 1) (x / 256 % 256) (omega arith) (omega arith)
+
+-- one byte of the triples more
+pub store-more : (a t : List ℕ) (at i : ℕ) → at + i < length a → ((j : ℕ) → j < i → getD a (at + j) 0 ≡ getD t j 0)
+    → (j : ℕ) → j < i + 1 → getD (set a (at + i) (getD t i 0)) (at + j) 0 ≡ getD t j 0
+store-more a t at i h r j l = go (ℕ-discrete j i)
+  where
+    go : Dec (j ≡ i) → getD (set a (at + i) (getD t i 0)) (at + j) 0 ≡ getD t j 0
+    go (yes q) = subst⁻¹ (λ (k : ℕ). getD (set a (at + i) (getD t i 0)) (at + k) 0 ≡ getD t k 0) q (getD-set-same a (at + i) (getD t i 0) 0 h)
+    go (no q) = getD-set-other a (at + i) (at + j) (getD t i 0) 0 (λ e. q (omega arith)) ∙ r j (omega arith)
+
+-- a record is written: its triples make a0 of a, and then each put the next area
+module _ {a a0 a1 a2 a3 a4 : List ℕ} (t : List ℕ) (at : ℕ) (e : Ends) (c0 : Changed at (at + 144) a a0) (c1 : Changed (at + 144) (at + 144 + 2) a0 a1)
+    (c2 : Changed (at + 146) (at + 146 + 2) a1 a2) (c3 : Changed (at + 148) (at + 148 + 2) a2 a3) (c4 : Changed (at + 150) (at + 150 + 2) a3 a4)
+  where
+    pub written-changed : Changed at (at + 192) a a4
+    written-changed =
+        changed-then (changed-then (changed-then (changed-then (changed-wide c0 (omega arith) (omega arith)) (omega arith) (omega arith) c1) (omega arith) (omega arith) c2)
+        (omega arith) (omega arith) c3) (omega arith) (omega arith) c4
+
+    pub written : ((i : ℕ) → i < 144 → getD a0 (at + i) 0 ≡ getD t i 0)
+        → two a1 (at + 144) ≡ e .first → two a2 (at + 146) ≡ e .last → two a3 (at + 148) ≡ e .parent → two a4 (at + 150) ≡ e .letter
+        → (n : ℕ) → n ≤ 12 → found-at n a4 at ≡ found-of e (triples-in n t)
+    unfolding found-at
+    written s first last parent letter n h =
+        let p : two a4 (at + 144) ≡ e .first =
+        two-kept c4 (at + 144) (omega arith) ∙ two-kept c3 (at + 144) (omega arith) ∙ two-kept c2 (at + 144) (omega arith) ∙ first in
+        let q : two a4 (at + 146) ≡ e .last = two-kept c4 (at + 146) (omega arith) ∙ two-kept c3 (at + 146) (omega arith) ∙ last in
+        let r : two a4 (at + 148) ≡ e .parent = two-kept c4 (at + 148) (omega arith) ∙ parent in
+        let d : triples-at n a4 at ≡ triples-in n t =
+        those-same n (bits (bytes-from a4 at)) (bits (bytes t)) (λ f x g hf hx hg. ap (λ (v : ℕ). bit v x) (byte (f * 12 + g) (omega arith))) in
+        λ i. found-of (record { first = p i; last = q i; parent = r i; letter = letter i }) (d i)
+      where
+        byte : (i : ℕ) → i < 144 → getD a4 (at + i) 0 ≡ getD t i 0
+        byte i l =
+            c4 .below (at + i) (omega arith) ∙ c3 .below (at + i) (omega arith) ∙ c2 .below (at + i) (omega arith) ∙ c1 .below (at + i) (omega arith) ∙ s i l
+
+-- is it this profile?
+module _ (n : ℕ) (b : List ℕ) (at : ℕ) (e : Ends) (s : Triples) where
+  abbrev Same : Bool → Type 0
+  Same r = r ≡ same-profile (found-at n b at .at) (profile-of e s)
+
+  pub other-first : (two b (at + 144) ≡ e .first → ⊥) → Same false
+  unfolding found-at
+  other-first d = sym (ap (λ (t : Bool). t && eqb (two b (at + 146)) (e .last) && same-triples (triples-at n b at) s) (ne-eqb (two b (at + 144)) (e .first) d))
+
+  pub other-last : two b (at + 144) ≡ e .first → (two b (at + 146) ≡ e .last → ⊥) → Same false
+  unfolding found-at
+  other-last f d = sym (simp (eq-eqb (two b (at + 144)) (e .first) f, ne-eqb (two b (at + 146)) (e .last) d))
+
+  pub same-ends : two b (at + 144) ≡ e .first → two b (at + 146) ≡ e .last → Same (same-triples (triples-at n b at) s)
+  unfolding found-at
+  same-ends f l = sym (simp (eq-eqb (two b (at + 144)) (e .first) f, eq-eqb (two b (at + 146)) (e .last) l))

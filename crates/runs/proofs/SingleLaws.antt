@@ -1,0 +1,265 @@
+-- The profiles of one transition. A word below 2^count is the word of its set (`subset-word`), so the number of a node in the area is its
+-- number in the definition (`find-number`), and one choice word gives the definition's profile or none (`single-some`, `single-none`). The
+-- nodes stay while records are added behind them (`given-kept`). All choice words make the profiles of a node (`of-turn`, `of-stop`,
+-- `of-done`), and all nodes but the root those of one transition (`all-turn`, `all-stop`, `all-done`). Assumes nothing.
+use mathlib.Core.Path.{_≡_, refl, sym, ap, subst, subst⁻¹, _∙_}
+use mathlib.Core.Bool.{Bool, true, false, cond}
+use mathlib.Core.List.{List, [], _∷_, _++_, map, List·Memᴰ·head, List·Memᴰ·tail}
+use Prim.Native.Nat.{ℕ, zero, suc, _+_, _-_, _*_, _^_, _≤_, _<_}
+use native.Mathlib.Nat.{zero-add}
+use native.Mathlib.Omega.{arith}
+use lib.Dec.{T, eqb, eqb→eq, eqb-refl}
+use lib.ListN.{length, getD, length-map}
+use Rattle.base.specs.Bits.{bit, word}
+use Rattle.base.specs.Lists.{numbers, gather, member, tail}
+use Rattle.base.proofs.TestLaws.{same-truth}
+use Rattle.base.proofs.AppendLaws.{gather-map, map-gather}
+use Rattle.base.proofs.Inside.{inside-length}
+use Rattle.base.proofs.NumberLaws.{values-length, values-at}
+use Rattle.base.proofs.ShiftLaws.{same-low-bits}
+use Rattle.base.proofs.WordLaws.{word-bit, word-lt, word-inj}
+use Rattle.formula.specs.Table.{Table}
+use Rattle.tableau.specs.Saturation.{Subset, same-subset, nothing, saturate}
+use Rattle.tableau.specs.Transition.{operators-in, requires, letter-of, next-of, ors, choice-of, Transition, transition-of, transitions}
+use Rattle.tableau.specs.Promise.{table-of, Stepped}
+use Rattle.tableau.specs.Area.{eight, words-at, index, Sized}
+use Rattle.tableau.specs.declared.Step.the-variants.{Leads, Nothing}
+use Rattle.tableau.proofs.SaturationLaws.{add-inside}
+use Rattle.tableau.proofs.TransitionLaws.{transition-with}
+use Rattle.tableau.proofs.WordSets.{same-word}
+use Rattle.tableau.proofs.LoopLaws.{table-length}
+use Rattle.tableau.proofs.StepLaws.{no-step, Found, a-step}
+use Rattle.tableau.proofs.NodeLoop.{at-sized}
+use Rattle.tableau.proofs.NodeReads.{Kept, kept-at, eight-same, words-same}
+use Rattle.coded.specs.Spread.{add, adds}
+use Rattle.coded.specs.Marks.{triples}
+use Rattle.coded.specs.Runs.{Found as Item, same-profile, number-of, ones-of, ones-from, ones}
+use Rattle.triples.specs.Promise.{triples-in}
+use Rattle.traces.specs.Promise.{Triples-of}
+use Rattle.traces.specs.declared.Ranks.{Ranks}
+use Rattle.runs.specs.declared.Shelf.{Shelf}
+use Rattle.runs.specs.Stored.{found-of, stored, Lent, Changed, Grown, Added}
+use Rattle.runs.specs.Singles.{subset-of, node-in, nodes-in, single-of, singles-by, Given}
+use Rattle.runs.proofs.GrowLaws.{grown-still, with-first, turn-more, turn-stop}
+use Rattle.runs.proofs.TurnLaws.{grown-same}
+
+-- sets and their words
+pub subset-length : (count w : ℕ) → length (subset-of count w) ≡ count
+subset-length count w = values-length (bit w) 0 count
+
+pub subset-word : (count w : ℕ) → w < 2 ^ count → word (subset-of count w) ≡ w
+subset-word count w h =
+    same-low-bits count (word (subset-of count w)) w
+    (omega (arith, word-lt (subset-of count w), ap (λ (n : ℕ). 2 ^ n) (subset-length count w))) h
+    (λ k l. word-bit (subset-of count w) k ∙ values-at (bit w) 0 count k false l ∙ ap (bit w) (zero-add k))
+
+pub word-subset : (count : ℕ) (v : Subset) → length v ≡ count → subset-of count (word v) ≡ v
+word-subset count v h =
+    word-inj (subset-of count (word v)) v (subset-length count (word v) ∙ sym h)
+    (subset-word count (word v) (omega (arith, word-lt v, ap (λ (n : ℕ). 2 ^ n) h)))
+
+eqb-swap : (x y : ℕ) → eqb x y ≡ eqb y x
+eqb-swap x y = same-truth (eqb x y) (eqb y x) (λ h. subst (λ (z : ℕ). T (eqb z x)) (eqb→eq x y h) (eqb-refl x)) (λ h. subst (λ (z : ℕ). T (eqb z y)) (eqb→eq y x h) (eqb-refl y))
+
+-- the number of a node
+find-number : (count : ℕ) (a : List ℕ) (i n : ℕ) (v : Subset) → length v ≡ count → ((j : ℕ) → i ≤ j → j < i + n → eight a (8 * j) < 2 ^ count)
+    → index (word v) (words-at a i n) ≡ number-of (map (subset-of count) (words-at a i n)) v
+find-number count a i zero v h f = refl
+find-number count a i (suc n) v h f =
+    let w = eight a (8 * i) in
+    let here : eqb (word v) w ≡ same-subset (subset-of count w) v =
+    eqb-swap (word v) w
+    ∙ ap (λ (x : ℕ). eqb x (word v)) (sym (subset-word count w (f i (omega arith) (omega arith))))
+    ∙ same-word (subset-of count w) v (subset-length count w ∙ sym h) in
+    rw (here, find-number count a (suc i) n v h (λ j l m. f j (omega arith) (omega arith)))
+
+index-few : (x : ℕ) (a : List ℕ) (i n : ℕ) → index x (words-at a i n) ≤ n
+index-few x a i zero = omega arith
+index-few x a i (suc n) = by (eqb x (eight a (8 * i))) (index-few x a (suc i) n)
+  where
+    by : (b : Bool) → index x (words-at a (suc i) n) ≤ n → cond b 0 (suc (index x (words-at a (suc i) n))) ≤ suc n
+    by true h = omega arith
+    by false h = omega arith
+
+pub index-small : (to : ℕ) (a : List ℕ) {nodes last : ℕ} → nodes ≤ 1024 → last ≡ index to (words-at a 0 nodes) → last < 65536
+index-small to a {nodes} h e = omega (arith, index-few to a 0 nodes)
+
+-- the nodes of a list that stands in the area
+subsets-are : (count : ℕ) (l : List Subset) → Sized count l → map (subset-of count) (map word l) ≡ l
+subsets-are count [] s = refl
+subsets-are count (v ∷ l) s = rw (word-subset count v (s v (List·Memᴰ·head refl)), subsets-are count l (λ u m. s u (List·Memᴰ·tail m)))
+
+module _ {count : ℕ} {l : List Subset} {area : List ℕ} (s : Sized count l) (k : Kept l area) where
+  pub nodes-in-are : nodes-in count area (length l) ≡ l
+  nodes-in-are = ap (map (subset-of count)) (k .words) ∙ subsets-are count l s
+
+  pub node-sets : (i : ℕ) → i < length l → eight area (8 * i) < 2 ^ count
+  node-sets i h =
+      omega (arith, kept-at k i h, word-lt (getD l i []), ap (λ (n : ℕ). 2 ^ n) (at-sized count l i s h))
+
+-- what a transition leads to has as many subformulas as the table; a letter has 16 bits
+to-length : (t : Table) (w s : Subset) → length (transition-with t w s .to) ≡ length t
+to-length t w s = sym (inside-length (add-inside (gather next-of (operators-in t s)) (nothing t))) ∙ length-map t (λ _. false)
+
+letter-few : (t : Table) (w s : Subset) → transition-with t w s .letter < 65536
+unfolding letter-of
+letter-few t w s =
+    let q : ℕ → Bool = λ j. member j (gather (requires true) (operators-in t s)) in
+    omega (arith, word-lt (map q (numbers 0 16)), ap (λ (n : ℕ). 2 ^ n) (values-length q 0 16))
+
+-- all choice words make the transitions of a node, and all nodes from i on theirs
+all-choices : (t : Table) (vs : List Subset) (i : ℕ) (v : Subset) → gather (singles-by t vs i v) (numbers 0 (2 ^ ors t)) ≡ ones-of t vs i v
+unfolding triples transitions
+all-choices t vs i v =
+    sym (ap (map (single-of t vs i v)) (gather-map (λ w. transition-of t w (saturate t w v)) (choice-of t) (numbers 0 (2 ^ ors t)))
+    ∙ map-gather (single-of t vs i v) (λ (x : ℕ). transition-of t (choice-of t x) (saturate t (choice-of t x) v)) (numbers 0 (2 ^ ors t)))
+
+all-nodes : (t : Table) (vs : List Subset) (count : ℕ) (a : List ℕ) (i n : ℕ)
+    → ones-from t vs i (map (subset-of count) (words-at a i n)) ≡ gather (λ j. ones-of t vs j (node-in count a j)) (numbers i n)
+unfolding triples transitions
+all-nodes t vs count a i zero = refl
+all-nodes t vs count a i (suc n) = ap (λ (l : List Item). ones-of t vs i (node-in count a i) ++ l) (all-nodes t vs count a (suc i) n)
+
+-- a list of `had` records with what the first choice words of node i give, and what the nodes from 1 up to i give
+abbrev pub of-first : Table → (count : ℕ) → Shelf → (nodes : ℕ) → List ℕ → (i had : ℕ) → ℕ → List Item
+of-first t count s nodes a i had = with-first (stored s a had) (singles-by t (nodes-in count a nodes) i (node-in count a i)) 0
+
+abbrev pub node-singles : Table → (count nodes : ℕ) → List ℕ → ℕ → List Item
+node-singles t count nodes a j = ones-of t (nodes-in count a nodes) j (node-in count a j)
+
+abbrev pub all-first : Table → (count nodes : ℕ) → List ℕ → ℕ → List Item
+all-first t count nodes a i = with-first [] (node-singles t count nodes a) 1 (i - 1)
+
+-- the nodes stay while later bytes change
+module _ {rows : List ℕ} {count : ℕ} {r : Ranks} {s : Shelf} {nodes : ℕ} {a : List ℕ} (g : Given rows count r s nodes a) where
+  module _ {b : List ℕ} {from to : ℕ} (c : Changed from to a b) (behind : s .base ≤ from) where
+    node-kept : (i : ℕ) → i < nodes → eight b (8 * i) ≡ eight a (8 * i)
+    node-kept i h = eight-same a b (8 * i) (λ k l. c .below k (omega (arith, g .behind)))
+
+    pub given-kept : Given rows count r s nodes b
+    given-kept = record {
+      limited = g .limited;
+      ranks = g .ranks;
+      lent = subst⁻¹ (Lent s) (c .same-length) (g .lent);
+      nexts = g .nexts;
+      some = g .some;
+      few = g .few;
+      behind = g .behind;
+      sets = λ i h. subst⁻¹ (λ (w : ℕ). w < 2 ^ count) (node-kept i h) (g .sets i h);
+    }
+
+    pub node-in-kept : (i : ℕ) → i < nodes → node-in count b i ≡ node-in count a i
+    node-in-kept i h = ap (subset-of count) (node-kept i h)
+
+    pub nodes-in-kept : nodes-in count b nodes ≡ nodes-in count a nodes
+    nodes-in-kept = ap (map (subset-of count)) (words-same a b 0 nodes (λ k l. c .below k (omega (arith, g .behind))))
+
+  abbrev t : Table
+  t = table-of rows count
+
+  abbrev vs : List Subset
+  vs = nodes-in count a nodes
+
+  -- one choice word
+  module _ (i x : ℕ) {choice from : ℕ} (h : i < nodes) (c : choice ≡ word (choice-of t x)) (f : from ≡ eight a (8 * i)) where
+    abbrev v : Subset
+    v = node-in count a i
+
+    abbrev w : Subset
+    w = choice-of t x
+
+    from-is : from ≡ word v
+    from-is = f ∙ sym (subset-word count (eight a (8 * i)) (g .sets i h))
+
+    pub single-none : {had : ℕ} → had ≤ s .capacity → Stepped rows count choice from Nothing → Added s had a had a (singles-by t vs i v x)
+    single-none {had} l st =
+        grown-same
+        (ap (λ (ys : List Transition). adds same-profile (stored s a had) (map (single-of t vs i v) ys))
+        (sym (no-step t w (saturate t w v) (st .is w v (subset-length count (eight a (8 * i))) c from-is))))
+        (grown-still s had a l)
+
+    module _ {to letter : ℕ} (st : Stepped rows count choice from (Leads to letter)) where
+      found : Found t w (saturate t w v) to letter
+      found = a-step t w (saturate t w v) (st .is w v (subset-length count (eight a (8 * i))) c from-is)
+
+      pub single-letter : letter < 65536
+      single-letter = omega (arith, found .letter-is, letter-few t w (saturate t w v))
+
+      pub single-some : {last had q : ℕ} {d : List ℕ} (carried : List ℕ) → last ≡ index to (words-at a 0 nodes)
+          → Triples-of rows count choice from carried
+          → Added s had a q d (found-of (record { first = i; last = last; parent = 0; letter = letter }) (triples-in (s .n) carried) ∷ [])
+          → Added s had a q d (singles-by t vs i v x)
+      single-some {last} {had} carried l k m =
+          let y = transition-with t w (saturate t w v) in
+          let p : last ≡ number-of vs (y .to) =
+          l ∙ ap (λ (z : ℕ). index z (words-at a 0 nodes)) (found .to-is)
+          ∙ find-number count a 0 nodes (y .to) (to-length t w (saturate t w v) ∙ table-length rows count) (λ j m n. g .sets j (omega arith)) in
+          let q : triples-in (s .n) carried ≡ triples t v w =
+          ap (λ (n : ℕ). triples-in n carried) (g .nexts ∙ g .ranks .nexts-are) ∙ k v w from-is c in
+          grown-same
+          ((λ j. add same-profile (stored s a had) (found-of (record { first = i; last = p j; parent = 0; letter = found .letter-is j }) (q j)))
+          ∙ ap (λ (ys : List Transition). adds same-profile (stored s a had) (map (single-of t vs i v) ys)) (sym (found .exists)))
+          m
+
+  -- the loop over the choice words of node i, with a shelf of `had` records
+  module _ (i had : ℕ) where
+    abbrev first : ℕ → List Item
+    first = of-first t count s nodes a i had
+
+    of-all : first (2 ^ ors t) ≡ adds same-profile (stored s a had) (ones-of t vs i (node-in count a i))
+    of-all = ap (adds same-profile (stored s a had)) (all-choices t vs i (node-in count a i))
+
+    pub of-turn : {all q : ℕ} {b d : List ℕ} (x : ℕ) → i < nodes → all ≤ s .capacity → Grown s had a all b (first x)
+        → Added s all b q d (singles-by t (nodes-in count b nodes) i (node-in count b i) x)
+        → Grown s had a q d (first (x + 1))
+    of-turn {all} {b = b} x h l m n =
+        turn-more (stored s a had) (singles-by t vs i (node-in count a i)) 0 x l m
+        (grown-same
+        (ap (adds same-profile (stored s b all))
+        ((λ j. singles-by t (nodes-in-kept (m .elsewhere) (omega arith) j) i (node-in-kept (m .elsewhere) (omega arith) i h j) x)
+        ∙ ap (singles-by t vs i (node-in count a i)) (sym (zero-add x))))
+        n)
+
+    pub of-stop : {all : ℕ} {b : List ℕ} (x end : ℕ) → end ≡ 2 ^ ors t → s .capacity < all → x ≤ end → Grown s had a all b (first x)
+        → Added s had a all b (ones-of t vs i (node-in count a i))
+    of-stop x end e l k m = grown-same of-all (turn-stop (stored s a had) (singles-by t vs i (node-in count a i)) 0 x (2 ^ ors t) l (omega arith) m)
+
+    pub of-done : {all : ℕ} {b : List ℕ} (x end : ℕ) → end ≡ 2 ^ ors t → x ≤ end → end ≤ x → Grown s had a all b (first x)
+        → Added s had a all b (ones-of t vs i (node-in count a i))
+    of-done x end e k l m = grown-same (ap (λ (n : ℕ). first n) {x = x} {y = 2 ^ ors t} (omega arith) ∙ of-all) m
+
+  -- the loop over the nodes: those before i are done
+  abbrev each : ℕ → List Item
+  each = node-singles t count nodes a
+
+  abbrev before : ℕ → List Item
+  before = all-first t count nodes a
+
+  all-is : before nodes ≡ ones t vs
+  unfolding ones
+  all-is =
+      ap (adds same-profile [])
+      (sym (ap (λ (n : ℕ). ones-from t vs 1 (tail (nodes-in count a n))) {x = nodes} {y = suc (nodes - 1)} (omega (arith, g .some))
+      ∙ all-nodes t vs count a 1 (nodes - 1)))
+
+  pub all-start : Grown s 0 a 0 a (before 1)
+  unfolding stored
+  all-start = grown-still s 0 a (omega arith)
+
+  pub all-turn : {all q : ℕ} {b d : List ℕ} (i : ℕ) → 0 < i → i < nodes → all ≤ s .capacity → Grown s 0 a all b (before i)
+      → Added s all b q d (ones-of t (nodes-in count b nodes) i (node-in count b i))
+      → Grown s 0 a q d (before (i + 1))
+  all-turn {all} {b = b} i o h l m n =
+      grown-same (ap (λ (k : ℕ). with-first [] each 1 k) {x = i - 1 + 1} {y = i + 1 - 1} (omega arith))
+      (turn-more [] each 1 (i - 1) l m
+      (grown-same
+      (ap (adds same-profile (stored s b all))
+      ((λ j. ones-of t (nodes-in-kept (m .elsewhere) (omega arith) j) i (node-in-kept (m .elsewhere) (omega arith) i h j))
+      ∙ ap each {x = i} {y = 1 + (i - 1)} (omega arith)))
+      n))
+
+  pub all-stop : {all : ℕ} {b : List ℕ} (i : ℕ) → s .capacity < all → i ≤ nodes → Grown s 0 a all b (before i) → Grown s 0 a all b (ones t vs)
+  all-stop i l k m = grown-same all-is (turn-stop [] each 1 (i - 1) (nodes - 1) l (omega arith) m)
+
+  pub all-done : {all : ℕ} {b : List ℕ} (i : ℕ) → i ≤ nodes → nodes ≤ i → Grown s 0 a all b (before i) → Grown s 0 a all b (ones t vs)
+  all-done i k l m = grown-same (ap (λ (n : ℕ). before n) {x = i} {y = nodes} (omega arith) ∙ all-is) m

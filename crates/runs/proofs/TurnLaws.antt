@@ -1,0 +1,148 @@
+-- What one turn adds: a profile followed by one of one transition (`longer-none`, `longer-one`), followed by each of them (`extend-more`), and the
+-- breadth-first search as a loop over the records (`Pending`). Assumes nothing.
+use mathlib.Core.Path.{_≡_, sym, ap, subst, _∙_}
+use mathlib.Core.Bool.{Bool, cond}
+use mathlib.Core.List.{List, [], _∷_}
+use Prim.Native.Nat.{ℕ, suc, _+_, _-_, _≤_, _<_}
+use native.Mathlib.Nat.{zero-add}
+use native.Mathlib.Numerals.{add-one}
+use native.Mathlib.Omega.{arith}
+use borrow.Author.Tests.{ne-eqb, eq-eqb}
+use lib.ListN.{length, getD}
+use Rattle.base.specs.Lists.{numbers}
+use Rattle.base.proofs.AppendLaws.{gather-map}
+use Rattle.coded.specs.Triples.{join}
+use Rattle.coded.specs.Spread.{adds, spread}
+use Rattle.coded.specs.Runs.{Found, same-profile, follow, longer, profiles-from}
+use Rattle.triples.specs.Promise.{triples-in, triples-at}
+use Rattle.triples.proofs.CellLaws.{triples-copied}
+use Rattle.runs.specs.declared.Ends.{Ends}
+use Rattle.runs.specs.declared.Shelf.{Shelf}
+use Rattle.runs.specs.Stored.{two, found-of, found-at, place, record-of, stored, Grown, Added}
+use Rattle.runs.proofs.RecordLaws.{record-kept}
+use Rattle.runs.proofs.GrowLaws.{stored-length, stored-at, stored-kept, grown-still, grown-longer, grown-then, with-first, turn-more, turn-stop}
+use Rattle.runs.proofs.SpreadLaws.{spread-length, spread-done, spread-step}
+
+pub grown-same : {s : Shelf} {count r : ℕ} {a b : List ℕ} {xs ys : List Found} → xs ≡ ys → Grown s count a r b xs → Grown s count a r b ys
+grown-same {s} {count} {r} {a} {b} e g = subst (Grown s count a r b) e g
+
+-- the record at y after the record at x
+module _ (n p : ℕ) (a : List ℕ) (x y : ℕ) where
+  abbrev both : Found
+  both =
+      found-of (record { first = two a (x + 144); last = two a (y + 146); parent = suc p; letter = two a (y + 150) })
+      (join n (triples-at n a x) (triples-at n a y))
+
+  apart : (two a (x + 146) ≡ two a (y + 144) → ⊥) → [] ≡ follow n p (found-at n a x) (found-at n a y)
+  unfolding join found-at
+  apart d = sym (ap (λ (t : Bool). cond t (both ∷ []) []) (ne-eqb (two a (x + 146)) (two a (y + 144)) d))
+
+  meets : two a (x + 146) ≡ two a (y + 144) → both ∷ [] ≡ follow n p (found-at n a x) (found-at n a y)
+  unfolding join found-at
+  meets e = sym (ap (λ (t : Bool). cond t (both ∷ []) []) (eq-eqb (two a (x + 146)) (two a (y + 144)) e))
+
+  joins : (e : Ends) (u v t : List ℕ) → n ≤ 12 → two a (x + 146) ≡ two a (y + 144)
+      → ((i : ℕ) → i < 144 → getD u i 0 ≡ getD a (x + i) 0) → ((i : ℕ) → i < 144 → getD v i 0 ≡ getD a (y + i) 0)
+      → triples-in n t ≡ join n (triples-in n u) (triples-in n v)
+      → e .first ≡ two a (x + 144) → e .last ≡ two a (y + 146) → e .parent ≡ p + 1 → e .letter ≡ two a (y + 150)
+      → found-of e (triples-in n t) ∷ [] ≡ follow n p (found-at n a x) (found-at n a y)
+  joins e u v t h m cu cv j first last parent letter =
+      let du = triples-copied n a u x h cu in
+      let dv = triples-copied n a v y h cv in
+      let carried : triples-in n t ≡ join n (triples-at n a x) (triples-at n a y) = j ∙ (λ i. join n (du i) (dv i)) in
+      let from : e .parent ≡ suc p = parent ∙ add-one p in
+      ap (λ (z : Found). z ∷ []) (λ i. found-of (record { first = first i; last = last i; parent = from i; letter = letter i }) (carried i)) ∙ meets m
+
+-- profile p followed by profile q: nothing to add, or one profile
+module _ (s : Shelf) (count : ℕ) (a : List ℕ) (p q : ℕ) where
+  abbrev After : (r : ℕ) → List ℕ → Type 0
+  After r b = Added s count a r b (follow (s .n) p (record-of s a p) (record-of s a q))
+
+  pub longer-none : count ≤ s .capacity → (two a (place s p + 146) ≡ two a (place s q + 144) → ⊥) → After count a
+  longer-none h d = grown-same (ap (adds same-profile (stored s a count)) (apart (s .n) p a (place s p) (place s q) d)) (grown-still s count a h)
+
+  pub longer-one : {r : ℕ} {b : List ℕ} (e : Ends) (u v t : List ℕ) → s .n ≤ 12 → two a (place s p + 146) ≡ two a (place s q + 144)
+      → ((i : ℕ) → i < 144 → getD u i 0 ≡ getD a (place s p + i) 0) → ((i : ℕ) → i < 144 → getD v i 0 ≡ getD a (place s q + i) 0)
+      → triples-in (s .n) t ≡ join (s .n) (triples-in (s .n) u) (triples-in (s .n) v)
+      → e .first ≡ two a (place s p + 144) → e .last ≡ two a (place s q + 146) → e .parent ≡ p + 1 → e .letter ≡ two a (place s q + 150)
+      → Added s count a r b (found-of e (triples-in (s .n) t) ∷ []) → After r b
+  longer-one e u v t h m cu cv j first last parent letter g =
+      grown-same (ap (adds same-profile (stored s a count)) (joins (s .n) p a (place s p) (place s q) e u v t h m cu cv j first last parent letter)) g
+
+-- profile p followed by the first of those of one transition
+module _ (s : Shelf) (count p : ℕ) (a : List ℕ) where
+  abbrev pub extended : ℕ → List Found
+  extended = with-first (stored s a count) (λ q. follow (s .n) p (record-of s a p) (record-of s a q)) 0
+
+  pub extended-all : (ones : ℕ) → extended ones ≡ adds same-profile (stored s a count) (longer (s .n) (stored s a ones) p (record-of s a p))
+  unfolding join stored
+  extended-all ones = ap (adds same-profile (stored s a count)) (sym (gather-map (follow (s .n) p (record-of s a p)) (record-of s a) (numbers 0 ones)))
+
+  pub extend-more : {all r : ℕ} {b d : List ℕ} (q : ℕ) → s .n ≤ 12 → p < count → q < count → all ≤ s .capacity → Grown s count a all b (extended q)
+      → Added s all b r d (follow (s .n) p (record-of s b p) (record-of s b q))
+      → Grown s count a r d (extended (q + 1))
+  extend-more {all} {r} {b} {d} q n hp hq h g m =
+      let kept : (i : ℕ) → i < count → record-of s b i ≡ record-of s a i = λ i l. record-kept (g .elsewhere) (s .n) (place s i) n (omega arith) in
+      turn-more (stored s a count) (λ q. follow (s .n) p (record-of s a p) (record-of s a q)) 0 q h g
+      (grown-same
+      (ap (adds same-profile (stored s b all))
+      ((λ i. follow (s .n) p (kept p hp i) (kept q hq i)) ∙ ap (λ (j : ℕ). follow (s .n) p (record-of s a p) (record-of s a j)) (sym (zero-add q))))
+      m)
+
+  pub extend-stop : {all : ℕ} {b : List ℕ} (q ones : ℕ) → s .capacity < all → q ≤ ones → Grown s count a all b (extended q)
+      → Added s count a all b (longer (s .n) (stored s a ones) p (record-of s a p))
+  extend-stop q ones h l g =
+      grown-same (extended-all ones) (turn-stop (stored s a count) (λ q. follow (s .n) p (record-of s a p) (record-of s a q)) 0 q ones h l g)
+
+  pub extend-done : {all : ℕ} {b : List ℕ} (q ones : ℕ) → q ≤ ones → ones ≤ q → Grown s count a all b (extended q)
+      → Added s count a all b (longer (s .n) (stored s a ones) p (record-of s a p))
+  extend-done q ones h l g = grown-same (ap (λ (i : ℕ). extended i) {x = q} {y = ones} (omega arith) ∙ extended-all ones) g
+
+-- p of the profiles found so far are gone on from: what is left of the search leads to all profiles
+pub record Pending (s : Shelf) (ones : ℕ) (a : List ℕ) (p all : ℕ) (b : List ℕ) : Type 0 where
+  pub so-far : List Found
+  pub grown : Grown s ones a all b so-far
+  pub rest : (fuel : ℕ) → profiles-from (p + fuel) (s .n) (stored s a ones) ≡ spread same-profile (longer (s .n) (stored s a ones)) fuel p so-far
+
+pub pending-start : (s : Shelf) (ones : ℕ) (a : List ℕ) → ones ≤ s .capacity → Pending s ones a 0 ones a
+unfolding profiles-from
+pending-start s ones a h = record {
+  so-far = stored s a ones;
+  grown = grown-still s ones a h;
+  rest = λ fuel. ap (λ (k : ℕ). spread same-profile (longer (s .n) (stored s a ones)) k 0 (stored s a ones)) (zero-add fuel);
+}
+
+module _ {s : Shelf} {ones p all : ℕ} {a b : List ℕ} (k : Pending s ones a p all b) where
+  abbrev onward : ℕ → Found → List Found
+  onward = longer (s .n) (stored s a ones)
+
+  at-fuel : (fuel : ℕ) → p ≤ fuel → profiles-from fuel (s .n) (stored s a ones) ≡ spread same-profile onward (fuel - p) p (k .so-far)
+  at-fuel fuel h = ap (λ (i : ℕ). profiles-from i (s .n) (stored s a ones)) {x = fuel} {y = p + (fuel - p)} (omega arith) ∙ k .rest (fuel - p)
+
+  pub pending-next : {r : ℕ} {d : List ℕ} → s .n ≤ 12 → all ≤ s .capacity → p < all
+      → Added s all b r d (longer (s .n) (stored s b ones) p (record-of s b p)) → Pending s ones a (p + 1) r d
+  pending-next {r} {d} n h l g =
+      let x = record-of s b p in
+      let e : stored s b all ≡ k .so-far = k .grown .records h in
+      let there : getD (k .so-far) p x ≡ x = sym (ap (λ (xs : List Found). getD xs p x) e) ∙ stored-at s b all p x l in
+      record {
+        so-far = adds same-profile (k .so-far) (onward p x);
+        grown = grown-then (k .grown) (onward p x) h
+            (grown-same (ap (λ (os : List Found). adds same-profile (stored s b all) (longer (s .n) os p x)) (stored-kept s b ones n (k .grown .elsewhere))) g);
+        rest = λ fuel.
+            ap (λ (i : ℕ). profiles-from i (s .n) (stored s a ones)) {x = p + 1 + fuel} {y = p + suc fuel} (omega arith)
+            ∙ k .rest (suc fuel)
+            ∙ spread-step same-profile onward fuel p (k .so-far) x (omega (arith, ap length e, stored-length s b all))
+            ∙ ap (λ (y : Found). spread same-profile onward fuel (suc p) (adds same-profile (k .so-far) (onward p y))) there
+            ∙ ap (λ (i : ℕ). spread same-profile onward fuel i (adds same-profile (k .so-far) (onward p x))) (sym (add-one p));
+      }
+
+  pub pending-stop : (fuel : ℕ) → s .capacity < all → p ≤ fuel → Grown s ones a all b (profiles-from fuel (s .n) (stored s a ones))
+  pending-stop fuel h l =
+      grown-longer (k .grown) h (omega (arith, ap length (at-fuel fuel l), spread-length same-profile onward (fuel - p) p (k .so-far)))
+
+  pub pending-done : (fuel : ℕ) → all ≤ p → p ≤ s .capacity → p ≤ fuel → Grown s ones a all b (profiles-from fuel (s .n) (stored s a ones))
+  pending-done fuel h m l =
+      let e : stored s b all ≡ k .so-far = k .grown .records (omega arith) in
+      grown-same
+      (sym (at-fuel fuel l ∙ spread-done same-profile onward (fuel - p) p (k .so-far) (omega (arith, ap length e, stored-length s b all)))) (k .grown)

@@ -1,0 +1,61 @@
+-- `runs::add` adds one profile: it is known, or there is room for it, or there is none.
+use mathlib.Core.Path.{sym, _∙_}
+use Rattle.triples.specs.Promise.{triples-in}
+use Rattle.runs.specs.Stored.{found-of}
+use Rattle.runs.proofs.GrowLaws.{grown-known, grown-new, grown-full}
+use borrow.Author.Needs.{needs}
+use Rattle.runs.proofs.add.Statement.{statement}
+use Rattle.runs.proofs.add.Tie as tie
+
+known-requires : tie.Need-known-requires
+known-requires c κs = search needs
+
+same-length : tie.Need-same-length
+same-length c = search needs
+
+returns : tie.Need-returns
+returns c = let s = c .before .before .before .before in grown-known (s .args .shelf) (s .args .count) (s .args .area .now) (found-of (s .args .ends) (triples-in (s .args .shelf .n) (s .args .t .now))) (s .pre .1 .0) (sym (c .if1 .taken) ∙ c .before .known .ensures)
+
+mul-write : tie.Need-mul-write
+mul-write c = search needs
+
+add-write : tie.Need-add-write
+add-write c = search needs
+
+write-requires : tie.Need-write-requires
+write-requires c κs = search needs
+
+add-result : tie.Need-add-result
+add-result c = search needs
+
+same-length-2 : tie.Need-same-length-2
+same-length-2 c = search needs
+
+returns-2 : tie.Need-returns-2
+returns-2 c = let s = c .before .before .before .before .before .before .before .before .before .before .before in grown-new (s .args .shelf) (s .args .count) (s .args .area .now) (found-of (s .args .ends) (triples-in (s .args .shelf .n) (s .args .t .now))) (s .pre .1 .0) (c .before .before .write .last .0) (s .pre .0 .next) (sym (c .before .before .before .before .before .before .before .if1 .left) ∙ c .before .before .before .before .before .before .before .before .known .ensures) (c .before .before .before .before .before .if2 .taken) (c .before .before .write .ensures .0 (s .args .shelf .n) (s .pre .0 .next)) (c .before .before .write .ensures .1)
+
+add-result-2 : tie.Need-add-result-2
+add-result-2 c = search needs
+
+same-length-3 : tie.Need-same-length-3
+same-length-3 c = search needs
+
+returns-3 : tie.Need-returns-3
+returns-3 c = let s = c .before .before .before .before .before .before in grown-full (s .args .shelf) (s .args .count) (s .args .area .now) (found-of (s .args .ends) (triples-in (s .args .shelf .n) (s .args .t .now))) (s .pre .1 .0) (sym (c .before .before .if1 .left) ∙ c .before .before .before .known .ensures) (c .if2 .left)
+
+pub add-spec : {M : Type 1} → statement M
+add-spec =
+    tie.close
+    (tie.spec
+    known-requires
+    same-length
+    returns
+    mul-write
+    add-write
+    write-requires
+    add-result
+    same-length-2
+    returns-2
+    add-result-2
+    same-length-3
+    returns-3)

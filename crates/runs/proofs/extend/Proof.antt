@@ -1,0 +1,59 @@
+-- `runs::extend` adds one profile followed by each of one transition. The invariant: the first q of these are done.
+use mathlib.Core.Path.{subst, sym}
+use Prim.Native.Nat.{_-_, _≤_}
+use Rattle.runs.specs.Stored.{Lent, Grown}
+use Rattle.runs.proofs.GrowLaws.{grown-still}
+use Rattle.runs.proofs.TurnLaws.{extended, extend-more, extend-stop, extend-done}
+use borrow.Author.Needs.{needs}
+use native.Mathlib.Omega.{arith}
+use Rattle.runs.proofs.extend.Statement.{statement}
+use Rattle.runs.proofs.extend.Tie as tie
+
+abbrev Inv-loop : tie.InvT-loop
+Inv-loop area₀ shelf p ones count all₀ q₀ area all q = (q ≤ ones) × Grown shelf count area₀ all area (extended shelf count p area₀ q)
+
+abbrev μ-loop : tie.MeasureT-loop
+μ-loop area₀ shelf p ones count all₀ q₀ area all q = ones - q
+
+loop-holds : tie.Need-loop-holds Inv-loop μ-loop
+loop-holds c = (omega arith, grown-still _ _ _ (omega arith))
+
+same-length : tie.Need-same-length Inv-loop μ-loop
+same-length c = c .before .before .before .loop .inv .1 .elsewhere .same-length
+
+returns : tie.Need-returns Inv-loop μ-loop
+returns c = let s = c .before .before .before .before .before in let l = c .before .before .before .loop in extend-stop (s .args .shelf) (s .args .count) (s .args .p) (s .args .area .now) (l .q) (s .args .ones) (c .if1 .taken) (l .inv .0) (l .inv .1)
+
+longer-requires : tie.Need-longer-requires Inv-loop μ-loop
+longer-requires c κs = let s = c .before .before .before .before .before .before in let l = c .before .before .before .before .loop in (subst (Lent (s .args .shelf)) (sym (l .inv .1 .elsewhere .same-length)) (s .pre .0), omega (arith, l .inv .1 .more))
+
+add-q : tie.Need-add-q Inv-loop μ-loop
+add-q c = search needs
+
+loop-less : tie.Need-loop-less Inv-loop μ-loop
+loop-less c = search needs
+
+loop-again : tie.Need-loop-again Inv-loop μ-loop
+loop-again c = let s = c .before .before .before .before .before .before .before .before .before in let l = c .before .before .before .before .before .before .before .loop in (omega arith, extend-more (s .args .shelf) (s .args .count) (s .args .p) (s .args .area .now) (l .q) (s .pre .0 .next) (omega arith) (omega arith) (c .before .before .before .before .if1 .left) (l .inv .1) (c .before .before .longer .ensures))
+
+same-length-2 : tie.Need-same-length-2 Inv-loop μ-loop
+same-length-2 c = c .before .loop .inv .1 .elsewhere .same-length
+
+returns-2 : tie.Need-returns-2 Inv-loop μ-loop
+returns-2 c = let s = c .before .before .before in let l = c .before .loop in extend-done (s .args .shelf) (s .args .count) (s .args .p) (s .args .area .now) (l .q) (s .args .ones) (l .inv .0) (c .loop-test .left) (l .inv .1)
+
+pub extend-spec : {M : Type 1} → statement M
+extend-spec =
+    tie.close
+    (tie.spec
+    Inv-loop
+    μ-loop
+    loop-holds
+    same-length
+    returns
+    longer-requires
+    add-q
+    loop-less
+    loop-again
+    same-length-2
+    returns-2)

@@ -1,0 +1,48 @@
+-- What the functions over the profiles of one transition ask and promise. The nodes stand as words at the beginning of the area, and the
+-- shelf behind them. A reader of the decision's contract need not read it. Assumes nothing.
+use mathlib.Core.Path.{_≡_}
+use mathlib.Core.List.{List, map}
+use Prim.Native.Nat.{ℕ, _*_, _^_, _≤_, _<_}
+use lib.ListN.{length}
+use Rattle.base.specs.Bits.{bit}
+use Rattle.base.specs.Lists.{numbers}
+use Rattle.formula.specs.Table.{Table}
+use Rattle.tableau.specs.Saturation.{Subset, saturate}
+use Rattle.tableau.specs.Transition.{Transition, choice-of, transition-of}
+use Rattle.tableau.specs.Area.{eight, words-at}
+use Rattle.coded.specs.Marks.{triples}
+use Rattle.coded.specs.Runs.{Found, number-of}
+use Rattle.traces.specs.Promise.{Limited, Ranks-of}
+use Rattle.traces.specs.declared.Ranks.{Ranks}
+use Rattle.runs.specs.declared.Shelf.{Shelf}
+use Rattle.runs.specs.Stored.{Lent}
+
+-- the set of a word, of that many subformulas
+abbrev pub subset-of : (count word : ℕ) → Subset
+subset-of count w = map (bit w) (numbers 0 count)
+
+-- node i of the area, and the first nodes
+abbrev pub node-in : (count : ℕ) → List ℕ → (i : ℕ) → Subset
+node-in count area i = subset-of count (eight area (8 * i))
+
+abbrev pub nodes-in : (count : ℕ) → List ℕ → (nodes : ℕ) → List Subset
+nodes-in count area nodes = map (subset-of count) (words-at area 0 nodes)
+
+-- the profile of a transition of node i, which is the set v
+abbrev pub single-of : Table → List Subset → (i : ℕ) → Subset → Transition → Found
+single-of t vs i v s = record { at = record { first = i; last = number-of vs (s .to); carried = triples t v (s .choice) }; parent = 0; label = s .letter }
+
+-- of the transition with a choice word, if it exists
+abbrev pub singles-by : Table → List Subset → (i : ℕ) → Subset → (choice-word : ℕ) → List Found
+singles-by t vs i v x = map (single-of t vs i v) (transition-of t (choice-of t x) (saturate t (choice-of t x) v))
+
+-- What is asked: rows and ranks that are right, a shelf behind the nodes, and nodes that are sets of subformulas.
+pub record Given (rows : List ℕ) (count : ℕ) (r : Ranks) (s : Shelf) (nodes : ℕ) (area : List ℕ) : Type 0 where
+  pub limited : Limited rows count
+  pub ranks : Ranks-of rows count r
+  pub lent : Lent s (length area)
+  pub nexts : s .n ≡ r .nexts
+  pub some : 0 < nodes
+  pub few : nodes ≤ 1024
+  pub behind : 8 * nodes ≤ s .base
+  pub sets : (i : ℕ) → i < nodes → eight area (8 * i) < 2 ^ count

@@ -1,0 +1,75 @@
+-- Profiles in the lent area: records of 192 bytes, 144 of triples, then two each for the first node, the last node, 1 + the number of the
+-- profile that it goes on from (0 for none), and its last letter; 40 are unused. What the functions over these records promise. A reader of
+-- the decision's contract need not read it. Assumes nothing.
+use mathlib.Core.Path.{_≡_}
+use mathlib.Core.List.{List, map}
+use Prim.Native.Nat.{ℕ, _+_, _*_, _≤_, _<_, min}
+use lib.ListN.{length, getD}
+use Rattle.base.specs.Lists.{numbers}
+use Rattle.coded.specs.Triples.{Triples}
+use Rattle.coded.specs.Spread.{adds}
+use Rattle.coded.specs.Runs.{Profile, Found, same-profile}
+use Rattle.triples.specs.Promise.{triples-at}
+use Rattle.runs.specs.declared.Ends.{Ends}
+use Rattle.runs.specs.declared.Shelf.{Shelf}
+
+-- two bytes, the low one first
+abbrev pub two : List ℕ → (at : ℕ) → ℕ
+two b at = getD b at 0 + getD b (at + 1) 0 * 256
+
+-- the profile with these ends and triples
+abbrev pub profile-of : Ends → Triples → Profile
+profile-of e s = record { first = e .first; last = e .last; carried = s }
+
+abbrev pub found-of : Ends → Triples → Found
+found-of e s = record { at = profile-of e s; parent = e .parent; label = e .letter }
+
+abbrev pub ends-at : List ℕ → (at : ℕ) → Ends
+ends-at b at = record { first = two b (at + 144); last = two b (at + 146); parent = two b (at + 148); letter = two b (at + 150) }
+
+-- the record at a byte, over n operands of next
+unfoldable pub found-at : ℕ → List ℕ → (at : ℕ) → Found
+found-at n b at = found-of (ends-at b at) (triples-at n b at)
+
+abbrev pub place : Shelf → ℕ → ℕ
+place s p = s .base + 192 * p
+
+-- record p of a shelf
+abbrev pub record-of : Shelf → List ℕ → ℕ → Found
+record-of s b p = found-at (s .n) b (place s p)
+
+-- the first k records of a shelf
+unfoldable pub stored : Shelf → List ℕ → ℕ → List Found
+stored s b k = map (record-of s b) (numbers 0 k)
+
+-- the numbers of a record fit into its bytes
+pub record Small (e : Ends) : Type 0 where
+  pub first : e .first < 65536
+  pub last : e .last < 65536
+  pub parent : e .parent < 65536
+  pub letter : e .letter < 65536
+
+-- The shelf is within an area of that length, behind at most 1,024 nodes.
+pub record Lent (s : Shelf) (len : ℕ) : Type 0 where
+  pub next : s .n ≤ 12
+  pub low : s .base ≤ 8192
+  pub few : s .capacity ≤ 4096
+  pub enough : place s (s .capacity) ≤ len
+
+-- a became b, and changed at most from one byte up to another
+pub record Changed (from to : ℕ) (a b : List ℕ) : Type 0 where
+  pub same-length : length b ≡ length a
+  pub below : (i : ℕ) → i < from → getD b i 0 ≡ getD a i 0
+  pub beyond : (i : ℕ) → to ≤ i → getD b i 0 ≡ getD a i 0
+
+-- A shelf with count records in the area a has r records in the area b: those of the list xs, or one more than there is room for if xs
+-- is longer than that. Only bytes of the shelf behind the first count records have changed.
+pub record Grown (s : Shelf) (count : ℕ) (a : List ℕ) (r : ℕ) (b : List ℕ) (xs : List Found) : Type 0 where
+  pub more : count ≤ r
+  pub count-is : r ≡ min (length xs) (s .capacity + 1)
+  pub records : r ≤ s .capacity → stored s b r ≡ xs
+  pub elsewhere : Changed (place s count) (place s (s .capacity)) a b
+
+-- The same, where the list is the count records with the profiles ys too, each unless it is there.
+abbrev pub Added : Shelf → (count : ℕ) → List ℕ → (r : ℕ) → List ℕ → List Found → Type 0
+Added s count a r b ys = Grown s count a r b (adds same-profile (stored s a count) ys)

@@ -1,0 +1,267 @@
+// Profiles in the lent area, found breadth first: those of one transition, and then each profile followed by each of these.
+ghost use mathlib.Core.Path.{_≡_};
+ghost use mathlib.Core.List.{[], _∷_};
+ghost use Prim.Native.Nat.{ℕ, _+_, _*_, _≤_, _<_};
+ghost use lib.ListN.{length, getD};
+ghost use Rattle.coded.specs.Spread.{seen};
+ghost use Rattle.coded.specs.Runs.{same-profile, follow, longer, profiles-from, ones-of, ones};
+ghost use Rattle.tableau.specs.Promise.{table-of};
+ghost use Rattle.triples.specs.Promise.{triples-in};
+ghost use Rattle.runs.specs.Stored.{two, profile-of, found-of, found-at, record-of, stored, Small, Lent, Changed, Grown, Added};
+ghost use Rattle.runs.specs.Singles.{node-in, nodes-in, singles-by, Given};
+use tableau::NodeNumber;
+use tableau::Step;
+use traces::Ranks;
+
+// A profile's nodes, 1 + the number of the profile that it goes on from (0 for none), and its last letter.
+pub struct Ends {
+    pub first: usize,
+    pub last: usize,
+    pub parent: usize,
+    pub letter: usize,
+}
+
+// Where profiles are kept: from byte base on, at most capacity of them, over n operands of next.
+pub struct Shelf {
+    pub base: usize,
+    pub capacity: usize,
+    pub n: usize,
+}
+
+fn wide2(low: u8, high: u8) -> usize
+    ensures { λ r. ⌜ (r ≡ low + high * 256) × (r < 65536) ⌝ }
+{
+    base::wide(low) + base::wide(high) * 256
+}
+
+pub fn get2(area: &[u8], at: usize) -> usize
+    requires { ⌜ at + 2 ≤ length (now area) ⌝ }
+    ensures { λ r. ⌜ (r ≡ two (now (area .entry)) at) × (r < 65536) ⌝ }
+{
+    wide2(area[at], area[at + 1])
+}
+
+fn put2(area: &mut [u8], at: usize, x: usize)
+    requires { ⌜ (at + 2 ≤ length (now area)) × (x < 65536) ⌝ }
+    ensures { λ r. ⌜ two (now (area .exit)) at ≡ x ⌝ }
+    ensures { λ r. ⌜ Changed at (at + 2) (now (area .entry)) (now (area .exit)) ⌝ }
+{
+    area[at] = (x % 256) as u8;
+    area[at + 1] = (x / 256 % 256) as u8;
+}
+
+fn store(area: &mut [u8], at: usize, t: &[u8; 144])
+    requires { ⌜ at + 144 ≤ length (now area) ⌝ }
+    ensures { λ r. ⌜ ((i : ℕ) → i < 144 → getD (now (area .exit)) (at + i) 0 ≡ getD (now (t .entry)) i 0) ⌝ }
+    ensures { λ r. ⌜ Changed at (at + 144) (now (area .entry)) (now (area .exit)) ⌝ }
+{
+    let mut i = 0;
+    while i < 144 {
+        area[at + i] = t[i];
+        i += 1;
+    }
+}
+
+fn write(area: &mut [u8], at: usize, ends: Ends, t: &[u8; 144])
+    requires { ⌜ at + 192 ≤ length (now area) ⌝ }
+    requires { ⌜ Small ends ⌝ }
+    ensures { λ r. ⌜ ((n : ℕ) → n ≤ 12 → found-at n (now (area .exit)) at ≡ found-of ends (triples-in n (now (t .entry)))) ⌝ }
+    ensures { λ r. ⌜ Changed at (at + 192) (now (area .entry)) (now (area .exit)) ⌝ }
+{
+    store(area, at, t);
+    put2(area, at + 144, ends.first);
+    put2(area, at + 146, ends.last);
+    put2(area, at + 148, ends.parent);
+    put2(area, at + 150, ends.letter);
+}
+
+fn same_profile(area: &[u8], at: usize, ends: Ends, t: &[u8; 144], n: usize) -> bool
+    requires { ⌜ (n ≤ 12) × (at + 192 ≤ length (now area)) ⌝ }
+    ensures { λ r. ⌜ r ≡ same-profile (found-at n (now (area .entry)) at .at) (profile-of ends (triples-in n (now (t .entry)))) ⌝ }
+{
+    if get2(area, at + 144) != ends.first {
+        return false;
+    }
+    if get2(area, at + 146) != ends.last {
+        return false;
+    }
+    triples::same_triples(area, at, t, n)
+}
+
+fn known(area: &[u8], shelf: Shelf, count: usize, ends: Ends, t: &[u8; 144]) -> bool
+    requires { ⌜ Lent shelf (length (now area)) ⌝ }
+    requires { ⌜ count ≤ shelf .capacity ⌝ }
+    ensures { λ r. ⌜ r ≡ seen same-profile (profile-of ends (triples-in (shelf .n) (now (t .entry)))) (stored shelf (now (area .entry)) count) ⌝ }
+{
+    let mut p = 0;
+    while p < count {
+        if same_profile(area, shelf.base + 192 * p, ends, t, shelf.n) {
+            return true;
+        }
+        p += 1;
+    }
+    false
+}
+
+// How many profiles there are once this one is; capacity + 1 where there is no room for it.
+fn add(area: &mut [u8], shelf: Shelf, count: usize, ends: Ends, t: &[u8; 144]) -> usize
+    requires { ⌜ Lent shelf (length (now area)) ⌝ }
+    requires { ⌜ count ≤ shelf .capacity ⌝ }
+    requires { ⌜ Small ends ⌝ }
+    ensures { λ r. ⌜ Added shelf count (now (area .entry)) r (now (area .exit)) (found-of ends (triples-in (shelf .n) (now (t .entry))) ∷ []) ⌝ }
+{
+    if known(area, shelf, count, ends, t) {
+        return count;
+    }
+    if count < shelf.capacity {
+        write(area, shelf.base + 192 * count, ends, t);
+        return count + 1;
+    }
+    count + 1
+}
+
+// Adds the profile of the transition of a node under a choice word, if there is one.
+fn single(
+    rows: &[u8; 144],
+    subformulas: usize,
+    r: Ranks,
+    shelf: Shelf,
+    area: &mut [u8],
+    nodes: usize,
+    number: NodeNumber,
+    choice_word: u64,
+    count: usize,
+) -> usize
+    requires { ⌜ Given (now rows) subformulas r shelf nodes (now area) ⌝ }
+    requires { ⌜ (number .0 < nodes) × (count ≤ shelf .capacity) ⌝ }
+    ensures { λ all. ⌜ Added shelf count (now (area .entry)) all (now (area .exit)) (singles-by (table-of (now (rows .entry)) subformulas) (nodes-in subformulas (now (area .entry)) nodes) (number .0) (node-in subformulas (now (area .entry)) (number .0)) «choice_word») ⌝ }
+{
+    let first = number.0;
+    let from = tableau::node(area, number);
+    let choice = tableau::choice_of(rows, subformulas, choice_word);
+    match tableau::transition(rows, subformulas, choice, from) {
+        Step::Nothing => count,
+        Step::Leads { to, letter } => {
+            let last = tableau::find(area, nodes, to);
+            let t = traces::triples_of(rows, subformulas, r, choice, from);
+            let ends = Ends {
+                first: first,
+                last: last,
+                parent: 0,
+                letter: letter as usize,
+            };
+            add(area, shelf, count, ends, &t)
+        }
+    }
+}
+
+// Adds the profiles of the transitions of a node, by rising choice word.
+fn singles_of(
+    rows: &[u8; 144],
+    subformulas: usize,
+    r: Ranks,
+    shelf: Shelf,
+    area: &mut [u8],
+    nodes: usize,
+    number: NodeNumber,
+    count: usize,
+) -> usize
+    requires { ⌜ Given (now rows) subformulas r shelf nodes (now area) ⌝ }
+    requires { ⌜ (number .0 < nodes) × (count ≤ shelf .capacity) ⌝ }
+    ensures { λ all. ⌜ Added shelf count (now (area .entry)) all (now (area .exit)) (ones-of (table-of (now (rows .entry)) subformulas) (nodes-in subformulas (now (area .entry)) nodes) (number .0) (node-in subformulas (now (area .entry)) (number .0))) ⌝ }
+{
+    let end = base::power(tableau::ors(rows, subformulas));
+    let mut all = count;
+    let mut word = 0u64;
+    while word < end {
+        if shelf.capacity < all {
+            return all;
+        }
+        all = single(rows, subformulas, r, shelf, area, nodes, number, word, all);
+        word += 1;
+    }
+    all
+}
+
+// The profiles of one transition, of all nodes but the root in order; how many, or capacity + 1.
+pub fn singles(
+    rows: &[u8; 144],
+    subformulas: usize,
+    r: Ranks,
+    shelf: Shelf,
+    area: &mut [u8],
+    nodes: usize,
+) -> usize
+    requires { ⌜ Given (now rows) subformulas r shelf nodes (now area) ⌝ }
+    ensures { λ all. ⌜ Grown shelf 0 (now (area .entry)) all (now (area .exit)) (ones (table-of (now (rows .entry)) subformulas) (nodes-in subformulas (now (area .entry)) nodes)) ⌝ }
+{
+    let mut all = 0;
+    let mut i = 1;
+    while i < nodes {
+        if shelf.capacity < all {
+            return all;
+        }
+        all = singles_of(rows, subformulas, r, shelf, area, nodes, NodeNumber(i), all);
+        i += 1;
+    }
+    all
+}
+
+// Adds profile p followed by profile q of one transition.
+fn longer(area: &mut [u8], shelf: Shelf, p: usize, q: usize, count: usize) -> usize
+    requires { ⌜ Lent shelf (length (now area)) ⌝ }
+    requires { ⌜ (p < count) × ((q < count) × (count ≤ shelf .capacity)) ⌝ }
+    ensures { λ r. ⌜ Added shelf count (now (area .entry)) r (now (area .exit)) (follow (shelf .n) p (record-of shelf (now (area .entry)) p) (record-of shelf (now (area .entry)) q)) ⌝ }
+{
+    let a = shelf.base + 192 * p;
+    let b = shelf.base + 192 * q;
+    if get2(area, a + 146) != get2(area, b + 144) {
+        return count;
+    }
+    let x = triples::copied(area, a);
+    let y = triples::copied(area, b);
+    let t = triples::joined(&x, &y, shelf.n);
+    let ends = Ends {
+        first: get2(area, a + 144),
+        last: get2(area, b + 146),
+        parent: p + 1,
+        letter: get2(area, b + 150),
+    };
+    add(area, shelf, count, ends, &t)
+}
+
+// Adds profile p followed by each of the `ones` profiles of one transition.
+fn extend(area: &mut [u8], shelf: Shelf, p: usize, ones: usize, count: usize) -> usize
+    requires { ⌜ Lent shelf (length (now area)) ⌝ }
+    requires { ⌜ (p < count) × ((ones ≤ count) × (count ≤ shelf .capacity)) ⌝ }
+    ensures { λ r. ⌜ Added shelf count (now (area .entry)) r (now (area .exit)) (longer (shelf .n) (stored shelf (now (area .entry)) ones) p (record-of shelf (now (area .entry)) p)) ⌝ }
+{
+    let mut all = count;
+    let mut q = 0;
+    while q < ones {
+        if shelf.capacity < all {
+            return all;
+        }
+        all = longer(area, shelf, p, q, all);
+        q += 1;
+    }
+    all
+}
+
+// All profiles, breadth first, from those of one transition; how many, or capacity + 1.
+pub fn profiles(area: &mut [u8], shelf: Shelf, ones: usize) -> usize
+    requires { ⌜ Lent shelf (length (now area)) ⌝ }
+    requires { ⌜ ones ≤ shelf .capacity ⌝ }
+    ensures { λ r. ⌜ ((fuel : ℕ) → shelf .capacity < fuel → Grown shelf ones (now (area .entry)) r (now (area .exit)) (profiles-from fuel (shelf .n) (stored shelf (now (area .entry)) ones))) ⌝ }
+{
+    let mut all = ones;
+    let mut p = 0;
+    while p < all {
+        if shelf.capacity < all {
+            return all;
+        }
+        all = extend(area, shelf, p, ones, all);
+        p += 1;
+    }
+    all
+}
