@@ -12,6 +12,7 @@ use Rattle.base.proofs.ListLaws.{getD-map}
 use Rattle.base.proofs.NumberLaws.{values-same}
 use Rattle.lasso.specs.Lasso.{Positions}
 use Rattle.lasso.specs.Promise.{Swept, column, columns, Kept}
+use Rattle.lasso.proofs.Monotone.{Sized}
 use Rattle.lasso.proofs.CodeSweep.{other-bit}
 
 module _ (n : ℕ) where
@@ -26,6 +27,11 @@ module _ (n : ℕ) where
     pub column-is : (s : Positions) → length s ≡ n → ((i : ℕ) → i < n → bit (getD w i 0) e ≡ getD s i false) → column n w e ≡ s
     column-is s l f =
         ext-getD false (column n w e) s (column-length ∙ sym l) (λ i q. let k : i < n = omega (arith, column-length) in column-at i k ∙ f i k)
+
+  -- the sets that words have for some subformulas
+  pub columns-sized : (w : List ℕ) → n ≤ length w → (es : List ℕ) → Sized n (map (column n w) es)
+  columns-sized w h [] = tt
+  columns-sized w h (e ∷ es) = (column-length e w h, columns-sized w h es)
 
   pub kept-refl : (lo hi : ℕ) (w : List ℕ) → Kept n lo hi w w
   kept-refl lo hi w = record { long = refl; below = λ k h. refl; above = λ k h. refl; rest = refl }

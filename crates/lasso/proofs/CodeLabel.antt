@@ -24,7 +24,7 @@ use Rattle.lasso.proofs.Consistent.{length-sets, getD-combine, getD-bef
 use Rattle.lasso.proofs.CodeWritten.{by-kind, pair-argument}
 use Rattle.lasso.proofs.CodeColumns.{column-length, column-at, kept-refl, kept-wide, kept-then, outer-kept, columns-below, columns-above, swept-kept, swept-is}
 
-after-below : (n stem i : ℕ) → i < n → stem < n → after n stem i < n
+pub after-below : (n stem i : ℕ) → i < n → stem < n → after n stem i < n
 after-below n stem i l h = by (eqb (i + 1) n) refl
   where
     by : (t : Bool) → eqb (i + 1) n ≡ t → cond t stem (i + 1) < n
@@ -39,10 +39,20 @@ module _ (c : Lasso) where
   pub before-kept : (f : Formula) (e : ℕ) (w v : List ℕ) → columns n v e (size f) ≡ columns n w e (size f) → Before c f e w → Before c f e v
   before-kept f e w v q b = record { around = b .around; shown = q ∙ b .shown }
 
+  -- columns that are a formula's sets are its operands' sets where these stand
+  pub shown-next : (a : Formula) (e : ℕ) (w : List ℕ) (ρ : List Positions) → columns n w e (size (Formula.next a)) ≡ sets c (Formula.next a) ρ
+      → columns n w (e + 1) (size a) ≡ sets c a ρ
+  shown-next a e w ρ q = values-first (column n w) e (size a) (holds c (Formula.next a) ρ) (sets c a ρ) q .1
+
+  pub shown-pair : (o : Bool) (a b : Formula) (e : ℕ) (w : List ℕ) (ρ : List Positions)
+      → columns n w e (size (Formula.pair o a b)) ≡ sets c (Formula.pair o a b) ρ
+      → (columns n w (e + 1) (size a) ≡ sets c a ρ) × (columns n w (e + 1 + size a) (size b) ≡ sets c b ρ)
+  shown-pair o a b e w ρ q =
+      values-split (column n w) (e + 1) (size a) (size b) (sets c a ρ) (sets c b ρ) (length-sets c a ρ)
+      (values-first (column n w) e (size a + size b) (holds c (Formula.pair o a b) ρ) (sets c a ρ ++ sets c b ρ) q .1)
+
   before-next : (a : Formula) (e : ℕ) (w : List ℕ) → Before c (Formula.next a) e w → Before c a (e + 1) w
-  before-next a e w b =
-      let ρ = b .around in
-      record { around = ρ; shown = values-first (column n w) e (size a) (holds c (Formula.next a) ρ) (sets c a ρ) (b .shown) .1 }
+  before-next a e w b = record { around = b .around; shown = shown-next a e w (b .around) (b .shown) }
 
   pub before-fix : (g : Bool) (a : Formula) (e : ℕ) (w : List ℕ) → Before c (Formula.fix g a) e w → Before c a (e + 1) w
   before-fix g a e w b =
@@ -52,10 +62,8 @@ module _ (c : Lasso) where
   before-pair : (o : Bool) (a b : Formula) (e : ℕ) (w : List ℕ) → Before c (Formula.pair o a b) e w
       → Before c a (e + 1) w × Before c b (e + 1 + size a) w
   before-pair o a b e w h =
-      let ρ = h .around in
-      let p = values-first (column n w) e (size a + size b) (holds c (Formula.pair o a b) ρ) (sets c a ρ ++ sets c b ρ) (h .shown) .1 in
-      let q = values-split (column n w) (e + 1) (size a) (size b) (sets c a ρ) (sets c b ρ) (length-sets c a ρ) p in
-      (record { around = ρ; shown = q .0 }, record { around = ρ; shown = q .1 })
+      let q = shown-pair o a b e w (h .around) (h .shown) in
+      (record { around = h .around; shown = q .0 }, record { around = h .around; shown = q .1 })
 
   -- the first of the columns is the formula's own
   pub first-shown : (f : Formula) (e : ℕ) (w : List ℕ) (ρ : List Positions) → columns n w e (size f) ≡ sets c f ρ → column n w e ≡ holds c f ρ

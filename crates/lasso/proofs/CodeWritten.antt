@@ -141,3 +141,8 @@ module _ (rows : List ℕ) (e t n stem m : ℕ) (room : Room n stem m) where
   pub rounds-call : (g : Bool) → Held rows e → kind-of (operator-at rows e) ≡ Fixpoint g → 2 * size-at rows e ≡ t
       → (2 * size-at rows e - 1 < t) × (Held rows e × (Room n stem m × (kind-of (operator-at rows e) ≡ Fixpoint g)))
   rounds-call g h q l = (omega (arith, body-operand rows e h g q .smaller), (h, (room, q)))
+
+-- the same where only sizes are compared, and a position is asked for
+pub value-call : (rows : List ℕ) (e t n stem m : ℕ) → Room n stem m → (k j i : ℕ) → k ≡ j → Operand rows j e → size-at rows e ≡ t → i < n
+    → (size-at rows k < t) × (Held rows k × (Room n stem m × (i < n)))
+value-call rows e t n stem m room k j i q o h l = rw q (omega (arith, o .smaller), (o .held, (room, l)))

@@ -12,7 +12,7 @@ use native.Mathlib.Omega.{arith}
 use lib.ListN.{length, getD, length-map}
 use Rattle.base.specs.Lists.{repeat}
 use Rattle.base.proofs.ListLaws.{repeat-add, repeat-suc, repeat-stays, repeat-keeps}
-use Rattle.base.proofs.Inside.{Inside, Toward, toward-refl, toward-mono, toward-start, constant-at, waiting-le, rests, passes-none}
+use Rattle.base.proofs.Inside.{Inside, inside-repeat, Toward, toward-refl, toward-mono, toward-start, constant-at, waiting-le, rests, passes-none}
 use Rattle.formula.specs.Formula.{Formula}
 use Rattle.formula.proofs.Closed.{Closed}
 use Rattle.lasso.specs.Lasso.{Lasso, Positions, holds}
@@ -57,8 +57,13 @@ moved c g a ρ n i h q =
 -- A fixpoint with the body a, inside fixpoints that have the sets ρ.
 module _ (c : Lasso) (some : 0 < span c) (a : Formula) (ρ : List Positions)
     (closed : Closed (suc (length ρ)) a) (sized : Sized (span c) ρ) where
-  body-mono : (g : Bool) (s t : Positions) → Toward g s t → Toward g (body c a ρ s) (body c a ρ t)
+  pub body-mono : (g : Bool) (s t : Positions) → Toward g s t → Toward g (body c a ρ s) (body c a ρ t)
   body-mono g = toward-mono g (body c a ρ) (λ s t h. monotone c a (Within.put h (within-refl ρ)))
+
+  -- so are any number of rounds
+  pub rounds-mono : (g : Bool) (k : ℕ) (s t : Positions) → Toward g s t → Toward g (repeat k (body c a ρ) s) (repeat k (body c a ρ) t)
+  rounds-mono g k =
+      toward-mono g (repeat k (body c a ρ)) (λ s t h. inside-repeat k (body c a ρ) (body c a ρ) (λ s t h. monotone c a (Within.put h (within-refl ρ))) h)
 
   length-body : (s : Positions) → length s ≡ span c → length (body c a ρ s) ≡ span c
   length-body s l = length-holds c some a (s ∷ ρ) closed (l, sized)

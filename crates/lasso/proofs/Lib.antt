@@ -8,6 +8,10 @@ pub mod CodeWritten
 pub mod CodeColumns
 pub mod CodeClosed
 pub mod CodeLabel
+pub mod Moves
+pub mod CodeSeen
+pub mod CodeValue
+pub mod CodePass
 pub mod CodeRounds
 pub mod CodeWords
 pub mod CodeAsked

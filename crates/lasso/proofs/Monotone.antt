@@ -28,7 +28,7 @@ joined-right true false = Below.more
 joined-right false true = Below.more
 joined-right false false = Below.same
 
-below-joined : (o : Bool) {a b c d : Bool} → Below a b → Below c d → Below (joined o a c) (joined o b d)
+pub below-joined : (o : Bool) {a b c d : Bool} → Below a b → Below c d → Below (joined o a c) (joined o b d)
 below-joined o Below.same Below.same = Below.same
 below-joined o (Below.same {b = a}) Below.more = joined-right o a
 below-joined o Below.more (Below.same {b = c}) = joined-left o c

@@ -1,12 +1,13 @@
 -- What the inner functions of truth on a lasso promise. A reader of the public contract need not read it. Assumes nothing.
 use mathlib.Core.Path.{_≡_}
-use mathlib.Core.Bool.{Bool, true, false, cond}
-use mathlib.Core.List.{List, [], _++_, map}
+use mathlib.Core.Bool.{Bool, true, false, not, cond}
+use mathlib.Core.List.{List, [], _∷_, _++_, map}
 use Prim.Native.Nat.{ℕ, _+_, _≤_, _<_}
 use lib.Dec.{eqb, ltb}
 use lib.ListN.{length, getD, take, drop}
 use Rattle.base.specs.Lists.{numbers}
 use Rattle.base.specs.Bits.{bit}
+use Rattle.base.proofs.Inside.{Toward}
 use Rattle.formula.specs.Formula.{Formula, size}
 use Rattle.formula.specs.Table.{Operator}
 use Rattle.formula.specs.Reading.{Scope}
@@ -99,6 +100,33 @@ pub record Labelled (c : Lasso) (f : Formula) (e : ℕ) (binders w v : List ℕ)
 pub record Before (c : Lasso) (f : Formula) (e : ℕ) (w : List ℕ) : Type 0 where
   pub around : List Positions
   pub shown : columns (length (c .letters)) w e (size f) ≡ sets c f around
+
+-- whether f, which stands at e inside the given fixpoints, holds at position i as far as the words tell: a fixpoint by its own column, a
+-- variable by its binder's, all else by the truth of its operands
+abbrev pub seen : Lasso → List ℕ → Formula → (e : ℕ) → (binders : List ℕ) → (i : ℕ) → Bool
+seen c w (Formula.leaf l) e bs i = leaf-at l (getD (c .letters) i 0)
+seen c w (Formula.variable d) e bs i = bit (getD w i 0) (getD bs d 0)
+seen c w (Formula.pair o a b) e bs i = joined o (seen c w a (e + 1) bs i) (seen c w b (e + 1 + size a) bs i)
+seen c w (Formula.next a) e bs i = seen c w a (e + 1) bs (after (length (c .letters)) (c .stem) i)
+seen c w (Formula.fix g a) e bs i = bit (getD w i 0) e
+
+-- r says so of whatever formula the rows have at e
+pub record Seen (rows : List ℕ) (c : Lasso) (w : List ℕ) (e i : ℕ) (r : Bool) : Type 0 where
+  pub is : (f : Formula) (scope : Scope) (binders : List ℕ) → Written rows e scope binders f → r ≡ seen c w f e binders i
+
+-- t bounds what can be seen of the fixpoint at e: as long as its column has left the start's value only where t has, so has its body
+pub record Bounds (c : Lasso) (g : Bool) (a : Formula) (e : ℕ) (binders w : List ℕ) (t : Positions) : Type 0 where
+  pub full : length t ≡ length (c .letters)
+  pub ahead : (v : List ℕ) → Kept (length (c .letters)) e (e + 1) w v → Toward g (column (length (c .letters)) v e) t
+      → (i : ℕ) → i < length (c .letters) → seen c v a (e + 1) (e ∷ binders) i ≡ not g → getD t i false ≡ not g
+
+-- the column of the fixpoint at e moves on from the start of its rounds, and past no set that bounds it; all else is kept
+pub record Passed (rows : List ℕ) (c : Lasso) (greatest : Bool) (e : ℕ) (w v : List ℕ) : Type 0 where
+  pub kept : Kept (length (c .letters)) e (e + 1) w v
+  pub onward : Toward greatest (column (length (c .letters)) w e) (column (length (c .letters)) v e)
+  pub within : (a : Formula) (scope : Scope) (binders : List ℕ) → Written rows e scope binders (Formula.fix greatest a) → (t : Positions)
+      → Bounds c greatest a e binders w t → Toward greatest (column (length (c .letters)) w e) t
+      → Toward greatest (column (length (c .letters)) v e) t
 
 -- whatever formula the rows have at e is labelled, where it was labelled before if `again` says so
 pub record Evaluated (rows : List ℕ) (c : Lasso) (again : Bool) (e : ℕ) (w v : List ℕ) : Type 0 where

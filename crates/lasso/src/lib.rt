@@ -13,7 +13,8 @@ ghost use Rattle.formula.specs.Reading.{Opcode, opcode};
 ghost use Rattle.formula.specs.Rows.{operator-of, operator-at};
 ghost use Rattle.lasso.specs.Truth.{truth, written};
 ghost use Rattle.lasso.specs.Answer.{lasso, answer};
-ghost use Rattle.lasso.specs.Promise.{after, local, local-at, Swept, kind-of, Held, Room, outside-of, Finished, Evaluated, Settled, Answered, Judged};
+ghost use Rattle.lasso.specs.Lasso.{joined};
+ghost use Rattle.lasso.specs.Promise.{after, local, local-at, Swept, kind-of, Held, Room, outside-of, Finished, Seen, Passed, Evaluated, Settled, Answered, Judged};
 
 // The number of a position on a lasso (document 01: a place), kept apart from subformulas.
 pub struct Position(pub usize);
@@ -167,6 +168,82 @@ fn finished(rows: &[u8; 144], s: Subformula, again: bool) -> bool
     false
 }
 
+// The union of two truths, or what they have in common.
+fn join(either: bool, a: bool, b: bool) -> bool
+    ensures { λ r. ⌜ r ≡ joined either a b ⌝ }
+{
+    if either {
+        return a | b;
+    }
+    a & b
+}
+
+// Whether s holds at a position as far as the words tell: a fixpoint by its own bit, a variable by its binder's, all else worked out from
+// these. So it sees at once what the rounds would carry from word to word.
+fn value(
+    rows: &[u8; 144],
+    letters: &[u16],
+    stem: usize,
+    words: &[u64],
+    s: Subformula,
+    p: Position,
+) -> bool
+    requires { ⌜ Held (now rows) (s .0) ⌝ }
+    requires { ⌜ Room (length (now letters)) stem (length (now words)) ⌝ }
+    requires { ⌜ p .0 < length (now letters) ⌝ }
+    ensures { λ r. ⌜ Seen (now (rows .entry)) (lasso (now (letters .entry)) stem) (now (words .entry)) (s .0) (p .0) r ⌝ }
+{
+    let e = s.0;
+    let i = p.0;
+    let op = rows[e];
+    let argument = rows[48 + e];
+    let kind = classify(op);
+    match kind {
+        Kind::Leaf => {
+            return holds_at(op, argument, e, letters[i], words[i], 0);
+        }
+        Kind::Next => {
+            let next = successor(Position(i), letters.len(), stem);
+            return value(rows, letters, stem, words, Subformula(e + 1), next);
+        }
+        Kind::Pair => {
+            let a = value(rows, letters, stem, words, Subformula(e + 1), Position(i));
+            let right = Subformula(base::wide(argument));
+            let b = value(rows, letters, stem, words, right, Position(i));
+            return join(op == 6, a, b);
+        }
+        Kind::Fixpoint(_) => {
+            return base::has(words[i], e);
+        }
+    }
+}
+
+// Moves the set of the fixpoint s on, from the last position to the first, wherever its body says so of the words as they stand. A round
+// would move a position only by its successor's word before the round; this moves a whole chain of positions at once.
+fn pass(
+    rows: &[u8; 144],
+    letters: &[u16],
+    stem: usize,
+    words: &mut [u64],
+    s: Subformula,
+    greatest: bool,
+)
+    requires { ⌜ Held (now rows) (s .0) ⌝ }
+    requires { ⌜ Room (length (now letters)) stem (length (now words)) ⌝ }
+    requires { ⌜ kind-of (operator-at (now rows) (s .0)) ≡ Kind.Fixpoint greatest ⌝ }
+    ensures { λ _. ⌜ Passed (now (rows .entry)) (lasso (now (letters .entry)) stem) greatest (s .0) (now (words .entry)) (now (words .exit)) ⌝ }
+{
+    let e = s.0;
+    let mut i = letters.len();
+    while 0 < i {
+        i -= 1;
+        let on = value(rows, letters, stem, words, Subformula(e + 1), Position(i));
+        let here = words[i];
+        let moved = join(!greatest, base::has(here, e), on);
+        words[i] = base::with(here, e, moved);
+    }
+}
+
 // Labels s and every subformula inside it. Where again holds, they were labelled before, with other sets of the fixpoints around s.
 fn label(
     rows: &[u8; 144],
@@ -215,7 +292,7 @@ fn label(
 }
 
 // The rounds of the fixpoint s, from the set that the words have for it: as many as there are positions, or fewer where a round changes
-// nothing. What is inside is left as the final set makes it.
+// nothing. After each a pass moves the set further toward the fixpoint's. What is inside is left as the final set makes it.
 fn rounds(
     rows: &[u8; 144],
     letters: &[u16],
@@ -238,6 +315,7 @@ fn rounds(
     while 0 < left {
         label(rows, letters, stem, words, Subformula(e + 1), known);
         if sweep(letters, stem, words, s, op, argument) {
+            pass(rows, letters, stem, words, s, greatest);
             known = true;
             left -= 1;
         } else {

@@ -1,7 +1,6 @@
 -- `lasso::label` and `lasso::rounds` call each other. The measure is twice the subformula's size, one less in the rounds; the loop of the
--- rounds counts down those left. Each way through `label` is one law of its kind of operator; the loop's invariant is that the rounds left
--- bring the fixpoint's column to its set.
--- Assumes nothing.
+-- rounds counts down those left. Each way through `label` is one law of its kind of operator; the loop's invariant is that the
+-- fixpoint's column does not pass its set and the rounds left bring it there. Assumes nothing.
 use borrow.Author.Needs.{needs}
 use native.Mathlib.Omega.{arith}
 use mathlib.Core.Path.{_≡_, refl, sym, _∙_}
@@ -24,6 +23,7 @@ use Rattle.base.proofs.wide.Reads as wide-reads
 use Rattle.lasso.proofs.classify.Reads as classify-reads
 use Rattle.lasso.proofs.constant.Reads as constant-reads
 use Rattle.lasso.proofs.finished.Reads as finished-reads
+use Rattle.lasso.proofs.pass.Reads as pass-reads
 use Rattle.lasso.proofs.sweep.Reads as sweep-reads
 use Rattle.lasso.proofs.+label+rounds.{statement}
 use Rattle.lasso.proofs.+label+rounds.Tie.{close}
@@ -52,6 +52,8 @@ rounds-calls t = (
   label.Post,
   sweep-reads.Asked,
   sweep-reads.Learnt,
+  pass-reads.Asked,
+  pass-reads.Learnt,
 )
 
 abbrev label-calls : ℕ → label-lts.Claims
@@ -200,7 +202,7 @@ rounds-element-copy-out-argument : (t : ℕ) → rounds-lts.Need-element-copy-ou
 rounds-element-copy-out-argument t c = omega (arith, few _ _ (c .before .before .before .pre .1 .0))
 
 rounds-loop-holds : (t : ℕ) → rounds-lts.Need-loop-holds (rounds-calls t) (rounds-at t) rounds.Post rounds-Inv-loop rounds-μ-loop
-rounds-loop-holds t c = (omega arith, (refl, rounded-start _ _ _ _ _ _))
+rounds-loop-holds t c = (omega arith, (refl, rounded-start _ _ _ _ _ _ (c .before .before .before .before .pre .1 .1 .0)))
 
 rounds-add-t23 : (t : ℕ) → rounds-lts.Need-add-t23 (rounds-calls t) (rounds-at t) rounds.Post rounds-Inv-loop rounds-μ-loop
 rounds-add-t23 t c = omega (arith, few _ _ (c .before .before .before .before .before .before .before .pre .1 .0))
@@ -215,6 +217,11 @@ rounds-sweep-requires t c κs =
     let p = c .before .before .before .before .before .before .before .before .before .before .before .pre .1 in
     (same-room _ _ _ _ (p .1 .0) (omega (arith, p .1 .0 .words, c .before .before .before .before .before .before .loop .inv .1 .0)), few _ _ (p .0))
 
+rounds-pass-requires : (t : ℕ) → rounds-lts.Need-pass-requires (rounds-calls t) (rounds-at t) rounds.Post rounds-Inv-loop rounds-μ-loop
+rounds-pass-requires t c κs =
+    let p = c .before .before .before .before .before .before .before .before .before .before .before .before .before .before .before .before .pre .1 in
+    (p .0, (same-room _ _ _ _ (p .1 .0) (omega (arith, p .1 .0 .words, c .before .before .before .before .before .before .before .before .before .before .before .loop .inv .1 .0)), p .1 .1))
+
 rounds-sub-left : (t : ℕ) → rounds-lts.Need-sub-left (rounds-calls t) (rounds-at t) rounds.Post rounds-Inv-loop rounds-μ-loop
 rounds-sub-left t c = search needs
 
@@ -223,8 +230,9 @@ rounds-loop-less t c = search needs
 
 rounds-loop-again : (t : ℕ) → rounds-lts.Need-loop-again (rounds-calls t) (rounds-at t) rounds.Post rounds-Inv-loop rounds-μ-loop
 rounds-loop-again t c =
-    let inv = c .before .before .before .before .before .before .before .before .before .before .loop .inv in
-    (omega arith, (omega arith, rounded-more _ _ _ _ _ _ _ _ _ _ (c .before .before .before .before .before .before .before .label .ensures) (inv .1 .1) _ (omega (arith, c .before .before .before .before .before .before .before .before .before .before .before .before .before .before .before .pre .1 .1 .0 .words, inv .1 .0)) (c .before .before .before .sweep .ensures .0) (c .before .before .before .before .before .before .before .before .before .loop-test .taken)))
+    let inv = c .before .before .before .before .before .before .before .before .before .before .before .before .before .before .loop .inv in
+    let room = c .before .before .before .before .before .before .before .before .before .before .before .before .before .before .before .before .before .before .before .pre .1 .1 .0 in
+    (omega arith, (omega arith, rounded-more _ _ _ _ _ _ room _ _ _ _ (c .before .before .before .before .before .before .before .before .before .before .before .label .ensures) (inv .1 .1) _ (omega (arith, room .words, inv .1 .0)) (c .before .before .before .before .before .before .before .sweep .ensures .0) _ (c .before .before .pass .ensures) (c .before .before .before .before .before .before .before .before .before .before .before .before .before .loop-test .taken)))
 
 rounds-same-length : (t : ℕ) → rounds-lts.Need-same-length (rounds-calls t) (rounds-at t) rounds.Post rounds-Inv-loop rounds-μ-loop
 rounds-same-length t c = search needs
@@ -232,7 +240,8 @@ rounds-same-length t c = search needs
 rounds-returns : (t : ℕ) → rounds-lts.Need-returns (rounds-calls t) (rounds-at t) rounds.Post rounds-Inv-loop rounds-μ-loop
 rounds-returns t c =
     let inv = c .before .before .before .before .before .before .before .before .before .before .loop .inv in
-    rounds-still _ _ _ _ _ _ _ _ _ _ (c .before .before .before .before .before .before .before .label .ensures) (inv .1 .1) _ (omega (arith, c .before .before .before .before .before .before .before .before .before .before .before .before .before .before .before .pre .1 .1 .0 .words, inv .1 .0)) (c .before .before .before .sweep .ensures .0) (c .before .before .before .sweep .ensures .1 (c .if1 .left))
+    let room = c .before .before .before .before .before .before .before .before .before .before .before .before .before .before .before .pre .1 .1 .0 in
+    rounds-still _ _ _ _ _ _ room _ _ _ _ (c .before .before .before .before .before .before .before .label .ensures) (inv .1 .1) _ (omega (arith, room .words, inv .1 .0)) (c .before .before .before .sweep .ensures .0) (c .before .before .before .sweep .ensures .1 (c .if1 .left))
 
 rounds-add-t16 : (t : ℕ) → rounds-lts.Need-add-t16 (rounds-calls t) (rounds-at t) rounds.Post rounds-Inv-loop rounds-μ-loop
 rounds-add-t16 t c = omega (arith, few _ _ (c .before .before .before .before .before .before .before .pre .1 .0))
@@ -246,7 +255,7 @@ rounds-same-length-2 : (t : ℕ) → rounds-lts.Need-same-length-2 (rounds-calls
 rounds-same-length-2 t c = search needs
 
 rounds-returns-2 : (t : ℕ) → rounds-lts.Need-returns-2 (rounds-calls t) (rounds-at t) rounds.Post rounds-Inv-loop rounds-μ-loop
-rounds-returns-2 t c = rounds-over _ _ _ _ _ _ _ _ _ _ (c .before .before .label2 .ensures) (c .before .before .before .before .before .loop .inv .1 .1) (c .before .before .before .before .loop-test .left)
+rounds-returns-2 t c = rounds-over _ _ _ _ _ _ (c .before .before .before .before .before .before .before .before .before .before .pre .1 .1 .0) _ _ _ _ (c .before .before .label2 .ensures) (c .before .before .before .before .before .loop .inv .1 .1) (c .before .before .before .before .loop-test .left)
 
 pub +label+rounds-spec : {M : Type 1} → statement M
 +label+rounds-spec = close μ-label μ-rounds (λ t. label-lts.spec (label-calls t)
@@ -283,7 +292,7 @@ pub +label+rounds-spec : {M : Type 1} → statement M
     (label-same-length-4 t)
     (label-returns-5 t))
     λ t. rounds-lts.spec
-    (label-below t, label.Post, sweep-reads.Asked, sweep-reads.Learnt)
+    (rounds-calls t)
     (rounds-at t)
     rounds.Post
     rounds-Inv-loop
@@ -295,6 +304,7 @@ pub +label+rounds-spec : {M : Type 1} → statement M
     (rounds-add-t23 t)
     (rounds-label-requires t)
     (rounds-sweep-requires t)
+    (rounds-pass-requires t)
     (rounds-sub-left t)
     (rounds-loop-less t)
     (rounds-loop-again t)
