@@ -16,7 +16,7 @@ use Rattle.formula.specs.Reading.{Scope}
 use Rattle.formula.specs.Rows.{operator-at, end-at}
 use Rattle.formula.proofs.Limits.{size-some}
 use Rattle.formula.proofs.WellFormed.{sits-first, stands-left, stands-right, stands-next}
-use Rattle.lasso.specs.Lasso.{Lasso, Positions, leaf-at, joined, combine, before, holds, inner, sets}
+use Rattle.lasso.specs.Lasso.{Lasso, Positions, leaf-at, joined, before, holds, inner, sets}
 use Rattle.lasso.specs.Promise.{after, local-at, Swept, kind-of, Written, Room, column, columns, Kept, Labelled, Before, Evaluated}
 use Rattle.lasso.specs.declared.Kind.the-variants.{Leaf, Pair, Next}
 use Rattle.lasso.proofs.Monotone.{length-combine, length-before}

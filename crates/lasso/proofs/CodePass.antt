@@ -12,14 +12,12 @@ use borrow.Author.Tests.{eqb-true, eqb-false, eq-eqb}
 use Rattle.base.specs.Bits.{bit}
 use Rattle.base.proofs.BitLaws.{changed}
 use Rattle.base.proofs.Inside.{Toward, toward-refl, toward-trans}
-use Rattle.formula.specs.Formula.{Formula}
-use Rattle.formula.specs.Reading.{Scope}
 use Rattle.formula.specs.Rows.{operator-at, end-at}
 use Rattle.formula.proofs.WellFormed.{stands-body}
 use Rattle.lasso.specs.Lasso.{Lasso, Positions, joined}
-use Rattle.lasso.specs.Promise.{Swept, Written, column, Kept, seen, Seen, Bounds, Passed}
+use Rattle.lasso.specs.Promise.{Swept, column, Kept, seen, Seen, Passed}
 use Rattle.lasso.proofs.CodeColumns.{column-length, column-at, kept-refl, kept-then, swept-kept}
-use Rattle.lasso.proofs.Moves.{Moves, moves-refl, moves-of, moves-on, moves-both, toward-at, toward-of}
+use Rattle.lasso.proofs.Moves.{Moves, moves-same, moves-of, moves-on, moves-both, toward-at, toward-of}
 
 -- one word is set, to one with another bit e
 module _ (n e i x : ℕ) (on : Bool) (v : List ℕ) (long : n ≤ length v) (fits : i < n)
@@ -70,7 +68,7 @@ module _ (n e i x : ℕ) (on : Bool) (v : List ℕ) (long : n ≤ length v) (fit
         let l : j < n = omega (arith, column-length n e v long) in
         by-element (λ j b. Moves g (getD (column n v e) j false) b)
         (subst (λ (b : Bool). Moves g b on) (sym (column-at n e v long i fits)) m)
-        (λ k r. subst (Moves g (getD (column n v e) k false)) (column-at n e v long k r) (moves-refl g (getD (column n v e) k false))) j l)
+        (λ k r. moves-same g (getD (column n v e) k false) (bit (getD v k 0) e) (column-at n e v long k r)) j l)
 
     not-past : (t : Positions) → length t ≡ n → Toward g (column n v e) t → Moves g on (getD t i false) → Toward g (column n (set v i x) e) t
     not-past t full h m =

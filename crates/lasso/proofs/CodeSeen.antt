@@ -12,8 +12,8 @@ use Rattle.base.proofs.ListLaws.{getD-map}
 use Rattle.base.proofs.Inside.{Toward, toward-mono}
 use Rattle.formula.specs.Formula.{Formula, size}
 use Rattle.formula.proofs.Closed.{Closed}
-use Rattle.lasso.specs.Lasso.{Lasso, Positions, leaf-at, combine, before, holds, sets}
-use Rattle.lasso.specs.Promise.{after, column, columns, Kept, seen, Bounds}
+use Rattle.lasso.specs.Lasso.{Lasso, Positions, leaf-at, before, holds, sets}
+use Rattle.lasso.specs.Promise.{after, column, columns, seen, Bounds}
 use Rattle.lasso.proofs.Monotone.{Within, within-refl, monotone, Sized, length-holds}
 use Rattle.lasso.proofs.Fixpoint.{body, length-approximant, fixed}
 use Rattle.lasso.proofs.Consistent.{getD-combine, getD-before}
@@ -31,8 +31,8 @@ module _ (c : Lasso) (g : Bool) (ρ : List Positions) (cycle : c .stem < length 
     abbrev Behind : Formula → ℕ → ℕ → Type 0
     Behind f k i = Moves g (seen c u f k (e ∷ bs) i) (getD (holds c f (t ∷ ρ)) i false)
 
-    length-set : (f : Formula) → Closed (suc (length ρ)) f → length (holds c f (t ∷ ρ)) ≡ n
-    length-set f closed = length-holds c (omega arith) f (t ∷ ρ) closed (full, sized)
+    full-set : (f : Formula) → Closed (suc (length ρ)) f → length (holds c f (t ∷ ρ)) ≡ n
+    full-set f closed = length-holds c (omega arith) f (t ∷ ρ) closed (full, sized)
 
     variable-seen : (d : ℕ) → d < suc (length ρ) → (i : ℕ) → i < n → Moves g (bit (getD u i 0) (getD (e ∷ bs) d 0)) (getD (getD (t ∷ ρ) d []) i false)
     variable-seen zero h i l = subst (λ (b : Bool). Moves g b (getD t i false)) (column-at n e u long i l) (toward-at g (column n u e) t own i)
@@ -54,13 +54,13 @@ module _ (c : Lasso) (g : Bool) (ρ : List Positions) (cycle : c .stem < length 
         let B = holds c b (t ∷ ρ) in
         let parts = shown-pair c o a b k u (s ∷ ρ) shown in
         subst (Moves g (seen c u (Formula.pair o a b) k (e ∷ bs) i))
-        (sym (getD-combine o A B (length-set a (closed .0) ∙ sym (length-set b (closed .1))) i))
+        (sym (getD-combine o A B (full-set a (closed .0) ∙ sym (full-set b (closed .1))) i))
         (moves-joined g o (seen c u a (k + 1) (e ∷ bs) i) (getD A i false) (seen c u b (k + 1 + size a) (e ∷ bs) i) (getD B i false)
         (seen-behind a (k + 1) (closed .0) (parts .0) i l) (seen-behind b (k + 1 + size a) (closed .1) (parts .1) i l))
     seen-behind (Formula.next a) k closed shown i l =
         let A = holds c a (t ∷ ρ) in
         let j = after n (c .stem) i in
-        let all : length A ≡ n = length-set a closed in
+        let all : length A ≡ n = full-set a closed in
         subst (Moves g (seen c u a (k + 1) (e ∷ bs) j))
         (ap (λ (m : ℕ). getD A (after m (c .stem) i) false) (sym all) ∙ sym (getD-before (c .stem) A i (omega arith)))
         (seen-behind a (k + 1) closed (shown-next c a k u (s ∷ ρ) shown) j (after-below n (c .stem) i l cycle))

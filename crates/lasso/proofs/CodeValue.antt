@@ -1,17 +1,17 @@
 -- What `value` answers at each kind of operator, from its answers for the operands, is what is seen of the formula there.
 -- Assumes nothing.
-use mathlib.Core.Path.{_≡_, refl, sym, ap, subst, _∙_}
+use mathlib.Core.Path.{_≡_, refl, ap, subst, _∙_}
 use mathlib.Core.Bool.{Bool, true, false}
 use mathlib.Core.List.{List, map}
-use Prim.Native.Nat.{ℕ, _+_, _<_}
+use Prim.Native.Nat.{ℕ, _+_}
 use native.Mathlib.Omega.{arith}
 use lib.Dec.{eqb}
 use lib.ListN.{length, getD}
 use borrow.Author.Tests.{ne-eqb}
 use Rattle.base.specs.Bits.{bit}
-use Rattle.formula.specs.Formula.{Formula, size}
+use Rattle.formula.specs.Formula.{size}
 use Rattle.formula.specs.Table.{Operator}
-use Rattle.formula.specs.Reading.{Opcode, opcode, Scope}
+use Rattle.formula.specs.Reading.{Opcode, opcode}
 use Rattle.formula.specs.Rows.{operator-of, operator-at, end-at}
 use Rattle.formula.proofs.WellFormed.{sits-first, stands-left, stands-right, stands-next}
 use Rattle.lasso.specs.Lasso.{Lasso, joined}

@@ -57,10 +57,10 @@ moved c g a ρ n i h q =
 -- A fixpoint with the body a, inside fixpoints that have the sets ρ.
 module _ (c : Lasso) (some : 0 < span c) (a : Formula) (ρ : List Positions)
     (closed : Closed (suc (length ρ)) a) (sized : Sized (span c) ρ) where
+  -- the body keeps the order, and so does any number of rounds
   pub body-mono : (g : Bool) (s t : Positions) → Toward g s t → Toward g (body c a ρ s) (body c a ρ t)
   body-mono g = toward-mono g (body c a ρ) (λ s t h. monotone c a (Within.put h (within-refl ρ)))
 
-  -- so are any number of rounds
   pub rounds-mono : (g : Bool) (k : ℕ) (s t : Positions) → Toward g s t → Toward g (repeat k (body c a ρ) s) (repeat k (body c a ρ) t)
   rounds-mono g k =
       toward-mono g (repeat k (body c a ρ)) (λ s t h. inside-repeat k (body c a ρ) (body c a ρ) (λ s t h. monotone c a (Within.put h (within-refl ρ))) h)

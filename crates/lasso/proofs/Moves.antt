@@ -2,7 +2,6 @@
 -- does at each position. Said once for least and greatest fixpoints, over the Bool g that their rounds start from. Assumes nothing.
 use mathlib.Core.Path.{_≡_, refl, sym, subst}
 use mathlib.Core.Bool.{Bool, true, false, not, true≢false}
-use mathlib.Core.List.{List}
 use Prim.Native.Nat.{ℕ, _<_}
 use native.Mathlib.Omega.{arith}
 use lib.ListN.{length, getD}
@@ -10,6 +9,7 @@ use Rattle.base.proofs.Inside.{Below, below-true, below-of, below-least, below-
 use Rattle.lasso.specs.Lasso.{Positions, joined}
 use Rattle.lasso.proofs.Monotone.{below-joined}
 
+-- from a to b the value g is only left
 abbrev pub Moves : (g a b : Bool) → Type 0
 Moves false a b = Below a b
 Moves true a b = Below b a

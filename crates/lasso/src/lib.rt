@@ -168,7 +168,7 @@ fn finished(rows: &[u8; 144], s: Subformula, again: bool) -> bool
     false
 }
 
-// The union of two truths, or what they have in common.
+// Or of a and b if `either` says so, else and.
 fn join(either: bool, a: bool, b: bool) -> bool
     ensures { λ r. ⌜ r ≡ joined either a b ⌝ }
 {

@@ -1,7 +1,7 @@
 -- `lasso::value` calls itself for operands, which are smaller. Each way through it is one law of its kind of operator. Assumes nothing.
 use borrow.Author.Needs.{needs}
 use native.Mathlib.Omega.{arith}
-use mathlib.Core.Path.{_≡_, refl, sym, _∙_}
+use mathlib.Core.Path.{refl, sym, _∙_}
 use Rattle.lasso.proofs.CodeWritten.{size-at, few, first-operand, second-operand, next-operand, value-call}
 use Rattle.lasso.proofs.CodeValue.{leaf-seen, fixpoint-seen, next-seen, pair-seen}
 use Prim.Native.Nat.{ℕ, _<_}
