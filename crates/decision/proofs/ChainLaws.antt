@@ -3,7 +3,7 @@
 -- Assumes nothing.
 use mathlib.Core.Path.{_≡_, refl, sym, ap, subst, subst⁻¹, _∙_}
 use mathlib.Core.Bool.{Bool, true, false}
-use mathlib.Core.List.{List, [], _∷_, _++_, append-assoc}
+use mathlib.Core.List.{List, [], _∷_, _++_, append-nil, append-assoc}
 use Prim.Native.Nat.{ℕ, zero, suc, _+_, _-_, _≤_, _<_}
 use native.Mathlib.Omega.{arith}
 use native.Mathlib.Decide.{decLt}
@@ -159,59 +159,69 @@ written-is ls l m w h =
         ∙ sym (getD-append-add ls (drop (length ls) l) j 0)
         ∙ ap (λ (o : ℕ). getD (ls ++ drop (length ls) l) o 0) (sym e)
 
--- The letters up to profile k - 1 are being written from the back, from index `from` on: those up to profile at - 1, `left` of them, are to
--- be written.
-pub record Backward (of : ℕ → Found) (from k at left : ℕ) (before after : List ℕ) : Type 0 where
+-- The letters up to profile p are being written from the back, from index `from` on: those up to profile at - 1, `left` of them, are to be
+-- written.
+pub record Backward (of : ℕ → Found) (from p at left : ℕ) (before after : List ℕ) : Type 0 where
+  pub low : at ≤ suc p
   pub rest : List ℕ
-  pub whole : letters-to of k ≡ letters-to of at ++ rest
+  pub whole : letters-to of (suc p) ≡ letters-to of at ++ rest
   pub left-is : left ≡ length (letters-to of at)
   pub written : Written (from + left) rest before after
 
-pub back-start : (of : ℕ → Found) (from p left : ℕ) (l : List ℕ) {at : ℕ} → at ≡ suc p → left ≡ length (letters-to of (suc p)) → Backward of from (suc p) at left l l
+pub back-start : (of : ℕ → Found) (from p left : ℕ) (l : List ℕ) {at : ℕ} → at ≡ suc p → left ≡ length (letters-to of (suc p)) → Backward of from p at left l l
 back-start of from p left l q e =
-    subst⁻¹ (λ (k : ℕ). Backward of from (suc p) k left l l) q
-    (record { rest = []; whole = sym (append-nil (letters-to of (suc p))); left-is = e; written = written-none (from + left) l })
-  where
-    append-nil : (l : List ℕ) → l ++ [] ≡ l
-    append-nil [] = refl
-    append-nil (x ∷ l) = ap (λ (r : List ℕ). x ∷ r) (append-nil l)
+    subst⁻¹ (λ (k : ℕ). Backward of from p k left l l) q
+    (record {
+      low = omega arith;
+      rest = [];
+      whole = sym (append-nil (letters-to of (suc p)));
+      left-is = e;
+      written = written-none (from + left) l;
+    })
 
-module _ (of : ℕ → Found) {p from at left : ℕ} {before after : List ℕ} (linked : Linked of (suc p)) (low : at ≤ suc p)
-    (b : Backward of from (suc p) at left before after)
-  where
-    pub back-room : from + length (letters-to of (suc p)) ≤ length before → from + left ≤ length after
-    back-room h = omega (arith, ap length (b .whole), length-append (letters-to of at) (b .rest), b .left-is, b .written .same-length)
-
-    pub back-some : 0 < at → 0 < left
-    back-some h = omega (arith, length-at of linked at h low, b .left-is)
-
-    pub back-less : 0 < at → {up : ℕ} → up ≡ of (at - 1) .parent → up < at
-    back-less h e = omega (arith, parent-less of linked at h low)
-
-    pub back-turn : from + length (letters-to of (suc p)) ≤ length before → 0 < at → {up x : ℕ} → up ≡ of (at - 1) .parent → x ≡ of (at - 1) .label
-        → Backward of from (suc p) up (left - 1) before (set after (from + (left - 1)) x)
-    back-turn room h {up} {x} e q =
-        let one = length-at of linked at h low in
-        let left-is = b .left-is in
-        let same = b .written .same-length in
-        let fits = back-room room in
-        subst⁻¹ (λ (k : ℕ). Backward of from (suc p) k (left - 1) before (set after (from + (left - 1)) x)) e
-        (record {
-          rest = x ∷ b .rest;
-          whole =
-              b .whole ∙ ap (λ (l : List ℕ). l ++ b .rest) (letters-at of linked at h low)
-              ∙ append-assoc (letters-to of (of (at - 1) .parent)) (of (at - 1) .label ∷ []) (b .rest)
-              ∙ ap (λ (y : ℕ). letters-to of (of (at - 1) .parent) ++ (y ∷ b .rest)) (sym q);
-          left-is = omega arith;
-          written = written-first (from + (left - 1)) (from + left) (b .rest) before after x (omega arith) (b .written) (omega arith);
-        })
-
-pub back-end : {of : ℕ → Found} {from k left : ℕ} {before after : List ℕ} (at : ℕ) → at ≤ 0 → Backward of from k at left before after
-    → Written from (letters-to of k) before after
-back-end {of} {from} {k} {left} {before} {after} zero h b =
+pub back-end : {of : ℕ → Found} {from p left : ℕ} {before after : List ℕ} (at : ℕ) → at ≤ 0 → Backward of from p at left before after
+    → Written from (letters-to of (suc p)) before after
+back-end {of} {from} {p} {left} {before} {after} zero h b =
     subst (λ (l : List ℕ). Written from l before after) (sym (b .whole))
     (subst (λ (i : ℕ). Written i (b .rest) before after) {x = from + left} {y = from} (omega (arith, b .left-is)) (b .written))
 back-end (suc i) h b = absurd (omega arith)
+
+-- a turn: there is a profile to go on from, and room for all letters
+pub record Turn (of : ℕ → Found) (from p at left : ℕ) (before after : List ℕ) : Type 0 where
+  pub linked : Linked of (suc p)
+  pub room : from + length (letters-to of (suc p)) ≤ length before
+  pub some : 0 < at
+  pub back : Backward of from p at left before after
+
+module _ {of : ℕ → Found} {from p at left : ℕ} {before after : List ℕ} (t : Turn of from p at left before after) where
+  pub turn-some : 0 < left
+  turn-some = omega (arith, length-at of (t .linked) at (t .some) (t .back .low), t .back .left-is)
+
+  pub turn-index : from + (left - 1) < length after
+  turn-index =
+      let b = t .back in
+      omega (arith, ap length (b .whole), length-append (letters-to of at) (b .rest), b .left-is, b .written .same-length, t .room, turn-some)
+
+  pub turn-less : {up : ℕ} → up ≡ of (at - 1) .parent → up < at
+  turn-less e = omega (arith, parent-less of (t .linked) at (t .some) (t .back .low))
+
+  pub turn-next : {up x : ℕ} → up ≡ of (at - 1) .parent → x ≡ of (at - 1) .label → Backward of from p up (left - 1) before (set after (from + (left - 1)) x)
+  turn-next {up} {x} e q =
+      let b = t .back in
+      let index = turn-index in
+      let same = b .written .same-length in
+      let some = turn-some in
+      subst⁻¹ (λ (k : ℕ). Backward of from p k (left - 1) before (set after (from + (left - 1)) x)) e
+      (record {
+        low = omega (arith, turn-less refl, b .low);
+        rest = x ∷ b .rest;
+        whole =
+            b .whole ∙ ap (λ (l : List ℕ). l ++ b .rest) (letters-at of (t .linked) at (t .some) (b .low))
+            ∙ append-assoc (letters-to of (of (at - 1) .parent)) (of (at - 1) .label ∷ []) (b .rest)
+            ∙ ap (λ (y : ℕ). letters-to of (of (at - 1) .parent) ++ (y ∷ b .rest)) (sym q);
+        left-is = omega (arith, length-at of (t .linked) at (t .some) (b .low), b .left-is);
+        written = written-first (from + (left - 1)) (from + left) (b .rest) before after x (omega arith) (b .written) (omega arith);
+      })
 
 -- The first number that passes a test.
 pub first-start : (test : ℕ → Bool) (i : ℕ) → i < 0 → test i ≡ false

@@ -166,24 +166,31 @@ pub stemmed-root : (t : Table) (j : ℕ) (l : List ℕ) → j ≡ 0 → Stemmed 
 stemmed-root t j l e =
     subst⁻¹ (λ (j : ℕ). Stemmed t j l l 0) e (record { letters = []; stem = stem-root t; count-is = refl; written = written-none 0 l })
 
-module _ {t : Table} {j i letter n : ℕ} {l m : List ℕ} (nearer : Nearer t j i letter) (inside : j < node-count t) (room : node-count t ≤ length l) (s : Stemmed t i l m n) where
-  pub stem-low : n < node-count t
-  stem-low = omega (arith, s .count-is, stem-length t (s .stem), nearer .closer, distance-short t j inside)
+-- a stem to node i, n letters, is written, and its last transition goes on to node j
+pub record Ending (t : Table) (j i letter n : ℕ) (l m : List ℕ) : Type 0 where
+  pub nearer : Nearer t j i letter
+  pub inside : j < node-count t
+  pub room : node-count t ≤ length l
+  pub stemmed : Stemmed t i l m n
 
-  fits : n < length l
-  fits = omega (arith, stem-low)
+module _ {t : Table} {j i letter n : ℕ} {l m : List ℕ} (e : Ending t j i letter n l m) where
+  abbrev s : Stemmed t i l m n
+  s = e .stemmed
 
-  pub stem-fits : n < length m
-  stem-fits = omega (arith, fits, s .written .same-length)
+  pub ending-low : n < node-count t
+  ending-low = omega (arith, s .count-is, stem-length t (s .stem), e .nearer .closer, distance-short t j (e .inside))
 
-  pub stemmed-more : Stemmed t j l (set m n (letter % 65536)) (n + 1)
-  stemmed-more =
+  pub ending-fits : n < length m
+  ending-fits = omega (arith, ending-low, e .room, s .written .same-length)
+
+  pub ending-stemmed : Stemmed t j l (set m n (letter % 65536)) (n + 1)
+  ending-stemmed =
       record {
         letters = s .letters ++ (letter ∷ []);
-        stem = stem-more t nearer (s .stem);
+        stem = stem-more t (e .nearer) (s .stem);
         count-is = omega (arith, s .count-is, length-append (s .letters) (letter ∷ []));
         written =
             subst⁻¹ (λ (k : ℕ). Written 0 (s .letters ++ (letter ∷ [])) l (set m k (letter % 65536))) {x = n} {y = 0 + length (s .letters)} (omega (arith, s .count-is))
-            (subst⁻¹ (λ (x : ℕ). Written 0 (s .letters ++ (letter ∷ [])) l (set m (0 + length (s .letters)) x)) (mod-eq-of-lt (nearer .small))
-            (written-last 0 (s .letters) l m letter (s .written) (omega (arith, fits, s .count-is))));
+            (subst⁻¹ (λ (x : ℕ). Written 0 (s .letters ++ (letter ∷ [])) l (set m (0 + length (s .letters)) x)) (mod-eq-of-lt (e .nearer .small))
+            (written-last 0 (s .letters) l m letter (s .written) (omega (arith, ending-low, e .room, s .count-is))));
       }

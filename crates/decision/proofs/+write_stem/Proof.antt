@@ -3,7 +3,8 @@
 use native.Mathlib.Omega.{arith}
 use borrow.Author.Needs.{needs}
 use Rattle.tableau.specs.Promise.{table-of}
-use Rattle.decision.proofs.StemLaws.{came-before, came-some, stemmed-root, stem-low, stem-fits, stemmed-more}
+use Rattle.decision.specs.Stem.{Nearer}
+use Rattle.decision.proofs.StemLaws.{came-before, came-some, stemmed-root, Ending, ending-low, ending-fits, ending-stemmed}
 use Prim.Native.Nat.{ℕ, _<_}
 use borrow.Fn.Kinds.{In}
 use borrow.Fn.PlainCycle.{Measures, is, falls, and}
@@ -29,10 +30,10 @@ abbrev write-stem-calls : ℕ → write-stem-lts.Claims
 write-stem-calls t = (came-from-reads.Asked, came-from-reads.Learnt, write-stem-below t, write-stem.Post)
 
 write-stem-returns : (t : ℕ) → write-stem-lts.Need-returns (write-stem-calls t) (write-stem-at t) write-stem.Post
-write-stem-returns t c = stemmed-root (table-of (c .before .before .before .args .rows .now) (c .before .before .before .args .count)) (c .before .before .before .args .number .0) (c .before .before .before .args .letters .now) (c .if1 .taken)
+write-stem-returns t c = let u = c .before .before .before in stemmed-root (table-of (u .args .rows .now) (u .args .count)) (u .args .number .0) (u .args .letters .now) (c .if1 .taken)
 
 write-stem-came-from-requires : (t : ℕ) → write-stem-lts.Need-came-from-requires (write-stem-calls t) (write-stem-at t) write-stem.Post
-write-stem-came-from-requires t c κs = (c .before .before .before .pre .1 .0, (omega (arith, c .if1 .left), c .before .before .before .pre .1 .1 .0))
+write-stem-came-from-requires t c κs = let u = c .before .before .before in (u .pre .1 .0, (omega (arith, c .if1 .left), u .pre .1 .1 .0))
 
 write-stem-enum-told : (t : ℕ) → write-stem-lts.Need-enum-told (write-stem-calls t) (write-stem-at t) write-stem.Post
 write-stem-enum-told t c = c .match .keys1
@@ -40,48 +41,45 @@ write-stem-enum-told t c = c .match .keys1
 write-stem-enum-known-before : (t : ℕ) → write-stem-lts.Need-enum-known-before (write-stem-calls t) (write-stem-at t) write-stem.Post
 write-stem-enum-known-before t c = c .match .keys2
 
+-- the node before is nearer
+nearer : (t : ℕ) (c : write-stem-lts.After-before2 (write-stem-calls t) (write-stem-at t) write-stem.Post) → let u = c .before .before .before .before .before .before in
+    Nearer (table-of (u .args .rows .now) (u .args .count)) (u .args .number .0) (c .before2 .given .0 .0 .0) (c .before2 .given .0 .1 .0)
+nearer t c = came-before (c .before2 .given .0 .0) (c .before2 .given .0 .1 .0) (c .before2 .given .1) (c .before .before .came-from .ensures)
+
 write-stem-write-stem-requires : (t : ℕ) → write-stem-lts.Need-write-stem-requires (write-stem-calls t) (write-stem-at t) write-stem.Post
 write-stem-write-stem-requires t c κs =
     let u = c .before .before .before .before .before .before .before .before in
-    let n = came-before (c .before .before .before2 .given .0 .0) (c .before .before .before2 .given .0 .1 .0) (c .before .before .before2 .given .1) (c .before .before .before .before .came-from .ensures) in
+    let n = nearer t (c .before .before) in
     (omega (arith, u .pre .0, n .before), (u .pre .1 .0, (omega (arith, n .before, u .pre .1 .1 .0), u .pre .1 .1 .1)))
 
 write-stem-cast-letters : (t : ℕ) → write-stem-lts.Need-cast-letters (write-stem-calls t) (write-stem-at t) write-stem.Post
 write-stem-cast-letters t c = search needs
 
+-- the stem to it is written
+ending : (t : ℕ) (c : write-stem-lts.After-write-stem (write-stem-calls t) (write-stem-at t) write-stem.Post) → let u = c .before .before .before .before .before .before .before .before .before in let b = c .before .before .before in
+    Ending (table-of (u .args .rows .now) (u .args .count)) (u .args .number .0) (b .before2 .given .0 .0 .0) (b .before2 .given .0 .1 .0) (c .write-stem .result)
+    (u .args .letters .now) (c .write-stem .last .1 .1 .1 .1 .0)
+ending t c =
+    let u = c .before .before .before .before .before .before .before .before .before in
+    record { nearer = nearer t (c .before .before .before); inside = u .pre .1 .1 .0; room = u .pre .1 .1 .1; stemmed = c .write-stem .ensures }
+
 write-stem-mul-letters : (t : ℕ) → write-stem-lts.Need-mul-letters (write-stem-calls t) (write-stem-at t) write-stem.Post
-write-stem-mul-letters t c =
-    let u = c .before .before .before .before .before .before .before .before .before .before .before in
-    let n = came-before (c .before .before .before .before .before .before2 .given .0 .0) (c .before .before .before .before .before .before2 .given .0 .1 .0) (c .before .before .before .before .before .before2 .given .1) (c .before .before .before .before .before .before .before .came-from .ensures) in
-    let s = c .before .before .write-stem .ensures in
-    record { fits = omega (arith, stem-low n (u .pre .1 .1 .0) (u .pre .1 .1 .1) s, u .pre .1 .0 .few) }
+write-stem-mul-letters t c = record { fits = omega (arith, ending-low (ending t (c .before .before)), c .before .before .before .before .before .before .before .before .before .before .before .pre .1 .0 .few) }
 
 write-stem-slice-write-letters : (t : ℕ) → write-stem-lts.Need-slice-write-letters (write-stem-calls t) (write-stem-at t) write-stem.Post
-write-stem-slice-write-letters t c =
-    let u = c .before .before .before .before .before .before .before .before .before .before .before in
-    let n = came-before (c .before .before .before .before .before .before2 .given .0 .0) (c .before .before .before .before .before .before2 .given .0 .1 .0) (c .before .before .before .before .before .before2 .given .1) (c .before .before .before .before .before .before .before .came-from .ensures) in
-    let s = c .before .before .write-stem .ensures in
-    stem-fits n (u .pre .1 .1 .0) (u .pre .1 .1 .1) s
+write-stem-slice-write-letters t c = ending-fits (ending t (c .before .before))
 
 write-stem-add-result : (t : ℕ) → write-stem-lts.Need-add-result (write-stem-calls t) (write-stem-at t) write-stem.Post
-write-stem-add-result t c =
-    let u = c .before .before .before .before .before .before .before .before .before .before .before in
-    let n = came-before (c .before .before .before .before .before .before2 .given .0 .0) (c .before .before .before .before .before .before2 .given .0 .1 .0) (c .before .before .before .before .before .before2 .given .1) (c .before .before .before .before .before .before .before .came-from .ensures) in
-    let s = c .before .before .write-stem .ensures in
-    record { fits = omega (arith, stem-low n (u .pre .1 .1 .0) (u .pre .1 .1 .1) s, u .pre .1 .0 .few) }
+write-stem-add-result t c = record { fits = omega (arith, ending-low (ending t (c .before .before)), c .before .before .before .before .before .before .before .before .before .before .before .pre .1 .0 .few) }
 
 write-stem-returns-2 : (t : ℕ) → write-stem-lts.Need-returns-2 (write-stem-calls t) (write-stem-at t) write-stem.Post
-write-stem-returns-2 t c = absurd (came-some (table-of (c .before .before .before .before .before .before .args .rows .now) (c .before .before .before .before .before .before .args .count)) (c .before .before .before .before .before .before .args .number .0) (c .enum-told .given .1) (c .before .before .came-from .ensures))
+write-stem-returns-2 t c = let u = c .before .before .before .before .before .before in absurd (came-some (table-of (u .args .rows .now) (u .args .count)) (u .args .number .0) (c .enum-told .given .1) (c .before .before .came-from .ensures))
 
 write-stem-same-length : (t : ℕ) → write-stem-lts.Need-same-length (write-stem-calls t) (write-stem-at t) write-stem.Post
 write-stem-same-length t c = search needs
 
 write-stem-returns-3 : (t : ℕ) → write-stem-lts.Need-returns-3 (write-stem-calls t) (write-stem-at t) write-stem.Post
-write-stem-returns-3 t c =
-    let u = c .before .before .before .before .before .before .before .before .before .before .before in
-    let n = came-before (c .before .before .before .before .before .before2 .given .0 .0) (c .before .before .before .before .before .before2 .given .0 .1 .0) (c .before .before .before .before .before .before2 .given .1) (c .before .before .before .before .before .before .before .came-from .ensures) in
-    let s = c .before .before .write-stem .ensures in
-    stemmed-more n (u .pre .1 .1 .0) (u .pre .1 .1 .1) s
+write-stem-returns-3 t c = ending-stemmed (ending t (c .before .before))
 
 pub +write-stem-spec : {M : Type 1} → statement M
 +write-stem-spec = close μ-write-stem λ t. write-stem-lts.spec (write-stem-calls t)

@@ -23,13 +23,16 @@ abbrev μ-loop : tie.MeasureT-loop
 μ-loop area shelf count mask p₀ p = count - p
 
 loop-holds : tie.Need-loop-holds Inv-loop μ-loop
-loop-holds c = (omega arith, first-start (test (c .before .args .area .now) (c .before .args .shelf) (c .before .args .mask)))
+loop-holds c = let u = c .before in (omega arith, first-start (test (u .args .area .now) (u .args .shelf) (u .args .mask)))
 
 is-accepting-requires : tie.Need-is-accepting-requires Inv-loop μ-loop
 is-accepting-requires c κs = (c .before .before .before .pre .0, omega (arith, c .before .before .before .pre .1))
 
 returns : tie.Need-returns Inv-loop μ-loop
-returns c = first-found (test (c .before .before .before .before .before .args .area .now) (c .before .before .before .before .before .args .shelf) (c .before .before .before .before .before .args .mask)) (c .before .before .before .before .before .args .count) (c .before .before .before .loop .p) (omega arith) (c .before .before .before .loop .inv .1) (sym (c .before .is-accepting .ensures) ∙ c .if1 .taken)
+returns c =
+    let u = c .before .before .before .before .before in
+    let l = c .before .before .before .loop in
+    first-found (test (u .args .area .now) (u .args .shelf) (u .args .mask)) (u .args .count) (l .p) (omega arith) (l .inv .1) (sym (c .before .is-accepting .ensures) ∙ c .if1 .taken)
 
 add-p : tie.Need-add-p Inv-loop μ-loop
 add-p c = search needs
@@ -38,10 +41,16 @@ loop-less : tie.Need-loop-less Inv-loop μ-loop
 loop-less c = search needs
 
 loop-again : tie.Need-loop-again Inv-loop μ-loop
-loop-again c = (omega arith, first-next (test (c .before .before .before .before .before .args .area .now) (c .before .before .before .before .before .args .shelf) (c .before .before .before .before .before .args .mask)) (c .before .before .before .loop .p) (c .before .before .before .loop .inv .1) (sym (c .before .is-accepting .ensures) ∙ c .if1 .left))
+loop-again c =
+    let u = c .before .before .before .before .before in
+    let l = c .before .before .before .loop in
+    (omega arith, first-next (test (u .args .area .now) (u .args .shelf) (u .args .mask)) (l .p) (l .inv .1) (sym (c .before .is-accepting .ensures) ∙ c .if1 .left))
 
 returns-2 : tie.Need-returns-2 Inv-loop μ-loop
-returns-2 c = first-none (test (c .before .before .before .args .area .now) (c .before .before .before .args .shelf) (c .before .before .before .args .mask)) (c .before .before .before .args .count) (c .before .loop .p) (c .before .loop .inv .0) (omega arith) (c .before .loop .inv .1)
+returns-2 c =
+    let u = c .before .before .before in
+    let l = c .before .loop in
+    first-none (test (u .args .area .now) (u .args .shelf) (u .args .mask)) (u .args .count) (l .p) (l .inv .0) (omega arith) (l .inv .1)
 
 pub accepting-spec : {M : Type 1} → statement M
 accepting-spec =

@@ -17,25 +17,27 @@ add-at : tie.Need-add-at Inv-loop μ-loop
 add-at c = search needs
 
 loop-holds : tie.Need-loop-holds Inv-loop μ-loop
-loop-holds c = counted-start (record-of (c .before .args .shelf) (c .before .args .area .now)) (c .before .args .p) (c .before .args .p + 1) (omega arith)
+loop-holds c = let u = c .before in counted-start (record-of (u .args .shelf) (u .args .area .now)) (u .args .p) (u .args .p + 1) (omega arith)
 
 add-n : tie.Need-add-n Inv-loop μ-loop
-add-n c = record { fits = omega (arith, counted-room (record-of (c .before .before .before .args .shelf) (c .before .before .before .args .area .now)) (c .before .before .before .pre .1 .1) (c .before .loop .inv), c .before .before .before .pre .1 .0, c .before .before .before .pre .0 .few) }
+add-n c =
+    let u = c .before .before .before in
+    record { fits = omega (arith, counted-room (record-of (u .args .shelf) (u .args .area .now)) (u .pre .1 .1) (c .before .loop .inv), u .pre .1 .0, u .pre .0 .few) }
 
 sub-parent : tie.Need-sub-parent Inv-loop μ-loop
 sub-parent c = search needs
 
 parent-requires : tie.Need-parent-requires Inv-loop μ-loop
-parent-requires c κs = (c .before .before .before .pre .0, omega (arith, c .before .loop .inv .low, c .before .before .before .pre .1 .0))
+parent-requires c κs = let u = c .before .before .before in (u .pre .0, omega (arith, c .before .loop .inv .low, u .pre .1 .0))
 
 loop-less : tie.Need-loop-less Inv-loop μ-loop
-loop-less c = counted-less (record-of (c .before .before .before .before .args .shelf) (c .before .before .before .before .args .area .now)) (c .before .before .before .before .pre .1 .1) (c .before .before .loop .inv) (omega arith) (c .parent .ensures)
+loop-less c = let u = c .before .before .before .before in counted-less (record-of (u .args .shelf) (u .args .area .now)) (u .pre .1 .1) (c .before .before .loop .inv) (omega arith) (c .parent .ensures)
 
 loop-again : tie.Need-loop-again Inv-loop μ-loop
-loop-again c = counted-next (record-of (c .before .before .before .before .args .shelf) (c .before .before .before .before .args .area .now)) (c .before .before .before .before .pre .1 .1) (c .before .before .loop .inv) (omega arith) (c .parent .ensures)
+loop-again c = let u = c .before .before .before .before in counted-next (record-of (u .args .shelf) (u .args .area .now)) (u .pre .1 .1) (c .before .before .loop .inv) (omega arith) (c .parent .ensures)
 
 returns : tie.Need-returns Inv-loop μ-loop
-returns c = counted-end (record-of (c .before .before .before .args .shelf) (c .before .before .before .args .area .now)) (c .before .before .before .pre .1 .1) (c .before .loop .inv) (omega arith)
+returns c = let u = c .before .before .before in counted-end (record-of (u .args .shelf) (u .args .area .now)) (u .pre .1 .1) (c .before .loop .inv) (omega arith)
 
 pub length-of-spec : {M : Type 1} → statement M
 length-of-spec =

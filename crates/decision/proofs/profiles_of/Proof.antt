@@ -15,7 +15,7 @@ same-length : tie.Need-same-length
 same-length c = search needs
 
 returns : tie.Need-returns
-returns c = λ fuel h. profiles-full (table-of (c .before .before .before .before .before .before .before .args .rows .now) (c .before .before .before .before .before .before .before .args .count)) (nodes-in (c .before .before .before .before .before .before .before .args .count) (c .before .before .before .before .before .before .before .args .area .now) (c .before .before .before .before .before .before .before .args .nodes)) (c .before .before .before .before .singles .ensures) (c .if1 .taken) fuel
+returns c = let u = c .before .before .before .before .before .before .before in λ fuel h. profiles-full (table-of (u .args .rows .now) (u .args .count)) (nodes-in (u .args .count) (u .args .area .now) (u .args .nodes)) (c .before .before .before .before .singles .ensures) (c .if1 .taken) fuel
 
 profiles-requires : tie.Need-profiles-requires
 profiles-requires c κs = search needs
@@ -24,7 +24,9 @@ same-length-2 : tie.Need-same-length-2
 same-length-2 c = search needs
 
 returns-2 : tie.Need-returns-2
-returns-2 c = profiles-all (table-of (c .before .before .before .before .before .before .before .before .before .before .before .args .rows .now) (c .before .before .before .before .before .before .before .before .before .before .before .args .count)) (nodes-in (c .before .before .before .before .before .before .before .before .before .before .before .args .count) (c .before .before .before .before .before .before .before .before .before .before .before .args .area .now) (c .before .before .before .before .before .before .before .before .before .before .before .args .nodes)) (c .before .before .before .before .before .before .before .before .singles .ensures) (omega (arith, c .before .before .before .before .if1 .left)) (c .before .before .before .before .before .before .before .before .before .before .before .pre .nexts ∙ c .before .before .before .before .before .before .before .before .before .before .before .pre .ranks .nexts-are) (c .before .before .profiles .ensures)
+returns-2 c =
+    let u = c .before .before .before .before .before .before .before .before .before .before .before in
+    profiles-all (table-of (u .args .rows .now) (u .args .count)) (nodes-in (u .args .count) (u .args .area .now) (u .args .nodes)) (c .before .before .before .before .before .before .before .before .singles .ensures) (omega (arith, c .before .before .before .before .if1 .left)) (u .pre .nexts ∙ u .pre .ranks .nexts-are) (c .before .before .profiles .ensures)
 
 pub profiles-of-spec : {M : Type 1} → statement M
 profiles-of-spec =
