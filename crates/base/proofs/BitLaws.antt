@@ -1,15 +1,15 @@
 -- The laws of the operators on bits: or, and, xor go bit by bit, and a power of two has one bit. Assumes nothing.
-use Prim.Native.Nat.{ℕ, zero, suc, _+_, _-_, _*_, _/_, _%_, _^_, _≤_, _<_}
-use mathlib.Core.Path.{_≡_, refl, sym, ap, subst, _∙_}
+use Prim.Native.Nat.{ℕ, zero, suc, _+_, _-_, _*_, _/_, _%_, _^_, _<_}
+use mathlib.Core.Path.{_≡_, refl, ap, _∙_}
 use mathlib.Core.Bool.{Bool, true, false, cond, not, _||_, _&&_, or-true, or-false}
 use native.Mathlib.Omega.{arith}
 use native.Mathlib.Nat.{div-eq-of-lt, mul-mod-left}
 use native.Mathlib.Decide.{decLt}
 use lib.Dec.{eqb}
-use lib.Pow.{pow-pos, pow-lt, pow-add, shl-shr}
+use lib.Pow.{pow-lt, pow-add, shl-shr}
 use borrow.Author.Tests.{eqb-true, eqb-false}
 use Rattle.base.specs.Bits.{bit}
-use lib.Bits.{bitAnd, bitOr, bitXor, differ, or-shr, or-mod, and-shr, and-mod, xor-shr, xor-mod}
+use lib.Bits.{bitAnd, bitOr, bitXor, or-shr, or-mod, and-shr, and-mod, xor-shr, xor-mod}
 
 -- a fact of every digit
 two : (P : ℕ → Type 0) → P 0 → P 1 → (x : ℕ) → x < 2 → P x

@@ -1,7 +1,7 @@
 -- The word of a list of bits: its bits are the list's elements, so equal words of one length are equal lists, and to put an element
 -- into the set is to put the bit into the word. By recursion on the list: the head is the word's last digit, the tail its half.
 -- Assumes nothing.
-use Prim.Native.Nat.{ℕ, zero, suc, _+_, _*_, _/_, _%_, _^_, _≤_, _<_}
+use Prim.Native.Nat.{ℕ, zero, suc, _+_, _/_, _%_, _^_, _≤_, _<_}
 use mathlib.Core.Path.{_≡_, refl, sym, ap, _∙_}
 use mathlib.Core.Bool.{Bool, true, false, cond}
 use mathlib.Core.List.{List, [], _∷_, map}

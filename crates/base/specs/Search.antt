@@ -1,6 +1,6 @@
 -- Breadth-first search in a graph that is given by the edges out of each vertex. An item is a vertex with the labels of a way to it.
 -- proofs/SearchLaws.antt says what is found without speaking of fuel. Assumes nothing.
-use mathlib.Core.Bool.{Bool, true, false, cond}
+use mathlib.Core.Bool.{Bool, cond}
 use mathlib.Core.List.{List, [], _∷_, _++_, map}
 use Prim.Native.Nat.{ℕ, zero, suc}
 use Rattle.base.specs.Lists.{any}

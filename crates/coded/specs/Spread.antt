@@ -1,6 +1,6 @@
 -- Breadth-first search that numbers what it finds, as the code keeps it. An item is a vertex with 1 + the number of the item that it
 -- was reached from, 0 for a start, and the label of the edge. Assumes nothing.
-use mathlib.Core.Bool.{Bool, true, false, cond}
+use mathlib.Core.Bool.{Bool, cond}
 use mathlib.Core.List.{List, [], _∷_, _++_}
 use Prim.Native.Nat.{ℕ, zero, suc}
 use lib.ListN.{drop}

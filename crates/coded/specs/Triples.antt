@@ -1,6 +1,6 @@
 -- Sets of triples as tables of bits. The operands of next and the fixpoints go by their rank from the left, which keeps their order;
 -- the priority none is 7, above the at most seven fixpoints. Assumes nothing.
-use mathlib.Core.Bool.{Bool, true, false, _&&_, _||_}
+use mathlib.Core.Bool.{Bool, false, _&&_, _||_}
 use mathlib.Core.List.{List, [], map}
 use Prim.Native.Nat.{ℕ, zero, suc, _*_, min}
 use lib.Dec.{eqb}

@@ -28,7 +28,7 @@ use Rattle.profile.specs.Profiles.{Profile, profiles, accepting}
 use Rattle.profile.proofs.ProfileLaws.{rank, profiles-sorted, profiles-short}
 use Rattle.profile.proofs.CycleLaws.{accepting-cycle, Kept, cycle-accepting}
 use Rattle.decision.specs.Verdict.{stem-to}
-use Rattle.decision.specs.Promise.{node-count, profile-count, Witness}
+use Rattle.decision.specs.Promise.{node-count, Witness}
 use Rattle.tableau.specs.Run.{Reachable, Along}
 use Rattle.profile.specs.Cycle.{Run, AcceptingCycle}
 

@@ -1,7 +1,7 @@
 -- What the decision promises: its answer, the witness, and what the workspace and the witness buffer hold afterwards, in every case.
 -- A caller has the whole of document 01, "The verdict", from `Decided`. Assumes nothing.
 use mathlib.Core.Path.{_≡_}
-use mathlib.Core.Bool.{Bool, true, cond}
+use mathlib.Core.Bool.{true, cond}
 use mathlib.Core.List.{List, _++_, map}
 use Prim.Native.Nat.{ℕ, _+_, _*_, _≤_, _<_}
 use lib.Dec.{leb}

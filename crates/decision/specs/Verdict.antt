@@ -1,6 +1,6 @@
 -- The decision: document 01, "The verdict". Of equally short courses it takes the first by the order of the search; a caller may rely
 -- on what document 01 says of the course and on nothing more. Assumes nothing.
-use mathlib.Core.Bool.{Bool, true, false, cond, _&&_}
+use mathlib.Core.Bool.{Bool, cond, _&&_}
 use mathlib.Core.List.{List, [], _∷_, _++_, map}
 use mathlib.Core.Option.{Option, none, some}
 use Prim.Native.Nat.{ℕ, _+_, _*_}

@@ -1,14 +1,12 @@
 -- Writing a subformula into the rows, and listing subformulas from them. A subformula is written into three cells that no other one
 -- has; a list of subformulas is the first one and the rest, or two lists end to end; and it depends on its own rows alone.
 -- Assumes nothing.
-use mathlib.Core.Path.{_≡_, refl, ap, _∙_}
-use mathlib.Core.List.{List, [], _∷_, _++_, map}
-use Prim.Native.Nat.{ℕ, zero, suc, _+_, _%_, _≤_, _<_}
+use mathlib.Core.Path.{_≡_, refl, _∙_}
+use mathlib.Core.List.{List, [], _∷_, _++_}
+use Prim.Native.Nat.{ℕ, _+_, _%_, _≤_, _<_}
 use native.Mathlib.Omega.{arith}
-use native.Mathlib.Numerals.{add-one, one-add}
 use lib.ListN.{length, getD, set, length-set}
 use lib.Seq.{getD-set-same, getD-set-other}
-use Rattle.base.specs.Lists.{numbers}
 use Rattle.base.proofs.NumberLaws.{values-add, values-same, values-cons}
 use Rattle.formula.specs.Table.{Operator, Table as Operators}
 use Rattle.formula.specs.Reading.{opcode}

@@ -1,5 +1,5 @@
 -- A formula of the linear-time mu-calculus as a tree (document 01: a rule). Assumes nothing.
-use mathlib.Core.Bool.{Bool, true, false}
+use mathlib.Core.Bool.{Bool}
 use Prim.Native.Nat.{ℕ, _+_}
 
 -- What has no operand formula. 01, 02: true, false. 03, 04: a signal present, or absent, by its number.

@@ -1,6 +1,5 @@
 -- What the rows of a table hold: the decoding through which contracts speak of the definitions. Assumes nothing.
-use mathlib.Core.List.{List, [], map}
-use mathlib.Core.Bool.{Bool, true, false}
+use mathlib.Core.List.{List, map}
 use Prim.Native.Nat.{ℕ, _+_}
 use lib.ListN.{getD}
 use Rattle.base.specs.Lists.{numbers}
@@ -8,7 +7,6 @@ use Rattle.formula.specs.Formula.{Leaf}
 use Rattle.formula.specs.Table.{Operator, Table as Operators, Entries}
 use Rattle.formula.specs.Reading.{Opcode, opcode, Reading}
 use Rattle.formula.specs.declared.Table.{Table}
-use Rattle.formula.specs.declared.Refusal.{Refusal}
 use Rattle.formula.specs.declared.Outcome.{Outcome}
 use Rattle.formula.specs.declared.Outcome.the-variants.{Accepted, Refused}
 use Rattle.formula.specs.declared.Reading as code

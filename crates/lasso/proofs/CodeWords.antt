@@ -1,7 +1,7 @@
 -- From the columns of all subformulas to the words: a word has the bits of its position, and none past the subformulas since the words
 -- were cleared. Assumes nothing.
 use mathlib.Core.Path.{_≡_, sym, ap, _∙_}
-use mathlib.Core.Bool.{Bool, true, false, _&&_, false≢true}
+use mathlib.Core.Bool.{Bool, false, _&&_, false≢true}
 use mathlib.Core.List.{List, [], _++_}
 use Prim.Native.Nat.{ℕ, _+_, _≤_, _<_}
 use native.Mathlib.Omega.{arith}
@@ -14,7 +14,7 @@ use Rattle.base.proofs.WordLaws.{no-bit, same-bits}
 use Rattle.base.proofs.NumberLaws.{values-at}
 use Rattle.formula.specs.Formula.{Formula, size}
 use Rattle.lasso.specs.Lasso.{Lasso, Positions, holds, labelling, meets}
-use Rattle.lasso.specs.Promise.{Written, Room, column, columns, Labelled, Evaluated, Answered}
+use Rattle.lasso.specs.Promise.{Written, Room, column, Labelled, Evaluated, Answered}
 use Rattle.lasso.proofs.Consistent.{length-labelling, labelling-bit, labelling-past}
 use Rattle.lasso.proofs.CodeColumns.{column-at}
 use Rattle.lasso.proofs.CodeLabel.{first-shown}

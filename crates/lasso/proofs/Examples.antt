@@ -1,9 +1,8 @@
 -- The truth examples of document 01, computed from the definition. Assumes nothing.
 use mathlib.Core.Path.{_≡_, refl}
-use mathlib.Core.Bool.{Bool, true, false}
+use mathlib.Core.Bool.{true, false}
 use mathlib.Core.List.{List, [], _∷_, map}
 use Prim.Native.Nat.{ℕ}
-use Rattle.lasso.specs.Lasso.{Lasso}
 use Rattle.lasso.specs.Truth.{Truth, truth}
 
 pub record Example : Type 0 where

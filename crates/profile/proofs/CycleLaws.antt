@@ -15,10 +15,8 @@ use Rattle.tableau.specs.Saturation.{Subset, same-subset}
 use Rattle.tableau.specs.Transition.{Transition}
 use Rattle.tableau.specs.Nodes.{root, nodes}
 use Rattle.tableau.proofs.SaturationLaws.{subset-sound, subset-refl}
-use Rattle.profile.specs.Traces.{Triple}
 use Rattle.profile.specs.Profiles.{Profile, profiles, rejecting, accepting}
-use Rattle.profile.specs.Cycle.{around, AcceptingCycle, Rejecting, Run}
-use Rattle.tableau.specs.Run.{Reachable}
+use Rattle.profile.specs.Cycle.{AcceptingCycle, Run}
 use Rattle.profile.proofs.RejectLaws.{rejecting-of, rejecting-in}
 use Rattle.profile.proofs.ProfileLaws.{rank, profiles-run, profiles-near}
 

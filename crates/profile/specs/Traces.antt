@@ -2,9 +2,9 @@
 -- subformulas, which is larger than any of theirs. Assumes nothing.
 use mathlib.Core.Bool.{Bool, true, false, cond, _&&_}
 use mathlib.Core.List.{List, [], _∷_, map}
-use Prim.Native.Nat.{ℕ, zero, suc, _+_, _*_, min}
+use Prim.Native.Nat.{ℕ, suc, _+_, _*_, min}
 use lib.Dec.{eqb}
-use lib.ListN.{length, getD}
+use lib.ListN.{length}
 use Rattle.base.specs.Lists.{gather, any, keep}
 use Rattle.base.specs.Search.{Edge, Item, search-from}
 use Rattle.formula.specs.Table.{Operator, Table, operator}

@@ -1,11 +1,11 @@
 -- The nodes reachable from the root, each with a shortest run to it: document 01, "Graph, traces, profiles". Assumes nothing.
-use mathlib.Core.Bool.{Bool, true}
+use mathlib.Core.Bool.{true}
 use mathlib.Core.List.{List, [], _∷_, map}
 use Prim.Native.Nat.{ℕ, _+_, _^_}
 use lib.ListN.{length, set}
 use Rattle.base.specs.Lists.{gather}
 use Rattle.base.specs.Search.{Edge, Item, search-from}
-use Rattle.formula.specs.Table.{Operator, Table}
+use Rattle.formula.specs.Table.{Table}
 use Rattle.tableau.specs.Saturation.{Subset, same-subset, nothing}
 use Rattle.tableau.specs.Transition.{Transition, transitions, next-of}
 

@@ -1,5 +1,5 @@
 -- `base::with` changes one bit: set by or, cleared by xor where it is set.
-use mathlib.Core.Path.{_≡_, sym, _∙_}
+use mathlib.Core.Path.{sym, _∙_}
 use Rattle.base.proofs.BitLaws.{set-on, set-off, set-none}
 use borrow.Author.Needs.{needs}
 use Rattle.base.proofs.with.Statement.{statement}

@@ -10,7 +10,7 @@ use Rattle.lasso.proofs.CodeWritten.{size-at, few, first-operand, secon
 use Rattle.lasso.proofs.CodeClosed.{finished-evaluated}
 use Rattle.lasso.proofs.CodeLabel.{leaf-evaluated, next-evaluated, pair-evaluated}
 use Rattle.lasso.proofs.CodeRounds.{Rounded, rounded-start, rounded-more, rounds-over, rounds-still, fixpoint-evaluated}
-use Prim.Native.Nat.{ℕ, _+_, _-_, _*_, _≤_, _<_}
+use Prim.Native.Nat.{ℕ, _-_, _*_, _≤_, _<_}
 use borrow.Fn.Kinds.{In}
 use borrow.Fn.PlainCycle.{Measures, is, falls, and}
 use Rattle.lasso.proofs.label.Reads as label
