@@ -1,0 +1,59 @@
+-- decision_edges::kept::untouched is safe and ends: the index is within. Assumes nothing.
+use borrow.Author.Needs.{needs}
+use Prim.Native.Nat.{_-_, _≤_}
+use lib.ListN.{length}
+use Rattle.decision_edges.proofs.kept.untouched.Statement.{statement}
+use Rattle.decision_edges.proofs.kept.untouched.Tie as tie
+
+abbrev Inv-loop : tie.InvT-loop
+Inv-loop letters n₀ n = n ≤ length letters
+
+abbrev μ-loop : tie.MeasureT-loop
+μ-loop letters n₀ n = length letters - n
+
+loop-holds : tie.Need-loop-holds Inv-loop μ-loop
+loop-holds c = search needs
+
+sub-if1 : tie.Need-sub-if1 Inv-loop μ-loop
+sub-if1 c = search needs
+
+sub-if1-2 : tie.Need-sub-if1-2 Inv-loop μ-loop
+sub-if1-2 c = search needs
+
+mul-if1 : tie.Need-mul-if1 Inv-loop μ-loop
+mul-if1 c = search needs
+
+shared-slice-read-if1 : tie.Need-shared-slice-read-if1 Inv-loop μ-loop
+shared-slice-read-if1 c = search needs
+
+returns : tie.Need-returns Inv-loop μ-loop
+returns c = search needs
+
+add-n : tie.Need-add-n Inv-loop μ-loop
+add-n c = search needs
+
+loop-less : tie.Need-loop-less Inv-loop μ-loop
+loop-less c = search needs
+
+loop-again : tie.Need-loop-again Inv-loop μ-loop
+loop-again c = search needs
+
+returns-2 : tie.Need-returns-2 Inv-loop μ-loop
+returns-2 c = search needs
+
+pub untouched-spec : {M : Type 1} → statement M
+untouched-spec =
+    tie.close
+    (tie.spec
+    Inv-loop
+    μ-loop
+    loop-holds
+    sub-if1
+    sub-if1-2
+    mul-if1
+    shared-slice-read-if1
+    returns
+    add-n
+    loop-less
+    loop-again
+    returns-2)

@@ -1,0 +1,30 @@
+-- What a program shows of a formula, from the decision's promise and the text that was written. Assumes nothing.
+use mathlib.Core.Path.{_≡_, subst}
+use mathlib.Core.List.{List}
+use Prim.Native.Nat.{ℕ}
+use lib.ListN.{length}
+use Rattle.vectors.specs.Text.{Buffer, Wrote}
+use Rattle.decision.specs.Promise.{Decided}
+use Rattle.decision.specs.declared.Verdict.{Verdict}
+use Rattle.verdicts.specs.Shown.{Shown}
+
+pub shows : (text : Verdict → List ℕ → List ℕ) {bytes : List ℕ} {N M room places : ℕ} {w w′ b b′ : List ℕ} {v : Verdict} {s t : Buffer}
+    → Decided bytes N M w w′ b b′ v → length w ≡ room → length b ≡ places → Wrote s (text v b′) t → Shown text bytes N M room places s t
+shows text {w} {w′} {b} {b′} {v} d h k p =
+    record {
+      workspace = w;
+      workspace′ = w′;
+      witness = b;
+      witness′ = b′;
+      answer = v;
+      bytes-lent = h;
+      letters-lent = k;
+      decided = d;
+      wrote = p;
+    }
+
+-- how much was lent, by another name
+pub resized : (text : Verdict → List ℕ → List ℕ) {bytes : List ℕ} {N M room places room′ places′ : ℕ} {s t : Buffer} → room ≡ room′ → places ≡ places′
+    → Shown text bytes N M room places s t → Shown text bytes N M room′ places′ s t
+resized text {bytes} {N} {M} {places} {room′} {s} {t} p q d =
+    subst (λ (n : ℕ). Shown text bytes N M room′ n s t) q (subst (λ (n : ℕ). Shown text bytes N M n places s t) p d)

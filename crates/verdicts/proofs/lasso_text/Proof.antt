@@ -1,0 +1,63 @@
+-- verdicts::lasso_text meets its contract: the stem's letters and the cycle's, or nothing. Assumes nothing.
+use borrow.Author.Needs.{needs}
+use mathlib.Core.Path.{sym}
+use Rattle.vectors.proofs.Writing.{nothing, then}
+use Rattle.verdicts.proofs.lasso_text.Statement.{statement}
+use Rattle.verdicts.proofs.lasso_text.Tie as tie
+
+enum-known-verdict : tie.Need-enum-known-verdict
+enum-known-verdict c = search needs
+
+part-requires : tie.Need-part-requires
+part-requires c κs = search needs
+
+letters-requires : tie.Need-letters-requires
+letters-requires c κs = search needs
+
+part-requires-2 : tie.Need-part-requires-2
+part-requires-2 c κs = search needs
+
+letters-requires-2 : tie.Need-letters-requires-2
+letters-requires-2 c κs = search needs
+
+enum-told : tie.Need-enum-told
+enum-told c = search needs
+
+enum-told-2 : tie.Need-enum-told-2
+enum-told-2 c = search needs
+
+enum-told-3 : tie.Need-enum-told-3
+enum-told-3 c = search needs
+
+same-length : tie.Need-same-length
+same-length c = search needs
+
+returns : tie.Need-returns
+returns c = simp (c .before .before .before .before .before .before .before .before .before .before .before .verdict .given .1, sym (c .before .before .before .before .before .before .before .before .before .part .ensures), sym (c .before .before .before .before .part2 .ensures)) (then (c .before .before .before .before .before .before .before .letters .ensures) (c .before .before .letters2 .ensures))
+
+returns-2 : tie.Need-returns-2
+returns-2 c = simp (c .enum-told .given .1) nothing
+
+returns-3 : tie.Need-returns-3
+returns-3 c = simp (c .enum-told2 .given .1) nothing
+
+returns-4 : tie.Need-returns-4
+returns-4 c = simp (c .enum-told3 .given .1) nothing
+
+pub lasso-text-spec : {M : Type 1} → statement M
+lasso-text-spec =
+    tie.close
+    (tie.spec
+    enum-known-verdict
+    part-requires
+    letters-requires
+    part-requires-2
+    letters-requires-2
+    enum-told
+    enum-told-2
+    enum-told-3
+    same-length
+    returns
+    returns-2
+    returns-3
+    returns-4)

@@ -1,0 +1,39 @@
+-- The text of a verdict: document 01, "The program". Assumes nothing.
+use mathlib.Core.List.{List, [], _∷_, _++_}
+use Prim.Native.Nat.{ℕ}
+use lib.ListN.{take, drop}
+use Rattle.report.specs.Texts.{number-text, refused-text, unread-text, each, letter-text}
+use Rattle.decision.specs.declared.Verdict.{Verdict}
+use Rattle.decision.specs.declared.Verdict.the-variants.{Satisfiable, Unsatisfiable, Refused, Unread}
+
+-- "prints `MET` with lead-in length, loop length, K, P"
+abbrev pub met-text : (stem cycle K P : ℕ) → List ℕ
+met-text stem cycle K P = (77 ∷ 69 ∷ 84 ∷ []) ++ number-text stem ++ number-text cycle ++ number-text K ++ number-text P
+
+-- "or `NOT` with K, P"
+abbrev pub not-text : (K P : ℕ) → List ℕ
+not-text K P = (78 ∷ 79 ∷ 84 ∷ []) ++ number-text K ++ number-text P
+
+-- "or `REFUSED` with the number, and for 1 to 9 ` at ` and the byte place"
+abbrev pub verdict-text : Verdict → List ℕ
+verdict-text (Satisfiable stem cycle K P) = met-text stem cycle K P
+verdict-text (Unsatisfiable K P) = not-text K P
+verdict-text (Refused code) = refused-text code
+verdict-text (Unread why) = unread-text why
+
+-- The letters of the witness, which stand at the buffer's start: those of the stem behind one text, those of the cycle behind another, and a third
+-- behind both.
+abbrev pub lasso-text : Verdict → (letters stem-front cycle-front back : List ℕ) → List ℕ
+lasso-text (Satisfiable stem cycle K P) letters stem-front cycle-front back =
+    each (letter-text stem-front back) (take stem (drop 0 letters)) ++ each (letter-text cycle-front back) (take cycle (drop stem letters))
+lasso-text (Unsatisfiable K P) letters stem-front cycle-front back = []
+lasso-text (Refused code) letters stem-front cycle-front back = []
+lasso-text (Unread why) letters stem-front cycle-front back = []
+
+-- "After MET comes one line a place, `S` for lead-in, `L` for loop, and four lower-case hex digits."
+abbrev pub program-text : Verdict → List ℕ → List ℕ
+program-text v letters = verdict-text v ++ (10 ∷ []) ++ lasso-text v letters (83 ∷ 32 ∷ []) (76 ∷ 32 ∷ []) (10 ∷ [])
+
+-- A line of the vector file: the verdict and, behind it, each letter behind a blank.
+abbrev pub vector-line : Verdict → List ℕ → List ℕ
+vector-line v letters = verdict-text v ++ lasso-text v letters (32 ∷ []) (32 ∷ []) [] ++ (10 ∷ [])

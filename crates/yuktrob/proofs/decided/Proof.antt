@@ -1,0 +1,46 @@
+-- yuktrob::decided meets its contract: the decision's promise, and the text of what it answered. Assumes nothing.
+use borrow.Author.Needs.{needs}
+use Rattle.vectors.proofs.Writing.{place-within}
+use Rattle.verdicts.specs.Texts.{program-text}
+use Rattle.verdicts.proofs.Showing.{shows}
+use Prim.Native.Nat.{ℕ, zero-le}
+use Rattle.io.proofs.Counting.{counts}
+use lib.ListN.{length-replicate}
+use Rattle.yuktrob.proofs.decided.Statement.{statement}
+use Rattle.yuktrob.proofs.decided.Tie as tie
+
+slice-aggregate-decide : tie.Need-slice-aggregate-decide
+slice-aggregate-decide c = search needs
+
+slice-aggregate-decide-2 : tie.Need-slice-aggregate-decide-2
+slice-aggregate-decide-2 c = search needs
+
+decide-requires : tie.Need-decide-requires
+decide-requires c κs = search needs
+
+slice-aggregate-program-text : tie.Need-slice-aggregate-program-text
+slice-aggregate-program-text c = search needs
+
+program-text-requires : tie.Need-program-text-requires
+program-text-requires c κs = search needs
+
+same-length : tie.Need-same-length
+same-length c = search needs
+
+returns : tie.Need-returns
+returns c = (
+  counts _ _ (place-within (c .before .before .program-text .ensures) zero-le),
+  shows program-text (c .before .before .before .before .before .before .before .decide .ensures) (length-replicate {A = ℕ} 59648 0) (length-replicate {A = ℕ} 556 0) (c .before .before .program-text .ensures),
+)
+
+pub decided-spec : {M : Type 1} → statement M
+decided-spec =
+    tie.close
+    (tie.spec
+    slice-aggregate-decide
+    slice-aggregate-decide-2
+    decide-requires
+    slice-aggregate-program-text
+    program-text-requires
+    same-length
+    returns)

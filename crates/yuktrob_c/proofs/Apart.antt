@@ -1,0 +1,51 @@
+-- An answer is taken apart as include/yuktrob.h does it, where a shift to the right is a quotient and a mask a remainder: out comes what
+-- the answer was made of. So the number says as much as the answer. Assumes nothing.
+use mathlib.Core.Path.{_≡_, ap, _∙_}
+use Prim.Native.Nat.{ℕ, _+_, _*_, _/_, _%_, _≤_, _<_}
+use native.Mathlib.Omega.{arith}
+use native.Mathlib.Nat.{mod-eq-of-lt, div-eq-of-lt, add-mul-mod-self-left, add-mul-div-left}
+use Rattle.yuktrob_c.specs.Numbers.{number, found, Small}
+
+module _ (a b m : ℕ) (h : a < b) where
+  low : (a + b * m) % b ≡ a
+  low = add-mul-mod-self-left a b m ∙ mod-eq-of-lt h
+
+  high : (a + b * m) / b ≡ m
+  high = add-mul-div-left a m (omega arith) ∙ omega (arith, div-eq-of-lt h)
+
+pub number-apart : (code carried : ℕ) → code < 256 → (number code carried % 256 ≡ code) × (number code carried / 256 ≡ carried)
+number-apart code carried h = (low code 256 carried h, high code 256 carried h)
+
+-- the part a of a number: it stands above what is less than `shift`, and is less than b
+part : (n below shift a b m : ℕ) → n ≡ below + shift * (a + b * m) → below < shift → a < b → n / shift % b ≡ a
+part n below shift a b m e h k =
+    ap (λ (x : ℕ). x / shift % b) e ∙ ap (λ (x : ℕ). x % b) (high below shift (a + b * m) h) ∙ low a b m k
+
+-- the header's yuktrob_refusal, yuktrob_is_met, yuktrob_lead, yuktrob_loop, yuktrob_nodes and yuktrob_profiles: shifts by 8, 9, 22, 35
+-- and 48 bits
+pub record Apart (n met stem cycle K P : ℕ) : Type 0 where
+  pub refusal : n % 256 ≡ 0
+  pub met-is : n / 256 % 2 ≡ met
+  pub stem-is : n / 512 % 8192 ≡ stem
+  pub cycle-is : n / 4194304 % 8192 ≡ cycle
+  pub nodes-are : n / 34359738368 % 8192 ≡ K
+  pub profiles-are : n / 281474976710656 % 8192 ≡ P
+
+pub found-apart : (met stem cycle K P : ℕ) → met ≤ 1 → Small stem cycle K P → Apart (number 0 (found met stem cycle K P)) met stem cycle K P
+found-apart met stem cycle K P h s =
+    let counts = K + 8192 * P in
+    let around = cycle + 8192 * counts in
+    let sizes = stem + 8192 * around in
+    let n = number 0 (found met stem cycle K P) in
+    record {
+      refusal = low 0 256 (met + 2 * sizes) (omega arith);
+      met-is = part n 0 256 met 2 sizes (omega arith) (omega arith) (omega arith);
+      stem-is = part n (256 * met) 512 stem 8192 around (omega arith) (omega arith) (omega (arith, s .stem-fits));
+      cycle-is = part n (256 * met + 512 * stem) 4194304 cycle 8192 counts (omega arith) (omega (arith, s .stem-fits)) (omega (arith, s .cycle-fits));
+      nodes-are =
+          part n (256 * met + 512 * stem + 4194304 * cycle) 34359738368 K 8192 P (omega arith) (omega (arith, s .stem-fits, s .cycle-fits))
+          (omega (arith, s .nodes-fit));
+      profiles-are =
+          part n (256 * met + 512 * stem + 4194304 * cycle + 34359738368 * K) 281474976710656 P 8192 0 (omega arith)
+          (omega (arith, s .stem-fits, s .cycle-fits, s .nodes-fit)) (omega (arith, s .profiles-fit));
+    }

@@ -1,0 +1,162 @@
+//! Times the proved library and the independent implementation on the same inputs, in one run: `bench`. Buffers are made once and not
+//! cleared between calls; the decision clears its work area itself, which is part of its time.
+
+use std::time::{Duration, Instant};
+use yuktrob::random::Random;
+use yuktrob::reference;
+
+/// The time of one call: the least of several rounds.
+fn time(mut call: impl FnMut()) -> Duration {
+    let mut best = Duration::MAX;
+    let mut spent = Duration::ZERO;
+    let mut rounds = 0;
+    while rounds < 3 || (spent < Duration::from_millis(200) && rounds < 200) {
+        let start = Instant::now();
+        call();
+        let took = start.elapsed();
+        best = best.min(took);
+        spent += took;
+        rounds += 1;
+    }
+    best
+}
+
+fn row(name: &str, ours: Duration, theirs: Duration) {
+    let us = |d: Duration| d.as_secs_f64() * 1e6;
+    println!("| {name} | {:.1} | {:.1} | {:.2} |", us(ours), us(theirs), us(ours) / us(theirs));
+}
+
+fn table(title: &str) {
+    println!("\n{title}\n\n| input | proved, µs | plain Rust, µs | ratio |\n|---|---|---|---|");
+}
+
+struct Areas {
+    work: Vec<u8>,
+    course: Vec<u16>,
+    words: Vec<u64>,
+}
+
+fn decision(areas: &mut Areas, rule: &[u8], n: usize, m: usize) -> (Duration, Duration) {
+    let (work, course) = (&mut areas.work[..8 * n + 192 * m], &mut areas.course[..n + m]);
+    let ours = time(|| {
+        std::hint::black_box(yuktrob::decide(std::hint::black_box(rule), n, m, work, course));
+    });
+    let theirs = time(|| {
+        std::hint::black_box(reference::decide(std::hint::black_box(rule), n, m, 8 * n + 192 * m, n + m));
+    });
+    (ours, theirs)
+}
+
+fn truth(areas: &mut Areas, rule: &[u8], places: &[u16], lead: usize) -> (Duration, Duration) {
+    let words = &mut areas.words[..places.len()];
+    let ours = time(|| {
+        std::hint::black_box(yuktrob::truth(std::hint::black_box(rule), places, lead, words));
+    });
+    let theirs = time(|| {
+        std::hint::black_box(reference::truth(std::hint::black_box(rule), places, lead, places.len()));
+    });
+    (ours, theirs)
+}
+
+/// F, G, U, R in bytes, over what they are applied to.
+fn eventually(f: &[u8]) -> Vec<u8> {
+    [&[9, 6][..], f, &[8, 5, 0]].concat()
+}
+fn always(f: &[u8]) -> Vec<u8> {
+    [&[10, 7][..], f, &[8, 5, 0]].concat()
+}
+fn until(f: &[u8], g: &[u8]) -> Vec<u8> {
+    [&[9, 6][..], g, &[7], f, &[8, 5, 0]].concat()
+}
+fn release(f: &[u8], g: &[u8]) -> Vec<u8> {
+    [&[10, 7][..], g, &[6], f, &[8, 5, 0]].concat()
+}
+
+fn main() {
+    let mut areas = Areas { work: vec![0; 8 * 1024 + 192 * 4096], course: vec![0; 5120], words: vec![0; 8192] };
+    let s0: &[u8] = &[3, 0];
+    let s1: &[u8] = &[3, 1];
+
+    table("Decision, typical rules, N = 256, M = 300");
+    let typical: [(&str, Vec<u8>); 5] = [
+        ("true", vec![1]),
+        ("F s0", eventually(s0)),
+        ("G F s0", vec![10, 7, 9, 6, 3, 0, 8, 5, 0, 8, 5, 0]),
+        ("s0 U s1 and G F s0", [&[7][..], &until(s0, s1), &[10, 7, 9, 6, 3, 0, 8, 5, 0, 8, 5, 0]].concat()),
+        ("case H", vec![10, 7, 3, 0, 7, 8, 4, 0, 8, 8, 5, 0]),
+    ];
+    for (name, rule) in &typical {
+        let (ours, theirs) = decision(&mut areas, rule, 256, 300);
+        row(name, ours, theirs);
+    }
+
+    table("Decision, N = 1,024, M = 4,096: the five heaviest of 10,000 random rules, and the sum over all of them");
+    let mut random = Random::new(7);
+    let mut timed: Vec<(Duration, Duration, Vec<u8>)> = Vec::new();
+    for _ in 0..10_000 {
+        let size = 1 + random.below(47);
+        let rule = random.rule(size);
+        let (work, course) = (&mut areas.work[..], &mut areas.course[..]);
+        let start = Instant::now();
+        std::hint::black_box(yuktrob::decide(&rule, 1024, 4096, work, course));
+        let ours = start.elapsed();
+        let start = Instant::now();
+        std::hint::black_box(reference::decide(&rule, 1024, 4096, work.len(), course.len()));
+        timed.push((ours, start.elapsed(), rule));
+    }
+    let sum = timed.iter().fold((Duration::ZERO, Duration::ZERO), |(a, b), (x, y, _)| (a + *x, b + *y));
+    timed.sort();
+    for (_, _, rule) in timed.iter().rev().take(5) {
+        let (ours, theirs) = decision(&mut areas, rule, 1024, 4096);
+        let sizes = match reference::decide(rule, 1024, 4096, 8 * 1024 + 192 * 4096, 5120) {
+            reference::Verdict::Met { nodes, profiles, .. } => format!("MET, K {nodes}, P {profiles}"),
+            reference::Verdict::Not { nodes, profiles } => format!("NOT, K {nodes}, P {profiles}"),
+            reference::Verdict::Refused(k) => format!("refused {k}"),
+            reference::Verdict::Unread(_) => "unread".into(),
+        };
+        row(&format!("{} bytes, {sizes}", rule.len()), ours, theirs);
+    }
+    row("all 10,000", sum.0, sum.1);
+
+    table("Decision by K and P, N = 1,024, M = 4,096: the median rule of those whose P is near");
+    for near in [10, 30, 100, 300, 1000, 3000] {
+        let mut group: Vec<_> = timed
+            .iter()
+            .filter_map(|(ours, theirs, rule)| match reference::decide(rule, 1024, 4096, 8 * 1024 + 192 * 4096, 5120) {
+                reference::Verdict::Met { nodes, profiles, .. } | reference::Verdict::Not { nodes, profiles }
+                    if profiles * 4 >= near * 3 && profiles * 4 <= near * 5 =>
+                {
+                    Some((*ours, *theirs, nodes, profiles, rule))
+                }
+                _ => None,
+            })
+            .collect();
+        if group.is_empty() {
+            continue;
+        }
+        group.sort_by_key(|x| x.0);
+        let (_, _, k, p, rule) = group[group.len() / 2];
+        let (ours, theirs) = decision(&mut areas, rule, 1024, 4096);
+        row(&format!("K {k}, P {p}"), ours, theirs);
+    }
+
+    let nested = |one: fn(&[u8]) -> Vec<u8>, deep: usize| (0..deep).fold(s0.to_vec(), |f, _| one(&f));
+    let rules: [(&str, Vec<u8>); 7] = [
+        ("F s0", eventually(s0)),
+        ("G s0", always(s0)),
+        ("s1 U s0", until(s1, s0)),
+        ("s1 R s0", release(s1, s0)),
+        ("six nested F", nested(eventually, 6)),
+        ("six nested G", nested(always, 6)),
+        ("five nested U", (0..5).fold(s0.to_vec(), |f, _| until(s1, &f))),
+    ];
+    for n in [1000, 1024, 8192] {
+        table(&format!("Truth on {n} places, the only signal 0 at the end, signal 1 everywhere, lead-in {}", n - 1));
+        let mut places = vec![2u16; n];
+        places[n - 1] = 3;
+        for (name, rule) in &rules {
+            let (ours, theirs) = truth(&mut areas, rule, &places, n - 1);
+            row(name, ours, theirs);
+        }
+    }
+}
