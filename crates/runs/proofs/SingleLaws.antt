@@ -8,6 +8,7 @@ use mathlib.Core.List.{List, [], _∷_, _++_, map, List·Memᴰ·head, List·Mem
 use Prim.Native.Nat.{ℕ, zero, suc, _+_, _-_, _*_, _^_, _≤_, _<_}
 use native.Mathlib.Nat.{zero-add}
 use native.Mathlib.Omega.{arith}
+use lib.Bits.{bitAnd}
 use lib.Dec.{T, eqb, eqb→eq, eqb-refl}
 use lib.ListN.{length, getD, length-map}
 use Rattle.base.specs.Bits.{bit, word}
@@ -21,13 +22,14 @@ use Rattle.base.proofs.WordLaws.{word-bit, word-lt, word-inj}
 use Rattle.formula.specs.Table.{Table}
 use Rattle.tableau.specs.Saturation.{Subset, same-subset, nothing, saturate}
 use Rattle.tableau.specs.Transition.{operators-in, requires, letter-of, next-of, ors, choice-of, Transition, transition-of, transitions}
-use Rattle.tableau.specs.Promise.{table-of, Stepped}
+use Rattle.tableau.specs.Promise.{table-of, Stepped, Widest}
 use Rattle.tableau.specs.Area.{eight, words-at, index, Sized}
 use Rattle.tableau.specs.declared.Step.the-variants.{Leads, Nothing}
 use Rattle.tableau.proofs.SaturationLaws.{add-inside}
 use Rattle.tableau.proofs.TransitionLaws.{transition-with}
 use Rattle.tableau.proofs.WordSets.{same-word}
 use Rattle.tableau.proofs.LoopLaws.{table-length}
+use Rattle.tableau.proofs.WidestLaws.{step-outside}
 use Rattle.tableau.proofs.StepLaws.{no-step, Found, a-step}
 use Rattle.tableau.proofs.NodeLoop.{at-sized}
 use Rattle.tableau.proofs.NodeReads.{Kept, kept-at, eight-same, words-same}
@@ -148,6 +150,9 @@ module _ {rows : List ℕ} {count : ℕ} {r : Ranks} {s : Shelf} {nodes : ℕ} {
       sets = λ i h. subst⁻¹ (λ (w : ℕ). w < 2 ^ count) (node-kept i h) (g .sets i h);
     }
 
+    pub widest-kept : {from wide : ℕ} (i : ℕ) → i < nodes → from ≡ eight a (8 * i) → Widest rows count from wide → Widest rows count (eight b (8 * i)) wide
+    widest-kept {wide = wide} i h e d = subst (λ (w : ℕ). Widest rows count w wide) (e ∙ sym (node-kept i h)) d
+
     pub node-in-kept : (i : ℕ) → i < nodes → node-in count b i ≡ node-in count a i
     node-in-kept i h = ap (subset-of count) (node-kept i h)
 
@@ -177,6 +182,10 @@ module _ {rows : List ℕ} {count : ℕ} {r : Ranks} {s : Shelf} {nodes : ℕ} {
         (ap (λ (ys : List Transition). adds same-profile (stored s a had) (map (single-of t vs i v) ys))
         (sym (no-step t w (saturate t w v) (st .is w v (subset-length count (eight a (8 * i))) c from-is))))
         (grown-still s had a l)
+
+    pub single-outside : {had wide : ℕ} → had ≤ s .capacity → Widest rows count (eight a (8 * i)) wide → (bitAnd choice wide ≡ choice → ⊥)
+        → Added s had a had a (singles-by t vs i v x)
+    single-outside {wide = wide} l d o = single-none l (step-outside (subst⁻¹ (λ (n : ℕ). Widest rows count n wide) f d) o)
 
     module _ {to letter : ℕ} (st : Stepped rows count choice from (Leads to letter)) where
       found : Found t w (saturate t w v) to letter

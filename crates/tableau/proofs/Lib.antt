@@ -6,6 +6,7 @@ pub mod WordSets
 pub mod RowLaws
 pub mod LoopLaws
 pub mod StepLaws
+pub mod WidestLaws
 pub mod SearchLoop
 pub mod AreaLaws
 pub mod NodeLoop

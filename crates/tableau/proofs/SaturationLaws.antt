@@ -139,7 +139,7 @@ abbrev Closed-from : Table → (choice : Subset) → ℕ → Subset → Type 0
 Closed-from t w e v = (i m : ℕ) → T (has v (e + i)) → List·Memᴰ m (moves (operator t i) (has w (e + i))) → m < length v → T (has v m)
 
 -- a pass adds what a move from the set leads to
-sweep-closed : (t : Table) (w : Subset) (e : ℕ) (v u : Subset) → Inside (sweep t w e v) u
+pub sweep-closed : (t : Table) (w : Subset) (e : ℕ) (v u : Subset) → Inside (sweep t w e v) u
     → (i m : ℕ) → T (has v (e + i)) → List·Memᴰ m (moves (operator t i) (has w (e + i))) → m < length v → T (has u m)
 sweep-closed [] w e v u s i m h r l = absurd (List·Memᴰ·not-nil r)
 sweep-closed (o ∷ t) w e v u s zero m h r l =

@@ -7,7 +7,7 @@ ghost use Rattle.base.specs.Bits.{bit, word};
 ghost use Rattle.formula.specs.Rows.{operator-at};
 ghost use Rattle.tableau.specs.Saturation.{moves};
 ghost use Rattle.tableau.specs.Transition.{ors, choice-of};
-ghost use Rattle.tableau.specs.Promise.{table-of, Formed, Placed, with-bits, Swept, Saturated, Requires-more, Required-by, Stepped};
+ghost use Rattle.tableau.specs.Promise.{table-of, Formed, Placed, with-bits, Swept, Saturated, Requires-more, Required-by, Stepped, Widest};
 ghost use Rattle.tableau.specs.Area.{eight, put, words-at, index, zeros, Room, Holds, reachable, Added, Followed, Expanded};
 
 // The number of a node, kept apart from subformulas and positions.
@@ -118,6 +118,26 @@ pub fn saturated(rows: &[u8; 144], count: usize, choice: u64, node: u64) -> u64
         left -= 1;
     }
     set
+}
+
+// A set that holds every saturation of the node: it follows the moves of both picks at once. Where it has no rest in time, all subformulas.
+pub fn widest(rows: &[u8; 144], count: usize, node: u64) -> u64
+    requires { ⌜ Formed (now rows) count ⌝ }
+    ensures { λ r. ⌜ Widest (now (rows .entry)) count node r ⌝ }
+{
+    let all = base::power(count) - 1;
+    let mut set = node;
+    let mut left = count;
+    while 0 < left {
+        let half = swept(rows, count, 0, set);
+        let grown = swept(rows, count, all, half);
+        if grown == set {
+            return set;
+        }
+        set = grown;
+        left -= 1;
+    }
+    all
 }
 
 // What subformula e requires beside the rest.
@@ -282,22 +302,27 @@ fn add(area: &mut [u8], known: usize, capacity: usize, set: u64) -> usize
     known + 1
 }
 
-// Adds the node that a choice word leads to.
+// Adds the node that a choice word leads to. A choice that picks outside the widest set is not met: most are passed over so.
 fn follow(
     rows: &[u8; 144],
     count: usize,
     area: &mut [u8],
     from: u64,
+    wide: u64,
     choice_word: u64,
     known: usize,
     capacity: usize,
 ) -> usize
     requires { ⌜ Formed (now rows) count ⌝ }
     requires { ⌜ Room known capacity (length (now area)) ⌝ }
+    requires { ⌜ Widest (now rows) count from wide ⌝ }
     ensures { λ r. ⌜ Followed (now (rows .entry)) count from «choice_word» known capacity (now (area .entry)) (now (area .exit)) r ⌝ }
     ensures { λ r. ⌜ (known ≤ r) × (r ≤ capacity + 1) ⌝ }
 {
     let choice = choice_of(rows, count, choice_word);
+    if choice & wide != choice {
+        return known;
+    }
     match transition(rows, count, choice, from) {
         Step::Nothing => known,
         Step::Leads { to, letter: _ } => add(area, known, capacity, to),
@@ -320,6 +345,7 @@ fn expand(
     ensures { λ r. ⌜ (known ≤ r) × (r ≤ capacity + 1) ⌝ }
 {
     let from = node(area, number);
+    let wide = widest(rows, count, from);
     let end = base::power(ors(rows, count));
     let mut all = known;
     let mut word = 0u64;
@@ -327,7 +353,7 @@ fn expand(
         if capacity < all {
             return all;
         }
-        all = follow(rows, count, area, from, word, all, capacity);
+        all = follow(rows, count, area, from, wide, word, all, capacity);
         word += 1;
     }
     all

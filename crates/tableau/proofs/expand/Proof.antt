@@ -10,19 +10,22 @@ use Rattle.tableau.proofs.expand.Statement.{statement}
 use Rattle.tableau.proofs.expand.Tie as tie
 
 abbrev Inv-loop : tie.InvT-loop
-Inv-loop rows count area₀ known capacity from end all₀ word₀ area all word = (known ≤ all) × ((all ≤ capacity + 1) × ((word ≤ end) × ((length area ≡ length area₀) × Expanding rows count from known capacity area₀ all word area)))
+Inv-loop rows count area₀ known capacity from wide end all₀ word₀ area all word = (known ≤ all) × ((all ≤ capacity + 1) × ((word ≤ end) × ((length area ≡ length area₀) × Expanding rows count from known capacity area₀ all word area)))
 
 abbrev μ-loop : tie.MeasureT-loop
-μ-loop rows count area₀ known capacity from end all₀ word₀ area all word = end - word
+μ-loop rows count area₀ known capacity from wide end all₀ word₀ area all word = end - word
 
 node-requires : tie.Need-node-requires Inv-loop μ-loop
 node-requires c κs = search needs
+
+widest-requires : tie.Need-widest-requires Inv-loop μ-loop
+widest-requires c κs = search needs
 
 ors-requires : tie.Need-ors-requires Inv-loop μ-loop
 ors-requires c κs = search needs
 
 power-requires : tie.Need-power-requires Inv-loop μ-loop
-power-requires c κs = omega (arith, c .ors .ensures, c .before .before .before .before .pre .0 .few-ors)
+power-requires c κs = omega (arith, c .ors .ensures, c .before .before .before .before .before .pre .0 .few-ors)
 
 loop-holds : tie.Need-loop-holds Inv-loop μ-loop
 loop-holds c = (omega arith, (omega arith, (omega arith, (refl, expand-start _ _ _ _ _ _))))
@@ -31,10 +34,10 @@ same-length : tie.Need-same-length Inv-loop μ-loop
 same-length c = search needs
 
 returns : tie.Need-returns Inv-loop μ-loop
-returns c = (expand-end (c .before .before .loop .inv .1 .1 .1 .1) (c .before .before .before .before .before .before .before .before .pre .0) (c .before .before .before .before .before .before .before .before .pre .1 .1 .fits) (c .before .before .before .before .before .before .before .before .pre .1 .0) (c .before .before .before .before .before .node .ensures) (c .before .before .before .before .ors .ensures) (omega (arith, c .before .before .before .power .ensures)) (inl (c .if1 .taken)), (omega arith, omega arith))
+returns c = (expand-end (c .before .before .loop .inv .1 .1 .1 .1) (c .before .before .before .before .before .before .before .before .before .pre .0) (c .before .before .before .before .before .before .before .before .before .pre .1 .1 .fits) (c .before .before .before .before .before .before .before .before .before .pre .1 .0) (c .before .before .before .before .before .before .node .ensures) (c .before .before .before .before .ors .ensures) (omega (arith, c .before .before .before .power .ensures)) (inl (c .if1 .taken)), (omega arith, omega arith))
 
 follow-requires : tie.Need-follow-requires Inv-loop μ-loop
-follow-requires c κs = search needs
+follow-requires c κs = (c .before .before .before .before .before .before .before .before .before .before .pre .0, (search needs, c .before .before .before .before .before .before .widest .ensures))
 
 add-word : tie.Need-add-word Inv-loop μ-loop
 add-word c = search needs
@@ -49,7 +52,7 @@ same-length-2 : tie.Need-same-length-2 Inv-loop μ-loop
 same-length-2 c = search needs
 
 returns-2 : tie.Need-returns-2 Inv-loop μ-loop
-returns-2 c = (expand-end (c .before .loop .inv .1 .1 .1 .1) (c .before .before .before .before .before .before .before .pre .0) (c .before .before .before .before .before .before .before .pre .1 .1 .fits) (c .before .before .before .before .before .before .before .pre .1 .0) (c .before .before .before .before .node .ensures) (c .before .before .before .ors .ensures) (omega (arith, c .before .before .power .ensures)) (inr (omega (arith, c .before .before .power .ensures, c .loop-test .left))), (omega arith, omega arith))
+returns-2 c = (expand-end (c .before .loop .inv .1 .1 .1 .1) (c .before .before .before .before .before .before .before .before .pre .0) (c .before .before .before .before .before .before .before .before .pre .1 .1 .fits) (c .before .before .before .before .before .before .before .before .pre .1 .0) (c .before .before .before .before .before .node .ensures) (c .before .before .before .ors .ensures) (omega (arith, c .before .before .power .ensures)) (inr (omega (arith, c .before .before .power .ensures, c .loop-test .left))), (omega arith, omega arith))
 
 pub expand-spec : {M : Type 1} → statement M
 expand-spec =
@@ -58,6 +61,7 @@ expand-spec =
     Inv-loop
     μ-loop
     node-requires
+    widest-requires
     ors-requires
     power-requires
     loop-holds
