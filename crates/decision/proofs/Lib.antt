@@ -8,3 +8,4 @@ pub mod TryLaws
 pub mod ConcludeLaws
 pub mod SettleLaws
 pub mod SearchedLaws
+pub mod Bounds

@@ -52,7 +52,7 @@ last-step Along.stay n = absurd (n refl)
 last-step (Along.on {u} {ss} {s} a m) n = (u, ss, s, a, m, refl, length-append ss (s ∷ []))
 
 -- a letter has sixteen bits
-letter-small : (t : Table) (v : Subset) {s : Transition} → List·Memᴰ s (transitions t v) → s .letter < 65536
+pub letter-small : (t : Table) (v : Subset) {s : Transition} → List·Memᴰ s (transitions t v) → s .letter < 65536
 unfolding letter-of
 letter-small t v {s} m =
     let os = operators-in t (saturate t (s .choice) v) in

@@ -3,6 +3,7 @@ pub mod Commands
 pub mod Alike
 pub mod Fuel
 pub mod Prefix
+pub mod Early
 pub mod From
 pub mod Derivation
 pub mod Limits

@@ -1,12 +1,14 @@
--- The laws of numerals: the last digit stands behind the numeral of the quotient, which is smaller; so one is written. Assumes nothing.
+-- The laws of numerals: the last digit stands behind the numeral of the quotient, which is smaller; so one is written, and so a number below
+-- base ^ d has at most d digits. Assumes nothing.
 use mathlib.Core.Path.{_≡_, refl, sym, ap, subst, _∙_}
-use mathlib.Core.Bool.{Bool, true, false, cond, _&&_}
+use mathlib.Core.Bool.{Bool, true, false, true≢false, cond, _&&_}
 use mathlib.Core.List.{List, [], _∷_, _++_}
-use Prim.Native.Nat.{ℕ, zero, suc, _+_, _-_, _/_, _%_, _≤_, _<_}
-use native.Mathlib.Nat.{div-lt-self, div-le-self, mod-lt}
+use Prim.Native.Nat.{ℕ, zero, suc, _+_, _-_, _*_, _/_, _%_, _^_, _≤_, _<_}
+use native.Mathlib.Nat.{div-lt-self, div-le-self, div-lt-iff-lt-mul, mod-lt, pow-suc, pow-zero, one-mul}
 use native.Mathlib.Omega.{arith}
 use lib.Dec.{ltb, leb}
-use borrow.Author.Tests.{ltb-false, leb-false}
+use lib.ListN.{length, length-append}
+use borrow.Author.Tests.{lt-ltb, ltb-false, le-leb, leb-false}
 use Rattle.vectors.specs.Text.{Buffer, Wrote, glyph, is-last, numeral-by, numeral}
 use Rattle.vectors.proofs.Writing.{then}
 
@@ -55,6 +57,32 @@ module _ (base : ℕ) (h : 1 < base) where
       simp e
       (ap (λ (l : List ℕ). l ++ (glyph (n % base) ∷ []))
       (same (n + width) (suc (n / base + (width - 1))) (width - 1) (n / base) z (omega arith)))
+
+  -- a number below the base has one digit
+  single : (n : ℕ) {width : ℕ} → n < base ^ 1 → width ≤ 1 → is-last base width n ≡ true
+  single n {width} l k =
+      let e : base ^ 1 ≡ base = pow-suc base 0 ∙ ap (λ (m : ℕ). m * base) (pow-zero base) ∙ one-mul base in
+      simp (lt-ltb n base (omega arith), le-leb width 1 k)
+
+  -- what stands in front has a digit less
+  fewer : (d n : ℕ) → n < base ^ suc d → n / base < base ^ d
+  fewer d n l = div-lt-iff-lt-mul {k = base} {x = n} {y = base ^ d} (omega arith) .1 (subst (λ (m : ℕ). n < m) (pow-suc base d) l)
+
+  digits-by : (most d width n : ℕ) → n < base ^ suc d → width ≤ suc d → length (numeral-by most base width n) ≤ suc d
+  digits-by zero d width n l k = omega arith
+  digits-by (suc most) d width n l k = by (is-last base width n) refl d l k (digits-by most)
+    where
+      by : (t : Bool) → is-last base width n ≡ t → (d : ℕ) → n < base ^ suc d → width ≤ suc d
+          → ((d width n : ℕ) → n < base ^ suc d → width ≤ suc d → length (numeral-by most base width n) ≤ suc d)
+          → length (cond t [] (numeral-by most base (width - 1) (n / base)) ++ (glyph (n % base) ∷ [])) ≤ suc d
+      by true e d l k f = omega arith
+      by false e zero l k f = absurd (true≢false (sym (single n l k) ∙ e))
+      by false e (suc d) l k f =
+          omega (arith, f d (width - 1) (n / base) (fewer (suc d) n l) (omega arith), length-append (numeral-by most base (width - 1) (n / base)) (glyph (n % base) ∷ []))
+
+  -- Theorem: a number below base ^ d has at most d digits, or the width.
+  pub few-digits : (d : ℕ) {width n : ℕ} → n < base ^ suc d → width ≤ suc d → length (numeral base width n) ≤ suc d
+  few-digits d {width} {n} = digits-by (suc (n + width)) d width n
 
   module _ (width n : ℕ) {s t : Buffer} {d : ℕ} (digit : d ≡ glyph (n % base)) where
     pub writes-one : is-last base width n ≡ true → Wrote s (d ∷ []) t → Wrote s (numeral base width n) t

@@ -42,16 +42,21 @@ moved (b ∷ text) s =
       fits = λ k. let e2 = rest .fits k in let e1 = one .fits (omega arith) in omega arith;
     }
 
--- the bytes in front of the place are the text
+-- where there is room, the bytes in front of the place are the text
+pub stands : {text out out′ : List ℕ} {r : ℕ} → Wrote (buffer out 0) text (buffer out′ r) → length text ≤ length out → take r out′ ≡ text
+stands {text} {out} {out′} {r} p h =
+    let w = whole p (omega arith) in
+    ap (λ (t : Buffer). take (t .at) (t .bytes)) w
+    ∙ ap (λ (n : ℕ). take n (text ++ drop (0 + length text) out)) {x = 0 + length text} {y = length text} (omega arith)
+    ∙ take-append-seam text (drop (0 + length text) out)
+
+-- and there was, where the place is short of the buffer's end
 pub printed : {text out out′ : List ℕ} {r : ℕ} → Wrote (buffer out 0) text (buffer out′ r) → r < length out′ → take r out′ ≡ text
 printed {text} {out} {out′} {r} p h =
     let m : Moved (buffer out 0) (length text) (buffer out′ r) = subst (Moved (buffer out 0) (length text)) (sym (p .is)) (moved text (buffer out 0)) in
     let e : r ≡ 0 + length text = m .fits h in
     let l : length out′ ≡ length out = m .long in
-    let w = whole p (omega arith) in
-    ap (λ (t : Buffer). take (t .at) (t .bytes)) w
-    ∙ ap (λ (n : ℕ). take n (text ++ drop (0 + length text) out)) {x = 0 + length text} {y = length text} (omega arith)
-    ∙ take-append-seam text (drop (0 + length text) out)
+    stands p (omega arith)
 
 -- what is shown of a formula is the text of its verdict, whole
 pub shown-whole : (text : Verdict → List ℕ → List ℕ) {bytes out out′ : List ℕ} {N M room places r : ℕ}

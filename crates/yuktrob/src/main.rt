@@ -1,8 +1,6 @@
 // Decides the formula that stands on standard input, and prints the verdict with a shortest witness.
 ghost use Rattle.io.specs.Counts.{Counts};
-ghost use Rattle.vectors.specs.Text.{buffer};
-ghost use Rattle.verdicts.specs.Shown.{Shown};
-ghost use Rattle.verdicts.specs.Texts.{program-text};
+ghost use Rattle.yuktrob.specs.Printed.{Printed};
 
 // The first 97 bytes settle the outcome.
 fn main() {
@@ -13,10 +11,10 @@ fn main() {
     io::write_all(1, &out[..end]);
 }
 
-// What the program prints for a formula, with room for 256 nodes and 300 profiles.
+// What the program prints for a formula, with room for 256 nodes and 300 profiles: where `out` has 4,096 bytes, the whole text.
 fn decided(out: &mut [u8], bytes: &[u8]) -> usize
     ensures { λ r. ⌜ Counts r (now (out .exit)) ⌝ }
-    ensures { λ r. ⌜ Shown program-text (now (bytes .entry)) 256 300 59648 556 (buffer (now (out .entry)) 0) (buffer (now (out .exit)) r) ⌝ }
+    ensures { λ r. ⌜ Printed (now (bytes .entry)) (now (out .entry)) (now (out .exit)) r ⌝ }
 {
     let mut workspace = [0u8; 59648];
     let mut letters = [0u16; 556];

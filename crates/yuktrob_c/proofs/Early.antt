@@ -1,10 +1,8 @@
--- A refusal of reading has an early place. The first 97 bytes settle the outcome (Prefix), and a refusal's place is at most the length
--- (Fuel), so it is at most 97, however long the input is. Assumes nothing.
+-- A refusal that the reader hands out has an early place, as every refusal of reading has, and so fits into its number. Assumes nothing.
 use mathlib.Core.Path.{_≡_, sym, ap, _∙_}
 use mathlib.Core.List.{List}
 use Prim.Native.Nat.{ℕ, _≤_, _<_}
 use native.Mathlib.Omega.{arith}
-use lib.ListN.{take, length-take}
 use Rattle.formula.specs.Formula.{Formula}
 use Rattle.formula.specs.Reading.{Reading, parse, reading, with-entries}
 use Rattle.formula.specs.Rows.{reading-by, reading-of}
@@ -12,13 +10,7 @@ use Rattle.formula.specs.declared.Refusal.{Refusal}
 use Rattle.formula.specs.declared.Outcome.{Outcome}
 use Rattle.formula.specs.declared.Outcome.the-variants.{Refused}
 use Rattle.formula.specs.declared.Reading as code
-use Rattle.formula.proofs.Fuel.{parse-stopped}
-use Rattle.formula.proofs.Prefix.{parse-prefix}
-
-pub parse-early : (bytes : List ℕ) (code place : ℕ) → parse bytes ≡ Reading.refused code place → place ≤ 97
-parse-early bytes code place e =
-    let s = parse-stopped (take 97 bytes) code place (parse-prefix bytes ∙ e) in
-    omega (arith, s .inside, length-take 97 bytes)
+use Rattle.formula.proofs.Early.{parse-early}
 
 entries-refused : (x : Reading Formula) (code place : ℕ) → with-entries x ≡ Reading.refused code place → x ≡ Reading.refused code place
 entries-refused (Reading.refused n p) code place e = cc

@@ -7,13 +7,13 @@ use Prim.Native.Nat.{ℕ}
 use lib.Dec.{ltb, leb}
 use lib.ListN.{length}
 use Rattle.formula.specs.Formula.{Formula}
+use Rattle.formula.proofs.Early.{parse-early}
 use Rattle.formula.specs.Reading.{Reading, parse}
 use Rattle.lasso.specs.Lasso.{Lasso, labelling, meets}
 use Rattle.lasso.specs.Truth.{Truth, after-reading, truth}
 use Rattle.lasso.specs.Answer.{answer}
 use Rattle.lasso.specs.declared.Truth as code
 use Rattle.yuktrob_c.specs.Numbers.{TruthFits}
-use Rattle.yuktrob_c.proofs.Early.{parse-early}
 
 -- a refusal that the questions after reading give is no refusal of reading
 fits-by : (b : Bool) (code : ℕ) (t : Truth) → TruthFits (answer t) → TruthFits (answer (cond b t (Truth.refused code)))

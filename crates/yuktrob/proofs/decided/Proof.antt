@@ -1,4 +1,4 @@
--- yuktrob::decided meets its contract: the decision's promise, and the text of what it answered. Assumes nothing.
+-- yuktrob::decided meets its contract: the decision's promise, and the text of what it answered, whole where there is room. Assumes nothing.
 use borrow.Author.Needs.{needs}
 use Rattle.vectors.proofs.Writing.{place-within}
 use Rattle.verdicts.specs.Texts.{program-text}
@@ -6,6 +6,7 @@ use Rattle.verdicts.proofs.Showing.{shows}
 use Prim.Native.Nat.{ℕ, zero-le}
 use Rattle.io.proofs.Counting.{counts}
 use lib.ListN.{length-replicate}
+use Rattle.yuktrob.proofs.Room.{prints}
 use Rattle.yuktrob.proofs.decided.Statement.{statement}
 use Rattle.yuktrob.proofs.decided.Tie as tie
 
@@ -28,10 +29,10 @@ same-length : tie.Need-same-length
 same-length c = search needs
 
 returns : tie.Need-returns
-returns c = (
-  counts _ _ (place-within (c .before .before .program-text .ensures) zero-le),
-  shows program-text (c .before .before .before .before .before .before .before .decide .ensures) (length-replicate {A = ℕ} 59648 0) (length-replicate {A = ℕ} 556 0) (c .before .before .program-text .ensures),
-)
+returns c =
+    let wrote = c .before .before .program-text .ensures in
+    let d = shows program-text (c .before .before .before .before .before .before .before .decide .ensures) (length-replicate {A = ℕ} 59648 0) (length-replicate {A = ℕ} 556 0) wrote in
+    (counts _ _ (place-within wrote zero-le), record { shown = d; whole = prints d })
 
 pub decided-spec : {M : Type 1} → statement M
 decided-spec =

@@ -1,0 +1,116 @@
+-- How large the numbers of a verdict are. K is at most N and P at most M where a verdict is given, a witness has fewer than K positions
+-- before its cycle and at most P in it, and its letters have sixteen bits; a refusal's number is at most 15, and the place of a refusal of
+-- reading at most 97. Assumes nothing.
+use mathlib.Core.Path.{_≡_, refl, sym, subst⁻¹, _∙_}
+use mathlib.Core.Logic.{inl, inr}
+use mathlib.Core.List.{List, [], _∷_, _++_, map, map-append, List·Memᴰ, List·Memᴰ·not-nil, List·Memᴰ·eq-of-singleton, List·Memᴰ·append-cases}
+use Prim.Native.Nat.{ℕ, _≤_, _<_}
+use native.Mathlib.Omega.{arith}
+use lib.ListN.{length, length-map}
+use Rattle.formula.specs.Formula.{Formula}
+use Rattle.formula.specs.Table.{Table}
+use Rattle.formula.specs.Reading.{Reading, parse}
+use Rattle.formula.proofs.Fuel.{parse-stopped}
+use Rattle.formula.proofs.Early.{parse-early}
+use Rattle.tableau.specs.Saturation.{Subset}
+use Rattle.tableau.specs.Transition.{Transition}
+use Rattle.tableau.specs.Run.{Along}
+use Rattle.profile.specs.Profiles.{Profile}
+use Rattle.profile.specs.Cycle.{Run}
+use Rattle.decision.specs.Verdict.{Verdict, verdict}
+use Rattle.decision.specs.Promise.{says, node-count, profile-count, Witness, Decided}
+use Rattle.decision.specs.declared.Verdict as code
+use Rattle.decision.specs.declared.Verdict.the-variants.{Satisfiable, Unsatisfiable, Refused, Unread}
+use Rattle.decision.proofs.VerdictLaws.{Asked, Concluded, Capacity, Answered, verdict-answered}
+use Rattle.decision.proofs.StemLaws.{letter-small}
+
+pub record Sized (N M stem cycle K P : ℕ) : Type 0 where
+  pub capacity : Capacity N M
+  pub stem-few : stem < N
+  pub cycle-few : cycle ≤ M
+  pub nodes-few : K ≤ N
+  pub profiles-few : P ≤ M
+
+abbrev pub Bounded : (N M : ℕ) → code.Verdict → Type 0
+Bounded N M (Satisfiable stem cycle K P) = Sized N M stem cycle K P
+Bounded N M (Unsatisfiable K P) = Sized N M 0 0 K P
+Bounded N M (Refused code) = code ≤ 15
+Bounded N M (Unread why) = (why .code ≤ 9) × (why .at ≤ 97)
+
+module _ {N M : ℕ} where
+  asked-bounded : {Question : Type 0} {code : ℕ} {After : Verdict → Type 0} → code ≤ 15 → (Question → (o : Verdict) → After o → Bounded N M (says o))
+      → (o : Verdict) → Asked Question code After o → Bounded N M (says o)
+  asked-bounded h s o (Asked.passed q a) = s q o a
+  asked-bounded h s o (Asked.failed n) = h
+
+  concluded-bounded : (t : Table) → Capacity N M → node-count t ≤ N → profile-count t ≤ M → (o : Verdict) → Concluded t o → Bounded N M (says o)
+  concluded-bounded t c n p o (Concluded.met w) =
+      record { capacity = c; stem-few = omega (arith, w .stem-short); cycle-few = omega (arith, w .cycle-short); nodes-few = n; profiles-few = p }
+  concluded-bounded t c n p o (Concluded.unmet u) =
+      record { capacity = c; stem-few = omega (arith, c .some-nodes); cycle-few = omega arith; nodes-few = n; profiles-few = p }
+
+  answered-bounded : {workspace buffer : ℕ} (bytes : List ℕ) {r : Reading Formula} → parse bytes ≡ r → (o : Verdict) → Answered N M workspace buffer r o
+      → Bounded N M (says o)
+  answered-bounded bytes e o (Answered.unread {code} {place}) = (parse-stopped bytes code place e .known, parse-early bytes code place e)
+  answered-bounded bytes e o (Answered.read d) =
+      asked-bounded (omega arith)
+      (λ c. asked-bounded (omega arith)
+      (λ _. asked-bounded (omega arith)
+      (λ _. asked-bounded (omega arith) (λ n. asked-bounded (omega arith) (λ p. concluded-bounded _ c n p))))) o d
+
+-- Theorem: what the decision answers is bounded.
+pub decided-bounded : {bytes : List ℕ} {N M : ℕ} {w w′ b b′ : List ℕ} {v : code.Verdict} → Decided bytes N M w w′ b b′ v → Bounded N M v
+decided-bounded {bytes} {N} {M} {w} {b} d =
+    subst⁻¹ (Bounded N M) (d .answered) (answered-bounded bytes refl (verdict N M (length w) (length b) bytes) (verdict-answered N M (length w) (length b) bytes))
+
+-- letters of sixteen bits
+abbrev pub Small : List ℕ → Type 0
+Small xs = (x : ℕ) → List·Memᴰ x xs → x < 65536
+
+one-small : {x : ℕ} → x < 65536 → Small (x ∷ [])
+one-small h y i = subst⁻¹ (λ (z : ℕ). z < 65536) (List·Memᴰ·eq-of-singleton i) h
+
+more-small : (xs : List ℕ) (x : ℕ) → Small xs → x < 65536 → Small (xs ++ (x ∷ []))
+more-small xs x k h y i =
+    elim (List·Memᴰ·append-cases xs i) [
+      | inl a ↦ k y a
+      | inr b ↦ one-small h y b
+    ]
+
+abbrev letter : Transition → ℕ
+letter s = s .letter
+
+-- one transition more
+step-small : (ss : List Transition) (s : Transition) → Small (map letter ss) → s .letter < 65536 → Small (map letter (ss ++ (s ∷ [])))
+step-small ss s k h = subst⁻¹ Small (map-append letter ss (s ∷ [])) (more-small (map letter ss) (s .letter) k h)
+
+module _ (t : Table) where
+  along-small : {v u : Subset} {ss : List Transition} → Along t v ss u → Small (map letter ss)
+  along-small Along.stay = λ x i. absurd (List·Memᴰ·not-nil i)
+  along-small (Along.on {u} {ss} {s} a m) = step-small ss s (along-small a) (letter-small t u m)
+
+  run-small : {p : Profile} {ss : List Transition} → Run t p ss → Small (map letter ss)
+  run-small (Run.one {v} m) = one-small (letter-small t v m)
+  run-small (Run.more {p} {ss} {s} r m) = step-small ss s (run-small r) (letter-small t (p .last) m)
+
+-- the letters of a witness: those before the cycle, and its own
+pub record Parted (stem cycle : ℕ) (letters : List ℕ) : Type 0 where
+  pub before : List ℕ
+  pub around : List ℕ
+  pub parts : letters ≡ before ++ around
+  pub stem-is : stem ≡ length before
+  pub cycle-is : cycle ≡ length around
+  pub before-small : Small before
+  pub around-small : Small around
+
+pub witness-parted : {t : Table} {stem cycle : ℕ} {letters : List ℕ} → Witness t stem cycle letters → Parted stem cycle letters
+witness-parted {t} w =
+    record {
+      before = map letter (w .there);
+      around = map letter (w .around);
+      parts = w .letters-are ∙ map-append letter (w .there) (w .around);
+      stem-is = w .stem-is ∙ sym (length-map (w .there) letter);
+      cycle-is = w .cycle-is ∙ sym (length-map (w .around) letter);
+      before-small = along-small t (w .leads);
+      around-small = run-small t (w .accepted .run);
+    }
