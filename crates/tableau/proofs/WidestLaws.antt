@@ -4,21 +4,20 @@
 use mathlib.Core.Path.{_≡_, refl, sym, ap, subst, subst⁻¹, _∙_}
 use mathlib.Core.Bool.{Bool, true, false, cond, _&&_}
 use mathlib.Core.List.{List, [], _∷_, map, List·Memᴰ}
-use Prim.Native.Nat.{ℕ, zero, suc, _+_, _-_, _^_, _<_}
+use Prim.Native.Nat.{ℕ, _-_, _^_}
 use native.Mathlib.Omega.{arith}
 use native.Mathlib.Nat.{zero-add, pow-succ'}
 use lib.Dec.{T}
 use lib.Bits.{bitAnd}
 use lib.Pow.{pow-pos}
-use lib.ListN.{length, length-map}
-use borrow.Author.Tests.{ne-eqb}
+use lib.ListN.{length}
 use Rattle.base.specs.Bits.{bit, word}
 use Rattle.base.proofs.BoolLaws.{of-T, to-T}
 use Rattle.base.proofs.TestLaws.{not-of-T}
 use Rattle.base.proofs.BitLaws.{bit-and}
 use Rattle.base.proofs.WordLaws.{word-bit, word-inj, word-none, same-bits}
 use Rattle.base.proofs.Inside.{Inside, constant-at, inside-length, inside-refl, inside-trans}
-use Rattle.formula.specs.Table.{Operator, Table, operator}
+use Rattle.formula.specs.Table.{Table, operator}
 use Rattle.tableau.specs.Saturation.{Subset, has, nothing, moves, sweep, saturate}
 use Rattle.tableau.specs.Transition.{operators-in, possible, letter-of, within}
 use Rattle.tableau.specs.Promise.{table-of, Swept, step, Stepped, Widest}

@@ -1,7 +1,7 @@
 -- How long the text of a verdict is. A number below 1,000 has three digits and a letter four, so a witness takes seven bytes a position;
 -- with room for 256 nodes and 300 profiles every text is shorter than 4,096 bytes. Assumes nothing.
 use mathlib.Core.Path.{_≡_, refl, ap, subst, subst⁻¹, _∙_}
-use mathlib.Core.List.{List, [], _∷_, _++_, append-assoc, List·Memᴰ, List·Memᴰ·head, List·Memᴰ·tail}
+use mathlib.Core.List.{List, [], _∷_, _++_, append-assoc, List·Memᴰ·head, List·Memᴰ·tail}
 use Prim.Native.Nat.{ℕ, _+_, _*_, _≤_, _<_}
 use native.Mathlib.Omega.{arith}
 use lib.ListN.{length, length-append, take, drop}

@@ -3,7 +3,7 @@ use Rattle.tableau.proofs.WidestLaws.{Widening, widen-start, widen-turn
 use borrow.Author.Needs.{needs}
 use native.Mathlib.Omega.{arith}
 use Prim.Native.Nat.{_-_, _^_}
-use mathlib.Core.Path.{_≡_, refl, ap, _∙_}
+use mathlib.Core.Path.{_≡_, refl}
 use lib.Pow.{pow-pos}
 use Rattle.tableau.proofs.widest.Statement.{statement}
 use Rattle.tableau.proofs.widest.Tie as tie
