@@ -29,7 +29,7 @@ use Rattle.traces.specs.declared.Ranks.{Ranks}
 use Rattle.runs.specs.Stored.{stored, Lent, Grown}
 use Rattle.runs.specs.Singles.{Given, nodes-in}
 use Rattle.runs.specs.declared.Shelf.{Shelf}
-use Rattle.runs.proofs.SpreadLaws.{spread-length}
+use Rattle.coded.proofs.SpreadLaws.{spread-length}
 use Rattle.runs.proofs.RecordLaws.{changed-then}
 use Rattle.runs.proofs.GrowLaws.{grown-longer}
 use Rattle.runs.proofs.SingleLaws.{nodes-in-are, node-sets}

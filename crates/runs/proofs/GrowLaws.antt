@@ -18,7 +18,7 @@ use Rattle.coded.specs.Runs.{Profile, Found, same-profile}
 use Rattle.runs.specs.declared.Shelf.{Shelf}
 use Rattle.runs.specs.Stored.{place, record-of, stored, Changed, Grown, Added}
 use Rattle.runs.proofs.RecordLaws.{changed-none, changed-then, changed-wide, record-kept}
-use Rattle.runs.proofs.SpreadLaws.{adds-append, adds-length}
+use Rattle.coded.proofs.SpreadLaws.{adds-append, adds-length}
 
 module _ (s : Shelf) (b : List ℕ) where
   pub stored-length : (k : ℕ) → length (stored s b k) ≡ k

@@ -1,4 +1,3 @@
-pub mod SpreadLaws
 pub mod RecordLaws
 pub mod GrowLaws
 pub mod TurnLaws

@@ -25,7 +25,7 @@ use Rattle.runs.specs.declared.Shelf.{Shelf}
 use Rattle.runs.specs.Stored.{two, found-at, place, record-of, stored, Grown}
 use Rattle.runs.proofs.RecordLaws.{changed-then}
 use Rattle.runs.proofs.GrowLaws.{stored-at}
-use Rattle.runs.proofs.SpreadLaws.{adds-length}
+use Rattle.coded.proofs.SpreadLaws.{adds-length}
 
 module _ {L K : Type 0} where
   -- each item's parent is at most its number

@@ -21,7 +21,7 @@ use Rattle.runs.specs.declared.Shelf.{Shelf}
 use Rattle.runs.specs.Stored.{two, found-of, found-at, place, record-of, stored, Grown, Added}
 use Rattle.runs.proofs.RecordLaws.{record-kept}
 use Rattle.runs.proofs.GrowLaws.{stored-length, stored-at, stored-kept, grown-still, grown-longer, grown-then, with-first, turn-more, turn-stop}
-use Rattle.runs.proofs.SpreadLaws.{spread-length, spread-done, spread-step}
+use Rattle.coded.proofs.SpreadLaws.{spread-length, spread-done, spread-step}
 
 pub grown-same : {s : Shelf} {count r : ℕ} {a b : List ℕ} {xs ys : List Found} → xs ≡ ys → Grown s count a r b xs → Grown s count a r b ys
 grown-same {s} {count} {r} {a} {b} e g = subst (Grown s count a r b) e g
