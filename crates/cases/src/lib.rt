@@ -128,69 +128,33 @@ fn at_line(case: Case, line: Line) -> Case
 fn with_formula(case: Case, formula: Bytes) -> Case
     ensures { λ r. ⌜ r ≡ with-formula case formula ⌝ }
 {
-    let line = case.line;
-    let first = case.first;
-    let second = case.second;
-    let letters = case.letters;
-    Case {
-        line: line,
-        formula: formula,
-        first: first,
-        second: second,
-        letters: letters,
-        ended: case.ended,
-    }
+    let mut changed = case;
+    changed.formula = formula;
+    changed
 }
 
 fn with_first(case: Case, first: Number) -> Case
     ensures { λ r. ⌜ r ≡ with-first case first ⌝ }
 {
-    let line = case.line;
-    let formula = case.formula;
-    let second = case.second;
-    let letters = case.letters;
-    Case {
-        line: line,
-        formula: formula,
-        first: first,
-        second: second,
-        letters: letters,
-        ended: case.ended,
-    }
+    let mut changed = case;
+    changed.first = first;
+    changed
 }
 
 fn with_second(case: Case, second: Number) -> Case
     ensures { λ r. ⌜ r ≡ with-second case second ⌝ }
 {
-    let line = case.line;
-    let formula = case.formula;
-    let first = case.first;
-    let letters = case.letters;
-    Case {
-        line: line,
-        formula: formula,
-        first: first,
-        second: second,
-        letters: letters,
-        ended: case.ended,
-    }
+    let mut changed = case;
+    changed.second = second;
+    changed
 }
 
 fn with_letters(case: Case, letters: Letters) -> Case
     ensures { λ r. ⌜ r ≡ with-letters case letters ⌝ }
 {
-    let line = case.line;
-    let formula = case.formula;
-    let first = case.first;
-    let second = case.second;
-    Case {
-        line: line,
-        formula: formula,
-        first: first,
-        second: second,
-        letters: letters,
-        ended: case.ended,
-    }
+    let mut changed = case;
+    changed.letters = letters;
+    changed
 }
 
 // Whether a number was given, and right.

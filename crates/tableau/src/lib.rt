@@ -120,7 +120,8 @@ pub fn saturated(rows: &[u8; 144], count: usize, choice: u64, node: u64) -> u64
     set
 }
 
-// A set that holds every saturation of the node: it follows the moves of both picks at once. Where it has no rest in time, all subformulas.
+// A set that holds every saturation of the node: it follows the moves of both picks at once. Where it does not come to rest within count
+// rounds, all subformulas.
 pub fn widest(rows: &[u8; 144], count: usize, node: u64) -> u64
     requires { ⌜ Formed (now rows) count ⌝ }
     ensures { λ r. ⌜ Widest (now (rows .entry)) count node r ⌝ }
