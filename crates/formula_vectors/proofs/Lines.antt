@@ -103,7 +103,7 @@ record Stays (formula : Bytes) (c : Case) : Type 0 where
   same : c .formula ≡ formula
 
 one-more-field : (n : ℕ) → 0 < n → 0 < one-more n
-one-more-field n h = by (ltb n 65535)
+one-more-field n h = by (ltb n 4294967295)
   where
     by : (t : Bool) → 0 < cond t (n + 1) n
     by true = omega arith

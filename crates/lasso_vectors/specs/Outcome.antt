@@ -2,7 +2,8 @@
 use mathlib.Core.Bool.{Bool, false, cond}
 use mathlib.Core.List.{List, [], _∷_, _++_}
 use Prim.Native.Nat.{ℕ}
-use lib.ListN.{take, drop}
+use lib.Dec.{ltb}
+use lib.ListN.{length, take, drop}
 use Rattle.vectors.specs.Number as number
 use Rattle.cases.specs.Case.{is-number, no-number, is-given}
 use Rattle.cases.specs.declared.Case.{Case}
@@ -34,9 +35,15 @@ truth-text (Truth.unread k place) = unread-text (record { code = k; at = place }
 abbrev pub truth-line : Truth → List ℕ
 truth-line t = truth-text t ++ (10 ∷ [])
 
+-- The stem that is asked about where only the first `kept` of n letters are there: any that leaves letters over, if it does so in all n of
+-- them (proofs/Lines.antt, `first-letters`).
+abbrev pub stem-in : (kept n stem : ℕ) → ℕ
+stem-in kept n stem = cond (ltb stem kept) stem (cond (ltb stem n) 0 stem)
+
 -- The line of a case whose letters are in the buffer, with so many words lent; or `MALFORMED`.
 abbrev pub outcome-line : Case → (letters : List ℕ) → (room : ℕ) → List ℕ
 unfolding truth
 outcome-line c letters room =
-    let line = truth-line (truth (take (c .formula .count) (c .formula .kept)) (lasso (take (c .letters .count) (drop 0 letters)) (c .first .value)) room) in
+    let stem = stem-in (length letters) (c .letters .count) (c .first .value) in
+    let line = truth-line (truth (take (c .formula .count) (c .formula .kept)) (lasso (take (c .letters .count) (drop 0 letters)) stem) room) in
     cond (is-whole c) line (77 ∷ 65 ∷ 76 ∷ 70 ∷ 79 ∷ 82 ∷ 77 ∷ 69 ∷ 68 ∷ 10 ∷ [])

@@ -9,7 +9,7 @@ ghost use mathlib.Core.List.{foldl};
 ghost use Rattle.cases.specs.Case.{gathered, begun as Case·begun, passed};
 
 // Nothing says that the input ends, so the loop counts its turns down, from a number that no run uses up. Letters behind the first
-// 65,536 of a line are passed over.
+// 65,536 of a line are counted and passed over: so long a course is refused whatever they are.
 fn main() {
     let mut letters = [0u16; 65536];
     let mut case = cases::new_case();

@@ -7,7 +7,7 @@ ghost use Rattle.lasso.specs.Truth.{truth};
 ghost use Rattle.lasso.specs.Answer.{lasso};
 ghost use Rattle.vectors.specs.Text.{buffer, Wrote};
 ghost use Rattle.io.specs.Counts.{Counts};
-ghost use Rattle.lasso_vectors.specs.Outcome.{is-whole, answer-text, truth-line, outcome-line};
+ghost use Rattle.lasso_vectors.specs.Outcome.{is-whole, answer-text, truth-line, stem-in, outcome-line};
 
 // The line of a case: the words, a refusal, or `MALFORMED` for what is no case.
 pub(crate) fn outcome(out: &mut [u8], words: &mut [u64], case: Case, letters: &[u16]) -> usize
@@ -24,10 +24,23 @@ pub(crate) fn outcome(out: &mut [u8], words: &mut [u64], case: Case, letters: &[
             words,
             vectors::first(&kept, formula.count),
             report::part(letters, 0, row.count),
-            stem.value as usize,
+            stem_in(letters.len(), row.count, stem.value as usize),
         );
     }
     vectors::put_all(out, 0, b"MALFORMED\n")
+}
+
+// Only the first `kept` letters of n are there: a stem that leaves letters over may not leave any of these.
+fn stem_in(kept: usize, n: usize, stem: usize) -> usize
+    ensures { λ r. ⌜ r ≡ stem-in kept n stem ⌝ }
+{
+    if stem < kept {
+        return stem;
+    }
+    if stem < n {
+        return 0;
+    }
+    stem
 }
 
 fn is_whole(case: Case) -> bool

@@ -4,6 +4,7 @@ use mathlib.Core.List.{List}
 use Prim.Native.Nat.{ℕ, _+_, _%_}
 use lib.Dec.{eqb, ltb}
 use lib.ListN.{length, set}
+use Rattle.vectors.specs.Count.{one-more}
 use Rattle.vectors.specs.Number.{no-digits, pushed}
 use Rattle.vectors.specs.declared.number.Number.{Number}
 use Rattle.vectors.specs.declared.letter.Letters.{Letters}
@@ -30,12 +31,12 @@ next-letter count bad = record { count = count; bad = bad; letter = no-digits }
 abbrev pub is-letter : Number → Bool
 is-letter n = cond (n .bad) false (eqb (n .digits) 4)
 
--- One letter more, if there is room for it.
+-- One letter more, written if there is room for it.
 abbrev pub with-letter : Row → ℕ → Row
 with-letter r letter =
     cond (ltb (r .state .count) (length (r .letters)))
     (row (set (r .letters) (r .state .count) letter) (next-letter (r .state .count + 1) (r .state .bad)))
-    (row (r .letters) (next-letter (r .state .count) (r .state .bad)))
+    (row (r .letters) (next-letter (one-more (r .state .count)) (r .state .bad)))
 
 -- The end of a word: if it had digits, they are a letter.
 abbrev pub letter-ended : Row → Row

@@ -6,5 +6,5 @@ ghost use Rattle.vectors.specs.Count.{one-more};
 pub(crate) fn one_more(n: usize) -> usize
     ensures { λ r. ⌜ r ≡ one-more n ⌝ }
 {
-    if n < 65535 { n + 1 } else { n }
+    if n < 0xffff_ffff { n + 1 } else { n }
 }

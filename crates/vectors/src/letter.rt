@@ -1,4 +1,5 @@
 // A list of letters (document 01: the values of places), each of four hex digits, into a buffer.
+use crate::count::one_more;
 use crate::number::Number;
 use crate::number::new_number;
 use crate::number::push_hex;
@@ -6,7 +7,8 @@ ghost use mathlib.Core.Path.{_≡_};
 ghost use Rattle.vectors.specs.Letter.{no-letters, pushed-letter, is-letter, row};
 ghost use Rattle.vectors.specs.Letter.{with-letter as Letter·with-letter, letter-ended};
 
-// How many letters were read, as far as the buffer has room, whether one was no letter, and the digits of the next one.
+// How many letters were read (the buffer has the first of them, as many as it has room for), whether one was no letter, and the digits of
+// the next one.
 pub struct Letters {
     pub count: usize,
     pub bad: bool,
@@ -75,7 +77,7 @@ fn with_letter(out: &mut [u16], s: Letters, letter: u16) -> Letters
         };
     }
     Letters {
-        count: count,
+        count: one_more(count),
         bad: s.bad,
         letter: new_number(),
     }

@@ -21,6 +21,9 @@ first-requires c κs = search needs
 part-requires : tie.Need-part-requires
 part-requires c κs = search needs
 
+stem-in-requires : tie.Need-stem-in-requires
+stem-in-requires c κs = search needs
+
 truth-text-requires : tie.Need-truth-text-requires
 truth-text-requires c κs = search needs
 
@@ -31,10 +34,18 @@ same-length-2 : tie.Need-same-length-2
 same-length-2 c = search needs
 
 returns : tie.Need-returns
-returns c = (
-  counts _ _ (place-within (c .before .before .before .before .truth-text .ensures) zero-le),
-  whole-line (c .before .before .before .before .before .before .before .before .before .before .before .before .before .before .before .before .before .before .before .args .case) (c .before .before .before .before .before .before .before .before .before .before .before .before .before .before .before .before .before .before .before .args .letters .now) (length (c .before .before .before .before .before .before .before .before .before .before .before .before .before .before .before .before .before .before .before .args .words .now)) (sym (c .before .before .before .before .before .before .before .before .before .before .before .before .before .before .before .is-whole .ensures) ∙ c .before .before .before .before .before .before .before .before .before .before .before .before .before .before .if1 .taken) (c .before .before .before .before .before .before .first .ensures) (c .before .before .before .before .before .part .ensures) (c .before .before .before .before .truth-text .ensures),
-)
+returns c =
+    let wrote = c .before .before .before .before in
+    let told = c .before .before .before .before .before .before .before .before .before .before .before .before .before .before .before in
+    let start = c .before .before .before .before .before .before .before .before .before .before .before .before .before .before .before .before .before .before .before .before in (
+      counts _ _ (place-within (wrote .truth-text .ensures) zero-le),
+      whole-line (start .args .case) (start .args .letters .now) (length (start .args .words .now))
+          (sym (told .before .is-whole .ensures) ∙ told .if1 .taken)
+          (wrote .before .before .before .first .ensures)
+          (wrote .before .before .part .ensures)
+          (wrote .before .stem-in .ensures)
+          (wrote .truth-text .ensures),
+    )
 
 slice-aggregate-put-all : tie.Need-slice-aggregate-put-all
 slice-aggregate-put-all c = search needs
@@ -46,10 +57,14 @@ same-length-3 : tie.Need-same-length-3
 same-length-3 c = search needs
 
 returns-2 : tie.Need-returns-2
-returns-2 c = (
-  counts _ _ (place-within (c .before .before .put-all .ensures) zero-le),
-  malformed-line (c .before .before .before .before .before .before .before .before .before .before .args .case) (c .before .before .before .before .before .before .before .before .before .before .args .letters .now) (length (c .before .before .before .before .before .before .before .before .before .before .args .words .now)) (sym (c .before .before .before .before .before .before .is-whole .ensures) ∙ c .before .before .before .before .before .if1 .left) (c .before .before .put-all .ensures),
-)
+returns-2 c =
+    let told = c .before .before .before .before .before in
+    let start = c .before .before .before .before .before .before .before .before .before .before in (
+      counts _ _ (place-within (c .before .before .put-all .ensures) zero-le),
+      malformed-line (start .args .case) (start .args .letters .now) (length (start .args .words .now))
+          (sym (told .before .is-whole .ensures) ∙ told .if1 .left)
+          (c .before .before .put-all .ensures),
+    )
 
 pub outcome-spec : {M : Type 1} → statement M
 outcome-spec =
@@ -59,6 +74,7 @@ outcome-spec =
     slice-aggregate-first
     first-requires
     part-requires
+    stem-in-requires
     truth-text-requires
     same-length
     same-length-2

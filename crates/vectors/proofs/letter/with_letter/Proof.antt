@@ -22,11 +22,14 @@ same-length c = search needs
 returns : tie.Need-returns
 returns c = simp (lt-ltb _ _ (c .before .if1 .taken), c .new-number .ensures)
 
+one-more-requires : tie.Need-one-more-requires
+one-more-requires c κs = search needs
+
 new-number-requires-2 : tie.Need-new-number-requires-2
 new-number-requires-2 c κs = search needs
 
 returns-2 : tie.Need-returns-2
-returns-2 c = simp (le-ltb _ _ (c .before .if1 .left), c .new-number2 .ensures)
+returns-2 c = simp (le-ltb _ _ (c .before .before .if1 .left), c .before .one-more .ensures, c .new-number2 .ensures)
 
 pub with-letter-spec : {M : Type 1} → statement M
 with-letter-spec =
@@ -38,5 +41,6 @@ with-letter-spec =
     new-number-requires
     same-length
     returns
+    one-more-requires
     new-number-requires-2
     returns-2)

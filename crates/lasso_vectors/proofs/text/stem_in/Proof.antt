@@ -1,0 +1,16 @@
+-- lasso_vectors::text::stem_in meets its contract: each return by its tests. Assumes nothing.
+use borrow.Author.Tests.{lt-ltb, le-ltb}
+use Rattle.lasso_vectors.proofs.text.stem_in.Statement.{statement}
+use Rattle.lasso_vectors.proofs.text.stem_in.Tie as tie
+
+returns : tie.Need-returns
+returns c = simp (lt-ltb _ _ (c .if1 .taken))
+
+returns-2 : tie.Need-returns-2
+returns-2 c = simp (le-ltb _ _ (c .before .if1 .left), lt-ltb _ _ (c .if2 .taken))
+
+returns-3 : tie.Need-returns-3
+returns-3 c = simp (le-ltb _ _ (c .before .if1 .left), le-ltb _ _ (c .if2 .left))
+
+pub stem-in-spec : {M : Type 1} → statement M
+stem-in-spec = tie.close (tie.spec returns returns-2 returns-3)
