@@ -2,12 +2,10 @@
 -- two sets of priorities are those of each that the other has one at least as large as. Assumes nothing.
 use mathlib.Core.Path.{_≡_, refl, sym, ap, subst, subst⁻¹, _∙_}
 use mathlib.Core.Logic.{inl, inr}
-use mathlib.Core.Bool.{Bool, true, false, _&&_, _||_, or-false}
-use mathlib.Core.List.{List}
-use Prim.Native.Nat.{ℕ, _+_, _-_, _*_, _/_, _^_, _≤_, _<_, min}
+use mathlib.Core.Bool.{Bool, true, false, _&&_, _||_}
+use Prim.Native.Nat.{ℕ, _+_, _-_, _/_, _^_, _≤_, _<_, min}
 use native.Mathlib.Omega.{arith}
 use native.Mathlib.Decide.{decLt}
-use native.Mathlib.Numerals.{add-one}
 use lib.Dec.{T, leb, leb→le, le→leb}
 use lib.Bits.{bitAnd, bitOr, and-le-l}
 use Rattle.base.specs.Bits.{bit}
@@ -18,7 +16,7 @@ use Rattle.base.proofs.WordLaws.{no-bit}
 use Rattle.base.proofs.ShiftLaws.{bit-shift, bit-high, same-low-bits}
 use Rattle.coded.specs.Triples.{some, smaller}
 use Rattle.coded.proofs.TriplesLaws.{some-of, some-in, smaller-in, smaller-of}
-use Rattle.triples.specs.Promise.{bytes, Bits, above, by-way}
+use Rattle.triples.specs.Promise.{Bits, above}
 
 -- v has k exactly if u has k or a number less than s above it
 record Near (u v : ℕ → Bool) (s : ℕ) : Type 0 where
@@ -126,45 +124,15 @@ minima-bits a b c d p q k h =
     ∙ ap (λ (t : Bool). (bit a k && above (bit b) k) || t) (bit-and b d k ∙ ap (λ (t : Bool). bit b k && t) (q k h))
     ∙ sym (smaller-above (bit a) (bit b) k h)
 
--- no priority on one side
-none-first : (q : ℕ → Bool) (k : ℕ) → smaller (bit 0) q k ≡ false
-none-first q k =
-    not-of-T (smaller (bit 0) q k)
-    (λ t. let (y, z, i, j, p, o, e) = smaller-of (bit 0) q k t in subst T (no-bit y) p)
+-- the empty byte has no smaller one
+pub none-smaller : (w : ℕ) (q : ℕ → Bool) (k : ℕ) → w ≡ 0 → smaller (bit w) q k ≡ false
+none-smaller w q k e =
+    not-of-T (smaller (bit w) q k)
+    (λ t. let (y, z, i, j, p, o, m) = smaller-of (bit w) q k t in subst T (ap (λ (v : ℕ). bit v y) e ∙ no-bit y) p)
 
-none-second : (q : ℕ → Bool) (k : ℕ) → smaller q (bit 0) k ≡ false
-none-second q k =
-    not-of-T (smaller q (bit 0) k)
-    (λ t. let (y, z, i, j, p, o, e) = smaller-of q (bit 0) k t in subst T (no-bit z) o)
-
-module _ (sum x y : ℕ) where
-  abbrev With : ℕ → Type 0
-  With r = Bits r (λ k. bit sum k || smaller (bit x) (bit y) k)
-
-  pub with-first : x ≡ 0 → With sum
-  with-first e k h =
-      sym (ap (λ (w : ℕ). bit sum k || smaller (bit w) (bit y) k) e ∙ ap (λ (t : Bool). bit sum k || t) (none-first (bit y) k) ∙ or-false (bit sum k))
-
-  pub with-second : y ≡ 0 → With sum
-  with-second e k h =
-      sym (ap (λ (w : ℕ). bit sum k || smaller (bit x) (bit w) k) e ∙ ap (λ (t : Bool). bit sum k || t) (none-second (bit x) k) ∙ or-false (bit sum k))
-
-  pub with-both : (m : ℕ) → Bits m (smaller (bit x) (bit y)) → With (bitOr sum m)
-  with-both m p k h = bit-or sum m k ∙ ap (λ (t : Bool). bit sum k || t) (p k h)
-
--- one operand more on the way
-pub more-way : (a b : List ℕ) (m f g start sum r : ℕ) → Bits sum (λ x. bit start x || by-way a b m f x g)
-    → Bits r (λ k. bit sum k || smaller (bit (bytes a (f * 12 + m))) (bit (bytes b (m * 12 + g))) k)
-    → Bits r (λ x. bit start x || by-way a b (m + 1) f x g)
-more-way a b m f g start sum r p q x h =
-    rw add-one
-    (q x h
-    ∙ ap (λ (t : Bool). t || smaller (bit (bytes a (f * 12 + m))) (bit (bytes b (m * 12 + g))) x) (p x h)
-    ∙ regroup (bit start x) (by-way a b m f x g) (smaller (bit (bytes a (f * 12 + m))) (bit (bytes b (m * 12 + g))) x))
-  where
-    regroup : (x y z : Bool) → ((x || y) || z) ≡ (x || (y || z))
-    regroup true y z = refl
-    regroup false y z = refl
+-- a byte with the priorities of another
+pub or-bits : (s m : ℕ) (q : ℕ → Bool) → Bits m q → Bits (bitOr s m) (λ k. bit s k || q k)
+or-bits s m q p k h = bit-or s m k ∙ ap (λ (t : Bool). bit s k || t) (p k h)
 
 -- whether a byte and a mask have a priority in common
 abbrev pub met : (w mask : ℕ) → Bool

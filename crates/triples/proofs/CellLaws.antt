@@ -1,6 +1,6 @@
--- Sets of triples in bytes: filled cell by cell, compared byte by byte, joined until a lap adds nothing. Assumes nothing.
+-- Sets of triples in bytes: copied and compared byte by byte, joined until a lap adds nothing. Assumes nothing.
 use mathlib.Core.Path.{_≡_, refl, sym, ap, subst, subst⁻¹, _∙_}
-use mathlib.Core.Bool.{Bool, true, false, _&&_, _||_}
+use mathlib.Core.Bool.{Bool, true, false, _&&_}
 use mathlib.Core.List.{List}
 use Prim.Native.Nat.{ℕ, zero, suc, _+_, _-_, _*_, _^_, _≤_, _<_}
 use native.Mathlib.Omega.{arith}
@@ -15,54 +15,10 @@ use Rattle.base.specs.Lists.{repeat}
 use Rattle.base.specs.Bits.{bit}
 use Rattle.base.proofs.BoolLaws.{of-T, to-T}
 use Rattle.base.proofs.ListLaws.{repeat-stays}
-use Rattle.base.proofs.WordLaws.{no-bit}
 use Rattle.coded.specs.Triples.{Triples, some, holds, same-triples, join, either, lap, laps, rejecting}
-use Rattle.coded.proofs.TriplesLaws.{Test, some-in, some-same, holds-those, those-same, join-those, either-those, same-those, other-those, same-triples-sound}
-use Rattle.triples.specs.Promise.{bytes, bytes-from, bits, triples-in, triples-at, Bits, by-way, joined-test, Rows, Same-row, Decides}
+use Rattle.coded.proofs.TriplesLaws.{some-in, some-same, holds-those, those-same, same-those, other-those, same-triples-sound}
+use Rattle.triples.specs.Promise.{bytes, bytes-from, bits, triples-in, triples-at, Same-row, Decides}
 use Rattle.triples.proofs.ByteLaws.{met, met-none, met-some}
-
--- row f is as the test says in its first k columns
-abbrev pub Row-to : Test → List ℕ → (f k : ℕ) → Type 0
-Row-to q t f k = (x g : ℕ) → x < 8 → g < k → bits (bytes t) f x g ≡ q f x g
-
-module _ (n : ℕ) (q : Test) (t : List ℕ) (f : ℕ) where
-  pub rows-set : (g v : ℕ) → n ≤ 12 → Rows n q t f → Rows n q (set t (f * 12 + g) v) f
-  rows-set g v h r i x j a b d =
-      ap (λ (w : ℕ). bit w x) (getD-set-other t (f * 12 + g) (i * 12 + j) v 0 (λ e. omega arith)) ∙ r i x j a b d
-
-  pub row-set : (g v : ℕ) → f * 12 + g < length t → Row-to q t f g → Bits v (λ x. q f x g) → Row-to q (set t (f * 12 + g) v) f (g + 1)
-  row-set g v h r w x j a b = at (ℕ-discrete j g)
-    where
-      at : Dec (j ≡ g) → bits (bytes (set t (f * 12 + g) v)) f x j ≡ q f x j
-      at (yes e) =
-          subst⁻¹ (λ (k : ℕ). bits (bytes (set t (f * 12 + g) v)) f x k ≡ q f x k) e
-          (ap (λ (u : ℕ). bit u x) (getD-set-same t (f * 12 + g) v 0 h) ∙ w x a)
-      at (no d) =
-          let away : f * 12 + j ≡ f * 12 + g → ⊥ = λ e. d (omega arith) in
-          ap (λ (u : ℕ). bit u x) (getD-set-other t (f * 12 + g) (f * 12 + j) v 0 away) ∙ r x j a (omega arith)
-
-  pub rows-more : Rows n q t f → Row-to q t f n → Rows n q t (f + 1)
-  rows-more r s i x j a b d = at (ℕ-discrete i f)
-    where
-      at : Dec (i ≡ f) → bits (bytes t) i x j ≡ q i x j
-      at (yes e) = subst⁻¹ (λ (k : ℕ). bits (bytes t) k x j ≡ q k x j) e (s x j b d)
-      at (no e) = r i x j (omega arith) b d
-
--- all rows filled
-pub joined-all : (n : ℕ) (s a b r : List ℕ) → Rows n (joined-test s a b n) r n
-    → triples-in n r ≡ either n (triples-in n s) (join n (triples-in n a) (triples-in n b))
-joined-all n s a b r h =
-    those-same n (bits (bytes r)) (joined-test s a b n) h
-    ∙ sym (ap (either n (triples-in n s)) (join-those n (bits (bytes a)) (bits (bytes b))) ∙ either-those n (bits (bytes s)) (by-way a b n))
-
-pub joined-none : (n : ℕ) (z a b : List ℕ) → n ≤ 12 → ((i : ℕ) → i < 144 → getD z i 0 ≡ 0)
-    → either n (triples-in n z) (join n (triples-in n a) (triples-in n b)) ≡ join n (triples-in n a) (triples-in n b)
-joined-none n z a b h none =
-    ap (either n (triples-in n z)) (join-those n (bits (bytes a)) (bits (bytes b)))
-    ∙ either-those n (bits (bytes z)) (by-way a b n)
-    ∙ those-same n (joined-test z a b n) (by-way a b n)
-    (λ f x g hf hx hg. ap (λ (t : Bool). t || by-way a b n f x g) (ap (λ (w : ℕ). bit w x) (none (f * 12 + g) (omega arith)) ∙ no-bit x))
-    ∙ sym (join-those n (bits (bytes a)) (bits (bytes b)))
 
 -- bytes at a place and from 0 on
 pub triples-copied : (n : ℕ) (l t : List ℕ) (at : ℕ) → n ≤ 12 → ((i : ℕ) → i < 144 → getD t i 0 ≡ getD l (at + i) 0)

@@ -4,7 +4,7 @@
 use mathlib.Core.Path.{_≡_}
 use mathlib.Core.Bool.{Bool, true, false, _&&_, _||_}
 use mathlib.Core.List.{List}
-use Prim.Native.Nat.{ℕ, _+_, _*_, _<_}
+use Prim.Native.Nat.{ℕ, _+_, _*_, _≤_, _<_}
 use lib.Dec.{leb}
 use lib.ListN.{getD}
 use Rattle.base.specs.Bits.{bit}
@@ -35,16 +35,18 @@ Bits r q = (x : ℕ) → x < 8 → bit r x ≡ q x
 abbrev pub above : (ℕ → Bool) → ℕ → Bool
 above a k = some 8 (λ j. leb k j && a j)
 
+-- x is the smaller of a priority of the byte w and one of byte (m, g) of b
+abbrev pub one-way : (w : ℕ) → List ℕ → (m x g : ℕ) → Bool
+one-way w b m x g = smaller (bit w) (λ z. bits (bytes b) m z g) x
+
 -- the triple (f, x, g) joined from one of a and one of b that meet in an operand below m
 abbrev pub by-way : List ℕ → List ℕ → (m f x g : ℕ) → Bool
-by-way a b m f x g = some m (λ k. smaller (λ y. bits (bytes a) f y k) (λ z. bits (bytes b) k z g) x)
+by-way a b m f x g = some m (λ k. one-way (bytes a (f * 12 + k)) b k x g)
 
-abbrev pub joined-test : List ℕ → List ℕ → List ℕ → (n f x g : ℕ) → Bool
-joined-test s a b n f x g = bits (bytes s) f x g || by-way a b n f x g
-
--- the first k rows of a table of n operands are as a test of triples says
-abbrev pub Rows : ℕ → ((f x g : ℕ) → Bool) → List ℕ → ℕ → Type 0
-Rows n q t k = (f x g : ℕ) → f < k → x < 8 → g < n → bits (bytes t) f x g ≡ q f x g
+-- u is t, but that the first k columns of row f have beside their priorities those that a test says
+pub record Row-with (t : List ℕ) (f k : ℕ) (q : (x g : ℕ) → Bool) (u : List ℕ) : Type 0 where
+  pub row : (x g : ℕ) → x < 8 → g < k → bits (bytes u) f x g ≡ (bits (bytes t) f x g || q x g)
+  pub rest : (i : ℕ) → (f * 12 ≤ i → i < f * 12 + k → ⊥) → bytes u i ≡ bytes t i
 
 -- row f has the same bits in its first k columns
 abbrev pub Same-row : List ℕ → (at : ℕ) → List ℕ → (f k : ℕ) → Type 0

@@ -1,12 +1,11 @@
 // Sets of triples, joined and compared. A set is 144 bytes: byte 12 f + g has bit x for a trace from the f-th operand of next to the
 // g-th whose priority is the x-th fixpoint, bit 7 for the priority none.
 ghost use mathlib.Core.Path.{_≡_};
-ghost use mathlib.Core.Bool.{_||_};
 ghost use Prim.Native.Nat.{ℕ, _+_, _≤_, _<_};
 ghost use lib.ListN.{length, getD};
 ghost use Rattle.base.specs.Bits.{bit};
 ghost use Rattle.coded.specs.Triples.{smaller, same-triples, join, either, laps, rejecting};
-ghost use Rattle.triples.specs.Promise.{triples-in, triples-at, Bits, above, by-way, joined-test, Rows, Same-row, Decides};
+ghost use Rattle.triples.specs.Promise.{triples-in, triples-at, Bits, above, one-way, by-way, Row-with, Same-row, Decides};
 
 // The priorities with all smaller ones.
 fn down(w: u8) -> u8
@@ -24,54 +23,32 @@ pub fn minima(a: u8, b: u8) -> u8
     (a & down(b)) | (b & down(a))
 }
 
-// The priorities in sum, with the smaller ones of x and y.
-fn with_minima(sum: u8, x: u8, y: u8) -> u8
-    ensures { λ r. ⌜ Bits r (λ k. bit sum k || smaller (bit x) (bit y) k) ⌝ }
+// Row f of t, with the smaller ones of x and each byte of row m of b: in all 12 columns, since a loop of fixed length is turned into a
+// few steps over many bytes at once.
+fn with_way(t: &mut [u8], f: usize, x: u8, b: &[u8; 144], m: usize)
+    requires { ⌜ (144 ≤ length (now t)) × ((f < 12) × (m < 12)) ⌝ }
+    ensures { λ r. ⌜ Row-with (now (t .entry)) f 12 (one-way x (now (b .entry)) m) (now (t .exit)) ⌝ }
 {
     if x == 0 {
-        return sum;
+        return;
     }
-    if y == 0 {
-        return sum;
-    }
-    sum | minima(x, y)
-}
-
-// Byte (f, g) of a joined with b, with the priorities in start.
-fn cell(start: u8, a: &[u8; 144], b: &[u8; 144], n: usize, f: usize, g: usize) -> u8
-    requires { ⌜ (n ≤ 12) × ((f < n) × (g < n)) ⌝ }
-    ensures { λ r. ⌜ Bits r (λ x. bit start x || by-way (now (a .entry)) (now (b .entry)) n f x g) ⌝ }
-{
-    let mut sum = start;
-    let mut m = 0;
-    while m < n {
-        sum = with_minima(sum, a[f * 12 + m], b[m * 12 + g]);
-        m += 1;
-    }
-    sum
-}
-
-// Row f too.
-fn joined_row(
-    s: &[u8; 144],
-    a: &[u8; 144],
-    b: &[u8; 144],
-    n: usize,
-    f: usize,
-    t: [u8; 144],
-) -> [u8; 144]
-    requires { ⌜ (n ≤ 12) × (f < n) ⌝ }
-    requires { ⌜ Rows n (joined-test (now s) (now a) (now b) n) t f ⌝ }
-    ensures { λ r. ⌜ Rows n (joined-test (now (s .entry)) (now (a .entry)) (now (b .entry)) n) r (f + 1) ⌝ }
-{
-    let mut u = t;
     let mut g = 0;
-    while g < n {
-        let w = cell(s[f * 12 + g], a, b, n, f, g);
-        u[f * 12 + g] = w;
+    while g < 12 {
+        t[f * 12 + g] = t[f * 12 + g] | minima(x, b[m * 12 + g]);
         g += 1;
     }
-    u
+}
+
+// Row f of t, with row f of a joined with b.
+fn joined_row(a: &[u8; 144], b: &[u8; 144], n: usize, f: usize, t: &mut [u8; 144])
+    requires { ⌜ (n ≤ 12) × (f < n) ⌝ }
+    ensures { λ r. ⌜ Row-with (now (t .entry)) f 12 (by-way (now (a .entry)) (now (b .entry)) n f) (now (t .exit)) ⌝ }
+{
+    let mut m = 0;
+    while m < n {
+        with_way(t, f, a[f * 12 + m], b, m);
+        m += 1;
+    }
 }
 
 // The triples in s, with a joined with b.
@@ -79,11 +56,10 @@ fn joined_or(s: &[u8; 144], a: &[u8; 144], b: &[u8; 144], n: usize) -> [u8; 144]
     requires { ⌜ n ≤ 12 ⌝ }
     ensures { λ r. ⌜ triples-in n r ≡ either n (triples-in n (now (s .entry))) (join n (triples-in n (now (a .entry))) (triples-in n (now (b .entry)))) ⌝ }
 {
-    let mut t = [0u8; 144];
+    let mut t = *s;
     let mut f = 0;
     while f < n {
-        let u = joined_row(s, a, b, n, f, t);
-        t = u;
+        joined_row(a, b, n, f, &mut t);
         f += 1;
     }
     t

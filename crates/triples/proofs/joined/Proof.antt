@@ -3,7 +3,7 @@ use mathlib.Core.Path.{_∙_}
 use native.Mathlib.Omega.{arith}
 use borrow.Author.Needs.{needs}
 use lib.ListN.{replicate, getD-replicate}
-use Rattle.triples.proofs.CellLaws.{joined-none}
+use Rattle.triples.proofs.JoinLaws.{joined-none}
 use Rattle.triples.proofs.joined.Statement.{statement}
 use Rattle.triples.proofs.joined.Tie as tie
 
