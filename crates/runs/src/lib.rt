@@ -5,7 +5,7 @@ ghost use Prim.Native.Nat.{ℕ, _+_, _*_, _≤_, _<_};
 ghost use lib.ListN.{length, getD};
 ghost use Rattle.coded.specs.Spread.{seen};
 ghost use Rattle.coded.specs.Runs.{same-profile, follow, longer, profiles-from, ones-of, ones};
-ghost use Rattle.tableau.specs.Promise.{table-of, Widest};
+ghost use Rattle.tableau.specs.Promise.{table-of, Unmet};
 ghost use Rattle.tableau.specs.Area.{eight};
 ghost use Rattle.triples.specs.Promise.{triples-in};
 ghost use Rattle.runs.specs.Stored.{two, profile-of, found-of, found-at, record-of, stored, Small, Lent, Changed, Grown, Added};
@@ -121,7 +121,7 @@ fn add(area: &mut [u8], shelf: Shelf, count: usize, ends: Ends, t: &[u8; 144]) -
     count + 1
 }
 
-// Adds the profile of the transition of a node under a choice word, if there is one. A choice that picks outside the widest set has none.
+// Adds the profile of the transition of a node under a choice word, if there is one. A word that picks at an or that is never met has none.
 fn single(
     rows: &[u8; 144],
     subformulas: usize,
@@ -130,21 +130,21 @@ fn single(
     area: &mut [u8],
     nodes: usize,
     number: NodeNumber,
-    wide: u64,
+    unmet: u64,
     choice_word: u64,
     count: usize,
 ) -> usize
     requires { ⌜ Given (now rows) subformulas r shelf nodes (now area) ⌝ }
     requires { ⌜ (number .0 < nodes) × (count ≤ shelf .capacity) ⌝ }
-    requires { ⌜ Widest (now rows) subformulas (eight (now area) (8 * number .0)) wide ⌝ }
+    requires { ⌜ Unmet (now rows) subformulas (eight (now area) (8 * number .0)) unmet ⌝ }
     ensures { λ all. ⌜ Added shelf count (now (area .entry)) all (now (area .exit)) (singles-by (table-of (now (rows .entry)) subformulas) (nodes-in subformulas (now (area .entry)) nodes) (number .0) (node-in subformulas (now (area .entry)) (number .0)) «choice_word») ⌝ }
 {
+    if choice_word & unmet != 0 {
+        return count;
+    }
     let first = number.0;
     let from = tableau::node(area, number);
     let choice = tableau::choice_of(rows, subformulas, choice_word);
-    if choice & wide != choice {
-        return count;
-    }
     match tableau::transition(rows, subformulas, choice, from) {
         Step::Nothing => count,
         Step::Leads { to, letter } => {
@@ -176,7 +176,7 @@ fn singles_of(
     requires { ⌜ (number .0 < nodes) × (count ≤ shelf .capacity) ⌝ }
     ensures { λ all. ⌜ Added shelf count (now (area .entry)) all (now (area .exit)) (ones-of (table-of (now (rows .entry)) subformulas) (nodes-in subformulas (now (area .entry)) nodes) (number .0) (node-in subformulas (now (area .entry)) (number .0))) ⌝ }
 {
-    let wide = tableau::widest(rows, subformulas, tableau::node(area, number));
+    let unmet = tableau::unmet(rows, subformulas, tableau::node(area, number));
     let end = base::power(tableau::ors(rows, subformulas));
     let mut all = count;
     let mut word = 0u64;
@@ -192,7 +192,7 @@ fn singles_of(
             area,
             nodes,
             number,
-            wide,
+            unmet,
             word,
             all,
         );

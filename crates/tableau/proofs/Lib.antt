@@ -7,6 +7,7 @@ pub mod RowLaws
 pub mod LoopLaws
 pub mod StepLaws
 pub mod WidestLaws
+pub mod UnmetLaws
 pub mod SearchLoop
 pub mod AreaLaws
 pub mod NodeLoop

@@ -56,7 +56,7 @@ module _ (rows : List ℕ) (e : ℕ) where
   ors-same f h n = ors-more rows e ∙ rw (other-at e f h n) (add-zero (ors (table-of rows e)))
 
 -- the choice of a choice word: an or takes its last digit and leaves the others
-choice-append : (s t : Table) (x : ℕ) → choice-of (s ++ t) x ≡ choice-of s x ++ choice-of t (x / 2 ^ ors s)
+pub choice-append : (s t : Table) (x : ℕ) → choice-of (s ++ t) x ≡ choice-of s x ++ choice-of t (x / 2 ^ ors s)
 choice-append [] t x = ap (choice-of t) {x = x} {y = x / 2 ^ 0} (omega arith)
 choice-append (o ∷ s) t x = by (is-or o) (choice-append s t)
   where

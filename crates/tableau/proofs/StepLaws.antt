@@ -25,7 +25,7 @@ use Rattle.tableau.specs.declared.Requirement.{Requirement}
 use Rattle.tableau.specs.declared.Step.{Step}
 use Rattle.tableau.specs.declared.Step.the-variants.{Leads, Nothing}
 use Rattle.tableau.proofs.SaturationLaws.{saturate-length}
-use Rattle.tableau.proofs.TransitionLaws.{transition-with}
+use Rattle.tableau.proofs.TransitionLaws.{transition-with, no-transition}
 use Rattle.tableau.proofs.WordSets.{Below, word-add, within-word, clash-word, members-word}
 use Rattle.tableau.proofs.RowLaws.{next-below, present-below}
 use Rattle.tableau.proofs.LoopLaws.{table-length}
@@ -73,13 +73,12 @@ module _ {rows : List ℕ} {count : ℕ} (f : Formed rows count) (s : Subset) wh
 -- a choice that is not met
 pub step-unmet : {rows : List ℕ} {count choice node set : ℕ} → Saturated rows count choice node set → (bitAnd choice set ≡ choice → ⊥)
     → Stepped rows count choice node Nothing
-unfolding possible letter-of
 step-unmet {rows} {count} {choice} {set = set} st h = record {
   is = λ w v l c n.
       let t = table-of rows count in
       let s = saturate t w v in
       let p : within w s ≡ false = within-word w s ∙ rw (← c, ← st .is w v l c n) (ne-eqb (bitAnd choice set) choice h) in
-      ap (λ (d : Bool). step (cond (d && possible (operators-in t s)) (transition-with t w s ∷ []) [])) (sym p);
+      ap step (sym (no-transition t w s p));
 }
 
 -- the answer, from the outcome of the tests of what is required

@@ -150,6 +150,11 @@ transition-with t w s =
     let os = operators-in t s in
     record { choice = w; letter = letter-of os; to = add (gather next-of os) (nothing t) }
 
+-- a choice that is not met has no transition
+pub no-transition : (t : Table) (w s : Subset) → within w s ≡ false → transition-of t w s ≡ []
+unfolding possible letter-of
+no-transition t w s p = ap (λ (d : Bool). cond (d && possible (operators-in t s)) (transition-with t w s ∷ []) []) p
+
 module _ (t : Table) (v : Subset) where
   -- the transitions of a node are those with a choice that is met, where possible
   transitions-of : (x : Transition) → List·Memᴰ x (transitions t v)

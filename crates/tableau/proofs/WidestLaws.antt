@@ -1,29 +1,23 @@
--- A set that holds every saturation of a node (`widest-rest`, `widest-all`), and a choice that picks outside it is not met
--- (`step-outside`). Where a pass with all left operands picked and one with all right operands picked add nothing, the set is closed
--- under the moves of any choice, so by `saturate-least` it holds the saturation. Assumes nothing.
+-- A set that holds every saturation of a node (`widest-rest`, `widest-all`). Where a pass with all left operands picked and one with all
+-- right operands picked add nothing, the set is closed under the moves of any choice, so by `saturate-least` it holds the saturation.
+-- Assumes nothing.
 use mathlib.Core.Path.{_≡_, refl, sym, ap, subst, subst⁻¹, _∙_}
-use mathlib.Core.Bool.{Bool, true, false, cond, _&&_}
+use mathlib.Core.Bool.{Bool, true, false}
 use mathlib.Core.List.{List, [], _∷_, map, List·Memᴰ}
 use Prim.Native.Nat.{ℕ, _-_, _^_}
 use native.Mathlib.Omega.{arith}
 use native.Mathlib.Nat.{zero-add, pow-succ'}
 use lib.Dec.{T}
-use lib.Bits.{bitAnd}
 use lib.Pow.{pow-pos}
 use lib.ListN.{length}
 use Rattle.base.specs.Bits.{bit, word}
-use Rattle.base.proofs.BoolLaws.{of-T, to-T}
-use Rattle.base.proofs.TestLaws.{not-of-T}
-use Rattle.base.proofs.BitLaws.{bit-and}
-use Rattle.base.proofs.WordLaws.{word-bit, word-inj, word-none, same-bits}
+use Rattle.base.proofs.BoolLaws.{to-T}
+use Rattle.base.proofs.WordLaws.{word-bit, word-inj, word-none}
 use Rattle.base.proofs.Inside.{Inside, constant-at, inside-length, inside-refl, inside-trans}
 use Rattle.formula.specs.Table.{Table, operator}
 use Rattle.tableau.specs.Saturation.{Subset, has, nothing, moves, sweep, saturate}
-use Rattle.tableau.specs.Transition.{operators-in, possible, letter-of, within}
-use Rattle.tableau.specs.Promise.{table-of, Swept, step, Stepped, Widest}
-use Rattle.tableau.specs.declared.Step.the-variants.{Nothing}
+use Rattle.tableau.specs.Promise.{table-of, Swept, Widest}
 use Rattle.tableau.proofs.SaturationLaws.{inside-has, has-lt, sweep-inside, Closed, sweep-closed, saturate-length, saturate-least}
-use Rattle.tableau.proofs.TransitionLaws.{transition-with, within-of}
 use Rattle.tableau.proofs.LoopLaws.{table-length}
 
 -- all subformulas of a table
@@ -107,24 +101,3 @@ widest-all rows {count} {all} node a = record {
       (ap (λ (x : ℕ). bit x k) q ∙ word-bit (everything t) k
       ∙ constant-at true t k (omega (arith, has-lt (saturate t w v) k h, saturate-length t w v, table-length rows count)));
 }
-
--- a choice that picks outside
-pub step-outside : {rows : List ℕ} {count choice node wide : ℕ} → Widest rows count node wide → (bitAnd choice wide ≡ choice → ⊥)
-    → Stepped rows count choice node Nothing
-unfolding possible letter-of
-step-outside {rows} {count} {choice} {node} {wide} wd h = record {
-  is = λ w v l c n.
-      let t = table-of rows count in
-      let s = saturate t w v in
-      let p : within w s ≡ false = not-of-T (within w s) (λ q. h (met w c (λ k r. wd .is w v l n k (within-of w s q k r)))) in
-      ap (λ (d : Bool). step (cond (d && possible (operators-in t s)) (transition-with t w s ∷ []) [])) (sym p);
-}
-  where
-    less : (x y : Bool) → (T x → T y) → (x && y) ≡ x
-    less true y f = of-T y (f tt)
-    less false y f = refl
-
-    met : (w : Subset) → choice ≡ word w → ((k : ℕ) → T (has w k) → T (bit wide k)) → bitAnd choice wide ≡ choice
-    met w c f =
-        same-bits (bitAnd choice wide) choice
-        (λ k. bit-and choice wide k ∙ less (bit choice k) (bit wide k) (λ r. f k (subst T (ap (λ (x : ℕ). bit x k) c ∙ word-bit w k) r)))

@@ -6,14 +6,14 @@ use mathlib.Core.Bool.{Bool, _||_}
 use mathlib.Core.List.{List, [], _∷_}
 use Prim.Native.Nat.{ℕ, _+_, _^_, _≤_, _<_}
 use lib.Dec.{T}
-use lib.Bits.{bitOr}
+use lib.Bits.{bitAnd, bitOr}
 use lib.ListN.{length, getD}
 use Rattle.base.specs.Lists.{gather, any}
 use Rattle.base.specs.Bits.{bit, word}
 use Rattle.formula.specs.Table.{Operator, Table}
 use Rattle.formula.specs.Rows.{operators-of}
 use Rattle.tableau.specs.Saturation.{Subset, has, sweep, saturate}
-use Rattle.tableau.specs.Transition.{operators-in, requires, is-false, next-of, ors, Transition, transition-of}
+use Rattle.tableau.specs.Transition.{operators-in, requires, is-false, next-of, ors, choice-of, Transition, transition-of}
 use Rattle.tableau.specs.declared.Requirement.{Requirement}
 use Rattle.tableau.specs.declared.Step.{Step}
 use Rattle.tableau.specs.declared.Step.the-variants.{Leads, Nothing}
@@ -58,6 +58,11 @@ pub record Saturated (rows : List ℕ) (count choice node r : ℕ) : Type 0 wher
 -- The set r holds every saturation of the node, whatever is picked.
 pub record Widest (rows : List ℕ) (count node r : ℕ) : Type 0 where
   pub is : (w v : Subset) → length v ≡ count → node ≡ word v → (e : ℕ) → T (has (saturate (table-of rows count) w v) e) → T (bit r e)
+
+-- The bits of r are at ors that no saturation of the node meets: a choice word with one of them has no transition.
+pub record Unmet (rows : List ℕ) (count node r : ℕ) : Type 0 where
+  pub is : (v : Subset) → length v ≡ count → node ≡ word v → (x : ℕ) → (bitAnd x r ≡ 0 → ⊥)
+      → transition-of (table-of rows count) (choice-of (table-of rows count) x) (saturate (table-of rows count) (choice-of (table-of rows count) x) v) ≡ []
 
 -- The requirement r is the requirement q and what the operator o requires.
 pub record Requires-more (o : Operator) (q r : Requirement) : Type 0 where

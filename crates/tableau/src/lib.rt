@@ -7,7 +7,7 @@ ghost use Rattle.base.specs.Bits.{bit, word};
 ghost use Rattle.formula.specs.Rows.{operator-at};
 ghost use Rattle.tableau.specs.Saturation.{moves};
 ghost use Rattle.tableau.specs.Transition.{ors, choice-of};
-ghost use Rattle.tableau.specs.Promise.{table-of, Formed, Placed, with-bits, Swept, Saturated, Requires-more, Required-by, Stepped, Widest};
+ghost use Rattle.tableau.specs.Promise.{table-of, Formed, Placed, with-bits, Swept, Saturated, Requires-more, Required-by, Stepped, Widest, Unmet};
 ghost use Rattle.tableau.specs.Area.{eight, put, words-at, index, zeros, Room, Holds, reachable, Added, Followed, Expanded};
 
 // The number of a node, kept apart from subformulas and positions.
@@ -122,7 +122,7 @@ pub fn saturated(rows: &[u8; 144], count: usize, choice: u64, node: u64) -> u64
 
 // A set that holds every saturation of the node: it follows the moves of both picks at once. Where it does not come to rest within count
 // rounds, all subformulas.
-pub fn widest(rows: &[u8; 144], count: usize, node: u64) -> u64
+fn widest(rows: &[u8; 144], count: usize, node: u64) -> u64
     requires { ⌜ Formed (now rows) count ⌝ }
     ensures { λ r. ⌜ Widest (now (rows .entry)) count node r ⌝ }
 {
@@ -139,6 +139,25 @@ pub fn widest(rows: &[u8; 144], count: usize, node: u64) -> u64
         left -= 1;
     }
     all
+}
+
+// The bits of a choice word at the ors that no saturation of the node meets.
+pub fn unmet(rows: &[u8; 144], count: usize, node: u64) -> u64
+    requires { ⌜ Formed (now rows) count ⌝ }
+    ensures { λ r. ⌜ Unmet (now (rows .entry)) count node r ⌝ }
+{
+    let wide = widest(rows, count, node);
+    let mut bits = 0u64;
+    let mut n = 0;
+    let mut e = 0;
+    while e < count {
+        if rows[e] == 6 {
+            bits = base::with(bits, n, !base::has(wide, e));
+            n += 1;
+        }
+        e += 1;
+    }
+    bits
 }
 
 // What subformula e requires beside the rest.
@@ -303,27 +322,27 @@ fn add(area: &mut [u8], known: usize, capacity: usize, set: u64) -> usize
     known + 1
 }
 
-// Adds the node that a choice word leads to. A choice that picks outside the widest set is not met: most are passed over so.
+// Adds the node that a choice word leads to. A word that picks at an or that is never met leads nowhere: most are passed over so.
 fn follow(
     rows: &[u8; 144],
     count: usize,
     area: &mut [u8],
     from: u64,
-    wide: u64,
+    unmet: u64,
     choice_word: u64,
     known: usize,
     capacity: usize,
 ) -> usize
     requires { ⌜ Formed (now rows) count ⌝ }
     requires { ⌜ Room known capacity (length (now area)) ⌝ }
-    requires { ⌜ Widest (now rows) count from wide ⌝ }
+    requires { ⌜ Unmet (now rows) count from unmet ⌝ }
     ensures { λ r. ⌜ Followed (now (rows .entry)) count from «choice_word» known capacity (now (area .entry)) (now (area .exit)) r ⌝ }
     ensures { λ r. ⌜ (known ≤ r) × (r ≤ capacity + 1) ⌝ }
 {
-    let choice = choice_of(rows, count, choice_word);
-    if choice & wide != choice {
+    if choice_word & unmet != 0 {
         return known;
     }
+    let choice = choice_of(rows, count, choice_word);
     match transition(rows, count, choice, from) {
         Step::Nothing => known,
         Step::Leads { to, letter: _ } => add(area, known, capacity, to),
@@ -346,7 +365,7 @@ fn expand(
     ensures { λ r. ⌜ (known ≤ r) × (r ≤ capacity + 1) ⌝ }
 {
     let from = node(area, number);
-    let wide = widest(rows, count, from);
+    let unmet = unmet(rows, count, from);
     let end = base::power(ors(rows, count));
     let mut all = known;
     let mut word = 0u64;
@@ -354,7 +373,7 @@ fn expand(
         if capacity < all {
             return all;
         }
-        all = follow(rows, count, area, from, wide, word, all, capacity);
+        all = follow(rows, count, area, from, unmet, word, all, capacity);
         word += 1;
     }
     all

@@ -1,23 +1,20 @@
--- `runs::single` adds the profile of the transition under one choice word, if there is one.
+-- `runs::single` adds the profile of the transition under one choice word, if there is one: a word with an unmet bit has none.
 use mathlib.Core.Path.{subst}
 use Rattle.tableau.specs.Promise.{Stepped}
-use Rattle.runs.proofs.SingleLaws.{index-small, single-none, single-outside, single-letter, single-some}
+use Rattle.runs.proofs.SingleLaws.{index-small, single-none, single-unmet, single-letter, single-some}
 use borrow.Author.Needs.{needs}
 use native.Mathlib.Omega.{arith}
 use Rattle.runs.proofs.single.Statement.{statement}
 use Rattle.runs.proofs.single.Tie as tie
+
+returns : tie.Need-returns
+returns c = let s = c .before .before in single-unmet (s .pre .0) (s .args .number .0) (s .args .choice-word) (s .pre .1 .0 .0) (s .pre .1 .0 .1) (s .pre .1 .1) (c .if1 .taken)
 
 node-requires : tie.Need-node-requires
 node-requires c κs = search needs
 
 choice-of-requires : tie.Need-choice-of-requires
 choice-of-requires c κs = search needs
-
-same-length : tie.Need-same-length
-same-length c = search needs
-
-returns : tie.Need-returns
-returns c = let s = c .before .before .before .before .before in single-outside (s .pre .0) (s .args .number .0) (s .args .choice-word) (s .pre .1 .0 .0) (c .before .choice-of .ensures) (c .before .before .node .ensures) (s .pre .1 .0 .1) (s .pre .1 .1) (c .if1 .taken)
 
 transition-requires : tie.Need-transition-requires
 transition-requires c κs = search needs
@@ -35,35 +32,34 @@ triples-of-requires : tie.Need-triples-of-requires
 triples-of-requires c κs = search needs
 
 add-requires : tie.Need-add-requires
-add-requires c κs = let s = c .before .before .before .before .before .before .before .before .before .before .before .before .before .before in let k = s .pre .0 in (k .lent, (s .pre .1 .0 .1, record { first = omega (arith, s .pre .1 .0 .0, k .few); last = index-small (c .before .before .before .before .before .before .to .given .0 .0) (s .args .area .now) (k .few) (c .before .before .before .find .ensures); parent = omega arith; letter = single-letter k (s .args .number .0) (s .args .choice-word) (s .pre .1 .0 .0) (c .before .before .before .before .before .before .before .before .before .before .choice-of .ensures) (c .before .before .before .before .before .before .before .before .before .before .before .node .ensures) (subst (Stepped _ _ _ _) (c .before .before .before .before .before .before .to .given .1) (c .before .before .before .before .before .before .before .before .transition .ensures)) }))
+add-requires c κs = let s = c .before .before .before .before .before .before .before .before .before .before .before .before .before .before in let k = s .pre .0 in (k .lent, (s .pre .1 .0 .1, record { first = omega (arith, s .pre .1 .0 .0, k .few); last = index-small (c .before .before .before .before .before .before .to .given .0 .0) (s .args .area .now) (k .few) (c .before .before .before .find .ensures); parent = omega arith; letter = single-letter k (s .args .number .0) (s .args .choice-word) (s .pre .1 .0 .0) (c .before .before .before .before .before .before .before .before .before .choice-of .ensures) (c .before .before .before .before .before .before .before .before .before .before .node .ensures) (subst (Stepped _ _ _ _) (c .before .before .before .before .before .before .to .given .1) (c .before .before .before .before .before .before .before .before .transition .ensures)) }))
+
+same-length : tie.Need-same-length
+same-length c = search needs
+
+returns-2 : tie.Need-returns-2
+returns-2 c = let s = c .before .before .before .before .before .before .before .before in single-none (s .pre .0) (s .args .number .0) (s .args .choice-word) (s .pre .1 .0 .0) (c .before .before .before .choice-of .ensures) (c .before .before .before .before .node .ensures) (s .pre .1 .0 .1) (subst (Stepped _ _ _ _) (c .enum-told .given .1) (c .before .before .transition .ensures))
 
 same-length-2 : tie.Need-same-length-2
 same-length-2 c = search needs
 
-returns-2 : tie.Need-returns-2
-returns-2 c = let s = c .before .before .before .before .before .before .before .before in single-none (s .pre .0) (s .args .number .0) (s .args .choice-word) (s .pre .1 .0 .0) (c .before .before .before .before .choice-of .ensures) (c .before .before .before .before .before .node .ensures) (s .pre .1 .0 .1) (subst (Stepped _ _ _ _) (c .enum-told .given .1) (c .before .before .transition .ensures))
-
-same-length-3 : tie.Need-same-length-3
-same-length-3 c = search needs
-
 returns-3 : tie.Need-returns-3
-returns-3 c = let s = c .before .before .before .before .before .before .before .before .before .before .before .before .before .before .before .before .before in single-some (s .pre .0) (s .args .number .0) (s .args .choice-word) (s .pre .1 .0 .0) (c .before .before .before .before .before .before .before .before .before .before .before .before .before .choice-of .ensures) (c .before .before .before .before .before .before .before .before .before .before .before .before .before .before .node .ensures) (subst (Stepped _ _ _ _) (c .before .before .before .before .before .before .before .before .before .to .given .1) (c .before .before .before .before .before .before .before .before .before .before .before .transition .ensures)) (c .before .before .before .before .before .triples-of .result) (c .before .before .before .before .before .before .find .ensures) (c .before .before .before .before .before .triples-of .ensures) (c .before .before .add .ensures)
+returns-3 c = let s = c .before .before .before .before .before .before .before .before .before .before .before .before .before .before .before .before .before in single-some (s .pre .0) (s .args .number .0) (s .args .choice-word) (s .pre .1 .0 .0) (c .before .before .before .before .before .before .before .before .before .before .before .before .choice-of .ensures) (c .before .before .before .before .before .before .before .before .before .before .before .before .before .node .ensures) (subst (Stepped _ _ _ _) (c .before .before .before .before .before .before .before .before .before .to .given .1) (c .before .before .before .before .before .before .before .before .before .before .before .transition .ensures)) (c .before .before .before .before .before .triples-of .result) (c .before .before .before .before .before .before .find .ensures) (c .before .before .before .before .before .triples-of .ensures) (c .before .before .add .ensures)
 
 pub single-spec : {M : Type 1} → statement M
 single-spec =
     tie.close
     (tie.spec
+    returns
     node-requires
     choice-of-requires
-    same-length
-    returns
     transition-requires
     enum-told
     enum-known-to
     find-requires
     triples-of-requires
     add-requires
-    same-length-2
+    same-length
     returns-2
-    same-length-3
+    same-length-2
     returns-3)

@@ -4,23 +4,23 @@ use Prim.Native.Nat.{ℕ, _-_, _^_, _≤_}
 use Rattle.tableau.specs.Promise.{table-of}
 use Rattle.runs.specs.Stored.{Grown}
 use Rattle.runs.proofs.GrowLaws.{grown-still}
-use Rattle.runs.proofs.SingleLaws.{of-first, given-kept, widest-kept, of-turn, of-stop, of-done}
+use Rattle.runs.proofs.SingleLaws.{of-first, given-kept, unmet-kept, of-turn, of-stop, of-done}
 use borrow.Author.Needs.{needs}
 use native.Mathlib.Omega.{arith}
 use Rattle.runs.proofs.singles_of.Statement.{statement}
 use Rattle.runs.proofs.singles_of.Tie as tie
 
 abbrev Inv-loop : tie.InvT-loop
-Inv-loop rows subformulas r shelf area₀ nodes number count wide end all₀ word₀ area all word = (word ≤ end) × Grown shelf count area₀ all area (of-first (table-of rows subformulas) subformulas shelf nodes area₀ (number .0) count word)
+Inv-loop rows subformulas r shelf area₀ nodes number count unmet end all₀ word₀ area all word = (word ≤ end) × Grown shelf count area₀ all area (of-first (table-of rows subformulas) subformulas shelf nodes area₀ (number .0) count word)
 
 abbrev μ-loop : tie.MeasureT-loop
-μ-loop rows subformulas r shelf area₀ nodes number count wide end all₀ word₀ area all word = end - word
+μ-loop rows subformulas r shelf area₀ nodes number count unmet end all₀ word₀ area all word = end - word
 
 node-requires : tie.Need-node-requires Inv-loop μ-loop
 node-requires c κs = search needs
 
-widest-requires : tie.Need-widest-requires Inv-loop μ-loop
-widest-requires c κs = c .before .before .before .pre .0 .limited .formed
+unmet-requires : tie.Need-unmet-requires Inv-loop μ-loop
+unmet-requires c κs = c .before .before .before .pre .0 .limited .formed
 
 ors-requires : tie.Need-ors-requires Inv-loop μ-loop
 ors-requires c κs = c .before .before .before .before .pre .0 .limited .formed
@@ -38,7 +38,7 @@ returns : tie.Need-returns Inv-loop μ-loop
 returns c = let s = c .before .before .before .before .before .before .before .before .before .before in let l = c .before .before .before .loop in of-stop (s .pre .0) (s .args .number .0) (s .args .count) (l .word) (c .before .before .before .before .power .result) (c .before .before .before .before .power .ensures ∙ ap (λ (n : ℕ). 2 ^ n) (c .before .before .before .before .before .ors .ensures)) (c .if1 .taken) (l .inv .0) (l .inv .1)
 
 single-requires : tie.Need-single-requires Inv-loop μ-loop
-single-requires c κs = let s = c .before .before .before .before .before .before .before .before .before .before .before in let e = c .before .before .before .before .loop .inv .1 .elsewhere in (given-kept (s .pre .0) e (omega arith), ((s .pre .1 .0, c .before .if1 .left), widest-kept (s .pre .0) e (omega arith) (s .args .number .0) (s .pre .1 .0) (c .before .before .before .before .before .before .before .before .node .ensures) (c .before .before .before .before .before .before .before .widest .ensures)))
+single-requires c κs = let s = c .before .before .before .before .before .before .before .before .before .before .before in let e = c .before .before .before .before .loop .inv .1 .elsewhere in (given-kept (s .pre .0) e (omega arith), ((s .pre .1 .0, c .before .if1 .left), unmet-kept (s .pre .0) e (omega arith) (s .args .number .0) (s .pre .1 .0) (c .before .before .before .before .before .before .before .before .node .ensures) (c .before .before .before .before .before .before .before .unmet .ensures)))
 
 add-word : tie.Need-add-word Inv-loop μ-loop
 add-word c = search needs
@@ -62,7 +62,7 @@ singles-of-spec =
     Inv-loop
     μ-loop
     node-requires
-    widest-requires
+    unmet-requires
     ors-requires
     power-requires
     loop-holds

@@ -10,16 +10,16 @@ use Rattle.tableau.proofs.expand.Statement.{statement}
 use Rattle.tableau.proofs.expand.Tie as tie
 
 abbrev Inv-loop : tie.InvT-loop
-Inv-loop rows count area₀ known capacity from wide end all₀ word₀ area all word = (known ≤ all) × ((all ≤ capacity + 1) × ((word ≤ end) × ((length area ≡ length area₀) × Expanding rows count from known capacity area₀ all word area)))
+Inv-loop rows count area₀ known capacity from unmet end all₀ word₀ area all word = (known ≤ all) × ((all ≤ capacity + 1) × ((word ≤ end) × ((length area ≡ length area₀) × Expanding rows count from known capacity area₀ all word area)))
 
 abbrev μ-loop : tie.MeasureT-loop
-μ-loop rows count area₀ known capacity from wide end all₀ word₀ area all word = end - word
+μ-loop rows count area₀ known capacity from unmet end all₀ word₀ area all word = end - word
 
 node-requires : tie.Need-node-requires Inv-loop μ-loop
 node-requires c κs = search needs
 
-widest-requires : tie.Need-widest-requires Inv-loop μ-loop
-widest-requires c κs = search needs
+unmet-requires : tie.Need-unmet-requires Inv-loop μ-loop
+unmet-requires c κs = search needs
 
 ors-requires : tie.Need-ors-requires Inv-loop μ-loop
 ors-requires c κs = search needs
@@ -37,7 +37,7 @@ returns : tie.Need-returns Inv-loop μ-loop
 returns c = (expand-end (c .before .before .loop .inv .1 .1 .1 .1) (c .before .before .before .before .before .before .before .before .before .pre .0) (c .before .before .before .before .before .before .before .before .before .pre .1 .1 .fits) (c .before .before .before .before .before .before .before .before .before .pre .1 .0) (c .before .before .before .before .before .before .node .ensures) (c .before .before .before .before .ors .ensures) (omega (arith, c .before .before .before .power .ensures)) (inl (c .if1 .taken)), (omega arith, omega arith))
 
 follow-requires : tie.Need-follow-requires Inv-loop μ-loop
-follow-requires c κs = (c .before .before .before .before .before .before .before .before .before .before .pre .0, (search needs, c .before .before .before .before .before .before .widest .ensures))
+follow-requires c κs = (c .before .before .before .before .before .before .before .before .before .before .pre .0, (search needs, c .before .before .before .before .before .before .unmet .ensures))
 
 add-word : tie.Need-add-word Inv-loop μ-loop
 add-word c = search needs
@@ -61,7 +61,7 @@ expand-spec =
     Inv-loop
     μ-loop
     node-requires
-    widest-requires
+    unmet-requires
     ors-requires
     power-requires
     loop-holds
