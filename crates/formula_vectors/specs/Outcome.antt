@@ -7,10 +7,10 @@ use lib.Dec.{ltb, leb}
 use lib.ListN.{getD, take}
 use Rattle.vectors.specs.Text.{decimal, hex, Buffer, Wrote}
 use Rattle.vectors.specs.declared.number.Bytes.{Bytes}
+use Rattle.report.specs.Texts.{unread-text}
 use Rattle.formula.specs.Reading.{reading}
 use Rattle.formula.specs.Rows.{reading-of}
 use Rattle.formula.specs.declared.Table.{Table}
-use Rattle.formula.specs.declared.Refusal.{Refusal}
 use Rattle.formula.specs.declared.Outcome.{Outcome}
 use Rattle.formula.specs.declared.Outcome.the-variants.{Accepted, Refused}
 use Rattle.formula.specs.declared.Reading.{Reading}
@@ -56,13 +56,9 @@ entries-text rows e (suc n) = entry-text rows e ++ entries-text rows (e + 1) n
 abbrev pub accepted-text : Table → List ℕ
 accepted-text t = (65 ∷ 67 ∷ 67 ∷ 69 ∷ 80 ∷ 84 ∷ 69 ∷ 68 ∷ []) ++ entries-text (t .rows) 0 (min (t .count) 48)
 
--- `REFUSED`, the number, `at`, the place.
-abbrev pub refused-text : Refusal → List ℕ
-refused-text why = (82 ∷ 69 ∷ 70 ∷ 85 ∷ 83 ∷ 69 ∷ 68 ∷ 32 ∷ []) ++ decimal (why .code) ++ (32 ∷ 97 ∷ 116 ∷ 32 ∷ []) ++ decimal (why .at)
-
 abbrev pub outcome-text : Outcome → Table → List ℕ
 outcome-text Accepted t = accepted-text t
-outcome-text (Refused why) t = refused-text why
+outcome-text (Refused why) t = unread-text why
 
 -- The line of a reading.
 abbrev pub reading-text : Reading → List ℕ

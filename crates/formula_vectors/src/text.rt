@@ -1,14 +1,13 @@
 // The text of what reading a formula comes to.
 use formula::Outcome;
 use formula::Reading;
-use formula::Refusal;
 ghost use mathlib.Core.Path.{_≡_};
 ghost use mathlib.Core.Bool.{cond};
 ghost use Prim.Native.Nat.{_+_, _≤_, _<_, min};
 ghost use Rattle.vectors.specs.Text.{buffer, Wrote};
 ghost use Rattle.formula_vectors.specs.Outcome.{is-around, operands-text, command-text, entry-text, entries-text};
 ghost use Rattle.formula_vectors.specs.Outcome.{marked as Outcome·marked, depth as Outcome·depth};
-ghost use Rattle.formula_vectors.specs.Outcome.{reading-text, outcome-text, refused-text};
+ghost use Rattle.formula_vectors.specs.Outcome.{reading-text, outcome-text};
 
 pub(crate) fn reading_text(out: &mut [u8], reading: Reading) -> usize
     ensures { λ r. ⌜ Wrote (buffer (now (out .entry)) 0) (reading-text reading) (buffer (now (out .exit)) r) ⌝ }
@@ -23,7 +22,7 @@ fn outcome_text(out: &mut [u8], reading: Reading) -> usize
     let outcome = reading.outcome;
     let table = reading.table;
     match outcome {
-        Outcome::Refused(why) => refused_text(out, why),
+        Outcome::Refused(why) => report::unread(out, 0, why),
         Outcome::Accepted => {
             let rows = table.rows;
             let at = vectors::put_all(out, 0, b"ACCEPTED");
@@ -36,15 +35,6 @@ fn least(a: usize, b: usize) -> usize
     ensures { λ r. ⌜ (r ≡ min a b) × (r ≤ b) ⌝ }
 {
     if a < b { a } else { b }
-}
-
-fn refused_text(out: &mut [u8], why: Refusal) -> usize
-    ensures { λ r. ⌜ Wrote (buffer (now (out .entry)) 0) (refused-text why) (buffer (now (out .exit)) r) ⌝ }
-{
-    let a = vectors::put_all(out, 0, b"REFUSED ");
-    let b = vectors::decimal(out, a, why.code as u64);
-    let c = vectors::put_all(out, b, b" at ");
-    vectors::decimal(out, c, why.at as u64)
 }
 
 fn entries_text(out: &mut [u8], start: usize, rows: &[u8; 144], count: usize) -> usize

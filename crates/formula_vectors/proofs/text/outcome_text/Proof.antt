@@ -8,8 +8,8 @@ use Rattle.formula_vectors.proofs.text.outcome_text.Tie as tie
 enum-known-outcome : tie.Need-enum-known-outcome
 enum-known-outcome c = search needs
 
-refused-text-requires : tie.Need-refused-text-requires
-refused-text-requires c κs = search needs
+unread-requires : tie.Need-unread-requires
+unread-requires c κs = search needs
 
 enum-told : tie.Need-enum-told
 enum-told c = search needs
@@ -30,7 +30,7 @@ same-length : tie.Need-same-length
 same-length c = search needs
 
 returns : tie.Need-returns
-returns c = simp (c .before .before .before .before .before .outcome .given .1) (c .before .before .refused-text .ensures)
+returns c = simp (c .before .before .before .before .before .outcome .given .1) (c .before .before .unread .ensures)
 
 same-length-2 : tie.Need-same-length-2
 same-length-2 c = search needs
@@ -43,7 +43,7 @@ outcome-text-spec =
     tie.close
     (tie.spec
     enum-known-outcome
-    refused-text-requires
+    unread-requires
     enum-told
     slice-aggregate-put-all
     put-all-requires
