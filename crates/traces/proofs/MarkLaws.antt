@@ -1,7 +1,8 @@
--- Marks in bytes: what is put into one byte, what one operator passes on by its opcode, what a sweep over the rows makes of them, and
--- sweeping until nothing changes, which is what the definition reaches by a fixed number of rounds. Assumes nothing.
+-- Marks in bytes: what is put into one byte, what one operator passes on by its opcode, and that it is nothing where there are no marks; what
+-- a sweep over the rows makes of them; and sweeping until nothing changes, which is what the definition reaches by a fixed number of
+-- rounds. Assumes nothing.
 use mathlib.Core.Path.{_≡_, refl, sym, ap, subst, _∙_}
-use mathlib.Core.Bool.{Bool, true, false, cond, _||_}
+use mathlib.Core.Bool.{Bool, true, false, cond, _||_, or-false}
 use mathlib.Core.List.{List, [], _∷_, map}
 use Prim.Native.Nat.{ℕ, zero, suc, _+_, _-_, _*_, _^_, _≤_, _<_}
 use native.Mathlib.Omega.{arith}
@@ -11,7 +12,7 @@ use borrow.Author.Tests.{eq-eqb, ne-eqb}
 use lib.Dec.{eqb}
 use lib.Bits.{bitOr}
 use lib.ListN.{length, getD, set, length-set}
-use lib.Seq.{ext-getD, getD-set-same, getD-set-other, set-out}
+use lib.Seq.{ext-getD, getD-set-same, getD-set-other, set-getD, set-out}
 use Rattle.base.specs.Lists.{numbers, repeat}
 use Rattle.base.specs.Bits.{bit, word}
 use Rattle.base.proofs.ListLaws.{repeat-stays}
@@ -21,7 +22,7 @@ use Rattle.base.proofs.WordLaws.{no-bit, word-bit}
 use Rattle.formula.specs.Table.{Operator}
 use Rattle.formula.specs.Rows.{operator-at, operators-of}
 use Rattle.tableau.specs.Saturation.{Subset, has, moves}
-use Rattle.tableau.specs.Promise.{table-of}
+use Rattle.tableau.specs.Promise.{Row, table-of}
 use Rattle.profile.specs.Traces.{is-fix}
 use Rattle.coded.specs.Triples.{smaller}
 use Rattle.coded.specs.Marks.{Marks, weighs, bit-of, passed, mark, sweep, blank, reached}
@@ -58,6 +59,9 @@ module _ (n : ℕ) (b : List ℕ) where
       values-at (λ e. weighs (bit (getD b e 0))) 0 n i [] h
       ∙ ap (λ (e : ℕ). weighs (bit (getD b e 0))) {x = 0 + i} {y = i} (omega arith)
 
+  mark-bit : (i x : ℕ) → i < n → x < 8 → bit-of (getD (marks-of n b) i []) x ≡ bit (getD b i 0) x
+  mark-bit i x h k = ap (λ (r : List Bool). bit-of r x) (marks-at i h) ∙ bit-weighs (bit (getD b i 0)) x k
+
   pub marks-same : (a : List ℕ) → ((i : ℕ) → i < n → getD b i 0 ≡ getD a i 0) → marks-of n b ≡ marks-of n a
   marks-same a h =
       values-same (λ e. weighs (bit (getD b e 0))) (λ e. weighs (bit (getD a e 0))) 0 n
@@ -82,23 +86,33 @@ marks-set n b m v k =
         ∙ ap (λ (w : ℕ). weighs (bit w)) (getD-set-other b m i v 0 d)
         ∙ sym (getD-set-other (marks-of n b) m i (weighs (bit v)) [] d ∙ marks-at n b i l)
 
--- what `marked` does
-pub marked-one : (b : List ℕ) (m w : ℕ) → m < length b → Marked (m ∷ []) w b (set b m (bitOr (getD b m 0) w))
-marked-one b m w k n h = marks-set n b m (bitOr (getD b m 0) w) k ∙ at (decLt m n)
+-- one subformula marked with q: the bits of its byte are those it had or those of q
+marked : (n : ℕ) (b : List ℕ) (q : ℕ → Bool) (m v : ℕ) → ((x : ℕ) → x < 8 → bit v x ≡ (bit (getD b m 0) x || q x))
+    → set (marks-of n b) m (weighs (bit v)) ≡ mark (m ∷ []) (weighs q) (marks-of n b)
+marked n b q m v h = at (decLt m n)
   where
-    at : Dec (m < n) → set (marks-of n b) m (weighs (bit (bitOr (getD b m 0) w))) ≡ mark (m ∷ []) (weighs (bit w)) (marks-of n b)
+    at : Dec (m < n) → set (marks-of n b) m (weighs (bit v)) ≡ mark (m ∷ []) (weighs q) (marks-of n b)
     at (yes l) =
         ap (set (marks-of n b) m)
-        (weighs-same (bit (bitOr (getD b m 0) w)) (λ x. bit-of (getD (marks-of n b) m []) x || bit-of (weighs (bit w)) x)
-        (λ x hx.
-        let p : bit-of (getD (marks-of n b) m []) x ≡ bit (getD b m 0) x =
-        ap (λ (r : List Bool). bit-of r x) (marks-at n b m l) ∙ bit-weighs (bit (getD b m 0)) x hx in
-        let q = bit-weighs (bit w) x hx in
-        bit-or (getD b m 0) w x ∙ sym (λ i. p i || q i)))
+        (weighs-same (bit v) (λ x. bit-of (getD (marks-of n b) m []) x || bit-of (weighs q) x)
+        (λ x k. let had = mark-bit n b m x l k in let new = bit-weighs q x k in h x k ∙ sym (λ i. had i || new i)))
     at (no l) =
-        set-out (marks-of n b) m (weighs (bit (bitOr (getD b m 0) w))) (omega (arith, marks-length n b))
+        set-out (marks-of n b) m (weighs (bit v)) (omega (arith, marks-length n b))
         ∙ sym
-        (set-out (marks-of n b) m (weighs (λ x. bit-of (getD (marks-of n b) m []) x || bit-of (weighs (bit w)) x)) (omega (arith, marks-length n b)))
+        (set-out (marks-of n b) m (weighs (λ x. bit-of (getD (marks-of n b) m []) x || bit-of (weighs q) x)) (omega (arith, marks-length n b)))
+
+-- what `mark` does
+pub marked-one : (b : List ℕ) (m w : ℕ) → m < length b → Marked (m ∷ []) w b (set b m (bitOr (getD b m 0) w))
+marked-one b m w k n h =
+    marks-set n b m (bitOr (getD b m 0) w) k ∙ marked n b (bit w) m (bitOr (getD b m 0) w) (λ x l. bit-or (getD b m 0) w x)
+
+-- the operands that `passing` marks are among the n that have marks
+module _ {op a e n : ℕ} (row : Row op a e 48) (all : n ≡ 48) where
+  pub argument-in : {m : ℕ} → 4 < op → op < 8 → m ≡ a → m < n
+  argument-in h k q = omega (arith, row .argument-below h k)
+
+  pub first-in : 5 < op → e + 1 < n
+  first-in h = omega (arith, row .first-below h)
 
 -- what `passing` does, by the opcode
 module _ (op a e : ℕ) (p : Bool) (k : ℕ) (b r : List ℕ) where
@@ -158,11 +172,38 @@ module _ (op a e : ℕ) (p : Bool) (k : ℕ) (b r : List ℕ) where
       (λ x hx.
       q x hx
       ∙ smaller-same (bit here) (bit one) (bit-of (getD (marks-of n b) e [])) (eqb k) x
-      (λ i hi. sym (ap (λ (s : List Bool). bit-of s i) (marks-at n b e h) ∙ bit-weighs (bit here) i hi))
+      (λ i hi. sym (mark-bit n b e i h hi))
       (λ i hi. ap (λ (v : ℕ). bit v i) power ∙ one-bit k i)) in
       g n l
       ∙ ap (λ (s : List Bool). mark ((e + 1) ∷ []) s (marks-of n b)) w
       ∙ ap (λ (d : Operator). mark (moves d p) (passed d k (getD (marks-of n b) e [])) (marks-of n b)) (sym is)
+
+-- a subformula without marks passes on nothing: what an operator makes of the blank mark is blank, and marking with it changes nothing
+passed-blank : (o : Operator) (k : ℕ) → passed o k blank ≡ blank
+unfolding passed smaller
+passed-blank o k = go (is-fix o)
+  where
+    go : (t : Bool) → cond t (weighs (smaller (bit-of blank) (eqb k))) blank ≡ blank
+    go true = refl
+    go false = refl
+
+mark-blank : (n : ℕ) (b ms : List ℕ) → mark ms blank (marks-of n b) ≡ marks-of n b
+mark-blank n b [] = refl
+mark-blank n b (m ∷ ms) =
+    ap (mark ms blank)
+    (sym (marked n b (λ x. false) m (getD b m 0) (λ x l. sym (or-false (bit (getD b m 0) x)))) ∙ kept (decLt m n))
+    ∙ mark-blank n b ms
+  where
+    kept : Dec (m < n) → set (marks-of n b) m (weighs (bit (getD b m 0))) ≡ marks-of n b
+    kept (yes l) = ap (set (marks-of n b) m) (sym (marks-at n b m l)) ∙ set-getD (marks-of n b) m []
+    kept (no l) = set-out (marks-of n b) m (weighs (bit (getD b m 0))) (omega (arith, marks-length n b))
+
+pub pass-blank : (o : Operator) (p : Bool) (e k : ℕ) (b : List ℕ) → getD b e 0 ≡ 0 → Passed o p e k b b
+pass-blank o p e k b none n h l =
+    sym
+    (ap (λ (r : List Bool). mark (moves o p) (passed o k r) (marks-of n b)) (marks-at n b e h ∙ no-marks (getD b e 0) none)
+    ∙ ap (λ (r : List Bool). mark (moves o p) r (marks-of n b)) (passed-blank o k)
+    ∙ mark-blank n b (moves o p))
 
 -- a sweep, from subformula e on
 abbrev pub swept-from : List ℕ → (count e : ℕ) → Subset → List ℕ → Marks
@@ -237,10 +278,11 @@ module _ (rows : List ℕ) (count choice f : ℕ) where
       ∙ ap (repeat left s) (sym (q w c))
       ∙ ap (λ (k : ℕ). repeat k s (marks-of count r)) {x = left} {y = suc left - 1} (omega arith)
 
-  pub reach-still : (left : ℕ) (b r : List ℕ) → Reaching rows count choice f left b → Sweep b r → ((i : ℕ) → i < count → getD r i 0 ≡ getD b i 0)
-      → (w : Subset) → choice ≡ word w → marks-of count b ≡ reached (table-of rows count) w f
+  pub reach-still : (left : ℕ) (b r : List ℕ) → Reaching rows count choice f left b → Sweep b r → ((i : ℕ) → i < count → getD b i 0 ≡ getD r i 0)
+      → (w : Subset) → choice ≡ word w → marks-of count r ≡ reached (table-of rows count) w f
   reach-still left b r e q same w c =
-      sym (e w c ∙ repeat-stays left (sweep (table-of rows count) w 0 0) (marks-of count b) (sym (q w c) ∙ marks-same count r b same))
+      let back = sym (marks-same count b r same) in
+      back ∙ sym (e w c ∙ repeat-stays left (sweep (table-of rows count) w 0 0) (marks-of count b) (sym (q w c) ∙ back))
 
   pub reach-end : (left : ℕ) (b : List ℕ) → left ≤ 0 → Reaching rows count choice f left b
       → (w : Subset) → choice ≡ word w → marks-of count b ≡ reached (table-of rows count) w f

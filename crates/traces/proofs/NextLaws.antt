@@ -8,7 +8,7 @@ use native.Mathlib.Omega.{arith}
 use native.Mathlib.Decide.{ℕ-discrete}
 use native.Mathlib.Numerals.{add-one}
 use borrow.Author.Tests.{eq-eqb}
-use lib.ListN.{length, getD, set, length-set}
+use lib.ListN.{length, getD, set}
 use lib.Seq.{getD-set-same, getD-set-other}
 use Rattle.base.specs.Lists.{numbers}
 use Rattle.base.specs.Bits.{bit, word}
@@ -24,25 +24,22 @@ use Rattle.traces.proofs.MarkLaws.{marks-at, no-marks}
 -- a row, one next more
 module _ (rows : List ℕ) (e f : ℕ) (marks t u : List ℕ) where
   abbrev pub Row-state : ℕ → List ℕ → Type 0
-  Row-state k v = (length v ≡ 144) × (Row-of rows marks k f v × Other-rows f t v)
+  Row-state k v = Row-of rows marks k f v × Other-rows f t v
 
   pub row-skip : (getD rows e 0 ≡ 8 → ⊥) → Row-state e u → Row-state (e + 1) u
-  row-skip d (l, (r, o)) = (l, ((λ i h q. r i (earlier i h q (ℕ-discrete i e)) q), o))
+  row-skip d (r, o) = ((λ i h q. r i (earlier i h q (ℕ-discrete i e)) q), o)
     where
       earlier : (i : ℕ) → i < e + 1 → getD rows i 0 ≡ 8 → Dec (i ≡ e) → i < e
       earlier i h q (yes p) = absurd (d (ap (λ (j : ℕ). getD rows j 0) (sym p) ∙ q))
       earlier i h q (no p) = omega arith
 
-  pub row-put : getD rows e 0 ≡ 8 → f < 12 → next-rank rows e < 12 → Row-state e u
+  pub row-put : length u ≡ 144 → getD rows e 0 ≡ 8 → f < 12 → next-rank rows e < 12 → Row-state e u
       → Row-state (e + 1) (set u (f * 12 + next-rank rows e) (getD marks e 0))
-  row-put q hf hg (l, (r, o)) = (
-    length-set u (f * 12 + next-rank rows e) (getD marks e 0) ∙ l,
-    (
-      (λ i h p. at i h p (ℕ-discrete i e)),
-      λ i. (
-        (λ z. getD-set-other u (f * 12 + next-rank rows e) i (getD marks e 0) 0 (λ y. omega arith) ∙ o i .0 z),
-        λ z. getD-set-other u (f * 12 + next-rank rows e) i (getD marks e 0) 0 (λ y. omega arith) ∙ o i .1 z,
-      ),
+  row-put l q hf hg (r, o) = (
+    (λ i h p. at i h p (ℕ-discrete i e)),
+    λ i. (
+      (λ z. getD-set-other u (f * 12 + next-rank rows e) i (getD marks e 0) 0 (λ y. omega arith) ∙ o i .0 z),
+      λ z. getD-set-other u (f * 12 + next-rank rows e) i (getD marks e 0) 0 (λ y. omega arith) ∙ o i .1 z,
     ),
   )
     where
@@ -56,13 +53,13 @@ module _ (rows : List ℕ) (e f : ℕ) (marks t u : List ℕ) where
           getD-set-other u (f * 12 + next-rank rows e) (f * 12 + next-rank rows i) (getD marks e 0) 0 (λ z. omega arith) ∙ r i (omega arith) p
 
   -- by what the code has read and stored
-  pub row-more : (g : ℕ) (v : List ℕ) → g ≡ next-rank rows e → f < 12 → (getD rows e 0 ≡ 8 → next-rank rows e < 12)
+  pub row-more : (g : ℕ) (v : List ℕ) → length u ≡ 144 → g ≡ next-rank rows e → f < 12 → (getD rows e 0 ≡ 8 → next-rank rows e < 12)
       → (getD rows e 0 ≡ 8 → v ≡ set u (f * 12 + g) (getD marks e 0)) → ((getD rows e 0 ≡ 8 → ⊥) → v ≡ u) → Row-state e u → Row-state (e + 1) v
-  row-more g v eg hf hg is not s = go (ℕ-discrete (getD rows e 0) 8)
+  row-more g v l eg hf hg is not s = go (ℕ-discrete (getD rows e 0) 8)
     where
       go : Dec (getD rows e 0 ≡ 8) → Row-state (e + 1) v
       go (yes q) =
-          subst⁻¹ (Row-state (e + 1)) (is q ∙ ap (λ (k : ℕ). set u (f * 12 + k) (getD marks e 0)) eg) (row-put q hf (hg q) s)
+          subst⁻¹ (Row-state (e + 1)) (is q ∙ ap (λ (k : ℕ). set u (f * 12 + k) (getD marks e 0)) eg) (row-put l q hf (hg q) s)
       go (no d) = subst⁻¹ (Row-state (e + 1)) (not d) (row-skip d s)
 
 -- the rows, one subformula more

@@ -5,7 +5,7 @@ ghost use mathlib.Core.Bool.{true, false, cond};
 ghost use mathlib.Core.List.{[], _∷_};
 ghost use Prim.Native.Nat.{ℕ, _+_, _*_, _^_, _<_};
 ghost use lib.Dec.{eqb};
-ghost use lib.ListN.{getD, set};
+ghost use lib.ListN.{length, getD, set};
 ghost use Rattle.base.specs.Bits.{bit};
 ghost use Rattle.formula.specs.Rows.{operator-at};
 ghost use Rattle.tableau.specs.Promise.{table-of, Placed, Formed};
@@ -51,14 +51,13 @@ pub fn ranked(rows: &[u8; 144], count: usize) -> Ranks
     }
 }
 
-// The priorities w at subformula m too.
-fn marked(marks: [u8; 48], m: usize, w: u8) -> [u8; 48]
-    requires { ⌜ m < 48 ⌝ }
-    ensures { λ r. ⌜ Marked (m ∷ []) w marks r ⌝ }
+// The priorities w at subformula m too. The marks come as a slice, since a contract knows the length of a slice, and not that of an array
+// behind a reference.
+fn mark(marks: &mut [u8], m: usize, w: u8)
+    requires { ⌜ m < length (now marks) ⌝ }
+    ensures { λ r. ⌜ Marked (m ∷ []) w (now (marks .entry)) (now (marks .exit)) ⌝ }
 {
-    let mut out = marks;
-    out[m] = out[m] | w;
-    out
+    marks[m] = marks[m] | w;
 }
 
 fn bit8(k: usize) -> u8
@@ -68,50 +67,54 @@ fn bit8(k: usize) -> u8
     1u8 << k
 }
 
-// The marks with those that subformula e passes on.
-fn passing(rows: &[u8; 144], fix: &[u8; 48], choice: u64, e: usize, marks: [u8; 48]) -> [u8; 48]
+// Marks what subformula e passes on: nothing where it has no marks itself, as most have none.
+fn passing(rows: &[u8; 144], fix: &[u8; 48], choice: u64, e: usize, marks: &mut [u8; 48])
     requires { ⌜ Placed (now rows) e ⌝ }
     requires { ⌜ (8 < getD (now rows) e 0 → getD (now fix) e 0 < 8) ⌝ }
-    ensures { λ r. ⌜ Passed (operator-at (now (rows .entry)) e) (bit choice e) e (getD (now (fix .entry)) e 0) marks r ⌝ }
+    ensures { λ r. ⌜ Passed (operator-at (now (rows .entry)) e) (bit choice e) e (getD (now (fix .entry)) e 0) (now (marks .entry)) (now (marks .exit)) ⌝ }
 {
+    let w = marks[e];
+    if w == 0 {
+        return;
+    }
     let op = rows[e];
     let argument = base::wide(rows[48 + e]);
-    let w = marks[e];
     if op == 5 {
-        return marked(marks, argument, w);
+        mark(marks, argument, w);
+        return;
     }
     if op == 6 {
         if base::has(choice, e) {
-            return marked(marks, argument, w);
+            mark(marks, argument, w);
+            return;
         }
-        return marked(marks, e + 1, w);
+        mark(marks, e + 1, w);
+        return;
     }
     if op == 7 {
-        let left = marked(marks, e + 1, w);
-        return marked(left, argument, w);
+        mark(marks, e + 1, w);
+        mark(marks, argument, w);
+        return;
     }
-    if 8 < op {
-        let k = base::wide(fix[e]);
-        let low = triples::minima(w, bit8(k));
-        return marked(marks, e + 1, low);
+    if op <= 8 {
+        return;
     }
-    marks
+    let k = base::wide(fix[e]);
+    let low = triples::minima(w, bit8(k));
+    mark(marks, e + 1, low);
 }
 
-// The marks with those that each subformula passes on, taken in rising order.
-fn passed(rows: &[u8; 144], count: usize, fix: &[u8; 48], choice: u64, marks: [u8; 48]) -> [u8; 48]
+// Marks what each subformula passes on, taken in rising order.
+fn passed(rows: &[u8; 144], count: usize, fix: &[u8; 48], choice: u64, marks: &mut [u8; 48])
     requires { ⌜ Limited (now rows) count ⌝ }
     requires { ⌜ Ranked (fix-rank (now rows)) count (now fix) ⌝ }
-    ensures { λ r. ⌜ Swept-marks (now (rows .entry)) count choice marks r ⌝ }
+    ensures { λ r. ⌜ Swept-marks (now (rows .entry)) count choice (now (marks .entry)) (now (marks .exit)) ⌝ }
 {
-    let mut w = marks;
     let mut e = 0;
     while e < count {
-        let v = passing(rows, fix, choice, e, w);
-        w = v;
+        passing(rows, fix, choice, e, marks);
         e += 1;
     }
-    w
 }
 
 fn same48(a: &[u8; 48], b: &[u8; 48]) -> bool
@@ -138,82 +141,76 @@ fn reaching(rows: &[u8; 144], count: usize, fix: &[u8; 48], choice: u64, f: usiz
     w[f] = 128;
     let mut left = 8 * count;
     while 0 < left {
-        let grown = passed(rows, count, fix, choice, w);
-        if same48(&grown, &w) {
+        let old = w;
+        passed(rows, count, fix, choice, &mut w);
+        if same48(&old, &w) {
             return w;
         }
-        w = grown;
         left -= 1;
     }
     w
 }
 
-// The byte (f, g), where the opcode is that of next.
-fn placed(t: [u8; 144], op: u8, f: usize, g: usize, w: u8) -> [u8; 144]
-    requires { ⌜ (f < 12) × (op ≡ 8 → g < 12) ⌝ }
-    ensures { λ r. ⌜ (op ≡ 8 → r ≡ set t (f * 12 + g) w) × ((op ≡ 8 → ⊥) → r ≡ t) ⌝ }
+// Stores the byte (f, g), where the opcode is that of next.
+fn place(t: &mut [u8], op: u8, f: usize, g: usize, w: u8)
+    requires { ⌜ (f < 12) × (op ≡ 8 → f * 12 + g < length (now t)) ⌝ }
+    ensures { λ r. ⌜ (op ≡ 8 → now (t .exit) ≡ set (now (t .entry)) (f * 12 + g) w) × ((op ≡ 8 → ⊥) → now (t .exit) ≡ now (t .entry)) ⌝ }
 {
-    if op == 8 {
-        let mut u = t;
-        u[f * 12 + g] = w;
-        return u;
+    if op != 8 {
+        return;
     }
-    t
+    t[f * 12 + g] = w;
 }
 
-// Row f of the triples: the marks of each next.
+// Fills row f of the triples: the marks of each next.
 fn triple_row(
     rows: &[u8; 144],
     count: usize,
     next: &[u8; 48],
     f: usize,
     marks: &[u8; 48],
-    t: [u8; 144],
-) -> [u8; 144]
+    t: &mut [u8; 144],
+)
     requires { ⌜ Limited (now rows) count ⌝ }
     requires { ⌜ Ranked (next-rank (now rows)) count (now next) ⌝ }
     requires { ⌜ f < 12 ⌝ }
-    ensures { λ r. ⌜ Row-of (now (rows .entry)) (now (marks .entry)) count f r ⌝ }
-    ensures { λ r. ⌜ Other-rows f t r ⌝ }
+    ensures { λ r. ⌜ Row-of (now (rows .entry)) (now (marks .entry)) count f (now (t .exit)) ⌝ }
+    ensures { λ r. ⌜ Other-rows f (now (t .entry)) (now (t .exit)) ⌝ }
 {
-    let mut u = t;
     let mut e = 0;
     while e < count {
-        let g = base::wide(next[e]);
-        let v = placed(u, rows[e], f, g, marks[e]);
-        u = v;
+        place(t, rows[e], f, base::wide(next[e]), marks[e]);
         e += 1;
     }
-    u
 }
 
-// The row of subformula e too, where it is a next whose operand is in the node.
+// Fills the row of subformula e, where it is a next whose operand is in the node.
 fn with_row(
     rows: &[u8; 144],
     count: usize,
-    r: Ranks,
+    next: &[u8; 48],
+    fix: &[u8; 48],
     choice: u64,
     node: u64,
     e: usize,
-    t: [u8; 144],
-) -> [u8; 144]
+    t: &mut [u8; 144],
+)
     requires { ⌜ Limited (now rows) count ⌝ }
-    requires { ⌜ Ranks-of (now rows) count r ⌝ }
+    requires { ⌜ Ranked (next-rank (now rows)) count (now next) ⌝ }
+    requires { ⌜ Ranked (fix-rank (now rows)) count (now fix) ⌝ }
     requires { ⌜ e < count ⌝ }
-    requires { ⌜ Done-to (now rows) count choice node e t ⌝ }
-    ensures { λ u. ⌜ Done-to (now (rows .entry)) count choice node (e + 1) u ⌝ }
+    requires { ⌜ Done-to (now rows) count choice node e (now t) ⌝ }
+    ensures { λ r. ⌜ Done-to (now (rows .entry)) count choice node (e + 1) (now (t .exit)) ⌝ }
 {
     if rows[e] != 8 {
-        return t;
+        return;
     }
     if !base::has(node, e + 1) {
-        return t;
+        return;
     }
-    let next = r.next;
-    let fix = r.fix;
     let f = base::wide(next[e]);
-    let w = reaching(rows, count, &fix, choice, e + 1);
-    triple_row(rows, count, &next, f, &w, t)
+    let w = reaching(rows, count, fix, choice, e + 1);
+    triple_row(rows, count, next, f, &w, t);
 }
 
 // The triples of the transition of a node under a choice.
@@ -222,11 +219,12 @@ pub fn triples_of(rows: &[u8; 144], count: usize, r: Ranks, choice: u64, node: u
     requires { ⌜ Ranks-of (now rows) count r ⌝ }
     ensures { λ t. ⌜ Triples-of (now (rows .entry)) count choice node t ⌝ }
 {
+    let next = r.next;
+    let fix = r.fix;
     let mut t = [0u8; 144];
     let mut e = 0;
     while e < count {
-        let u = with_row(rows, count, r, choice, node, e, t);
-        t = u;
+        with_row(rows, count, &next, &fix, choice, node, e, &mut t);
         e += 1;
     }
     t

@@ -9,21 +9,25 @@ use Rattle.traces.proofs.passed.Statement.{statement}
 use Rattle.traces.proofs.passed.Tie as tie
 
 abbrev Inv-loop : tie.InvT-loop
-Inv-loop rows count fix choice w₀ e₀ w e = (e ≤ count) × Sweeping rows count e choice w₀ w
+Inv-loop rows count fix choice marks₀ e₀ marks e = (e ≤ count) × Sweeping rows count e choice marks₀ marks
 
 abbrev μ-loop : tie.MeasureT-loop
-μ-loop rows count fix choice w₀ e₀ w e = count - e
+μ-loop rows count fix choice marks₀ e₀ marks e = count - e
 
 loop-holds : tie.Need-loop-holds Inv-loop μ-loop
-loop-holds c = (omega arith, swept-start (c .args .rows .now) (c .args .count) (c .args .choice) (c .args .marks))
+loop-holds c = (omega arith, swept-start (c .args .rows .now) (c .args .count) (c .args .choice) (c .args .marks .now))
 
 passing-requires : tie.Need-passing-requires Inv-loop μ-loop
 passing-requires c κs =
-    let start = c .before .before in
-    let loop = c .before .loop in (
-      placed (start .pre .0 .formed) (c .loop-test .taken),
-      λ o. omega
-          (arith, start .pre .1 (loop .e) (c .loop-test .taken), fix-small (start .pre .0) (loop .e) (c .loop-test .taken) o),
+    let at-test = c .before in
+    let loop = at-test .before .loop in
+    let start = at-test .before .before in (
+      placed (start .pre .0 .formed) (at-test .loop-test .taken),
+      λ o. omega (
+        arith,
+        start .pre .1 (loop .e) (at-test .loop-test .taken),
+        fix-small (start .pre .0) (loop .e) (at-test .loop-test .taken) o,
+      ),
     )
 
 add-e : tie.Need-add-e Inv-loop μ-loop
@@ -34,21 +38,21 @@ loop-less c = search needs
 
 loop-again : tie.Need-loop-again Inv-loop μ-loop
 loop-again c =
-    let start = c .before .before .before in
-    let loop = c .before .before .loop in (
+    let at-test = c .before .before in
+    let loop = at-test .before .loop in
+    let start = at-test .before .before in
+    let known = opcodes (start .pre .0 .formed) (loop .e) (at-test .loop-test .taken) in (
       omega arith,
-      swept-more (start .args .rows .now) (start .args .count) (start .args .choice) (start .args .marks) (loop .e) _ (loop .w)
-          (c .passing .result) (c .before .loop-test .taken) (start .pre .0 .formed .few)
-          (opcodes (start .pre .0 .formed) (loop .e) (c .before .loop-test .taken) .0)
-          (opcodes (start .pre .0 .formed) (loop .e) (c .before .loop-test .taken) .1)
-          (start .pre .1 (loop .e) (c .before .loop-test .taken)) (loop .inv .1) (c .passing .ensures),
+      swept-more (start .args .rows .now) (start .args .count) (start .args .choice) (start .args .marks .now) (loop .e) _ (loop .marks)
+          (c .passing .last .1 .1 .1 .1 .0) (at-test .loop-test .taken) (start .pre .0 .formed .few) (known .0) (known .1)
+          (start .pre .1 (loop .e) (at-test .loop-test .taken)) (loop .inv .1) (c .passing .ensures),
     )
 
 returns : tie.Need-returns Inv-loop μ-loop
 returns c =
-    let start = c .before .before in
     let loop = c .before .loop in
-    swept-end (start .args .rows .now) (start .args .count) (start .args .choice) (start .args .marks) (loop .e) (loop .w)
+    let start = c .before .before in
+    swept-end (start .args .rows .now) (start .args .count) (start .args .choice) (start .args .marks .now) (loop .e) (loop .marks)
     (c .loop-test .left) (loop .inv .1)
 
 pub passed-spec : {M : Type 1} → statement M

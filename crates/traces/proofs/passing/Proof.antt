@@ -1,13 +1,25 @@
--- `traces::passing` marks the operands to which the moves of subformula e go: a look at each opcode.
+-- `traces::passing` marks the operands to which the moves of subformula e go. Without marks there is nothing to pass on (`pass-blank`);
+-- else a look at each opcode. That an operand is among the marks, `mark` asks of the slice that it is lent, whose length each loan tells.
 use mathlib.Core.Path.{refl, sym, _∙_}
 use mathlib.Core.Bool.{true, false}
 use Prim.Native.Nat.{_+_}
 use native.Mathlib.Omega.{arith}
 use borrow.Author.Needs.{needs}
+use lib.ListN.{getD}
 use Rattle.base.specs.Bits.{bit}
-use Rattle.traces.proofs.MarkLaws.{pass-5, pass-6, pass-7, pass-none, pass-fix}
+use Rattle.formula.specs.Rows.{operator-at}
+use Rattle.traces.proofs.MarkLaws.{argument-in, first-in, pass-blank, pass-5, pass-6, pass-7, pass-none, pass-fix}
 use Rattle.traces.proofs.passing.Statement.{statement}
 use Rattle.traces.proofs.passing.Tie as tie
+
+element-copy-out-w : tie.Need-element-copy-out-w
+element-copy-out-w c = search needs
+
+returns : tie.Need-returns
+returns c =
+    let start = c .before .before in
+    pass-blank (operator-at (start .args .rows .now) (start .args .e)) (bit (start .args .choice) (start .args .e)) (start .args .e)
+    (getD (start .args .fix .now) (start .args .e) 0) (start .args .marks .now) (c .if1 .taken)
 
 element-copy-out-op : tie.Need-element-copy-out-op
 element-copy-out-op c = search needs
@@ -21,87 +33,90 @@ element-copy-out-wide c = search needs
 wide-requires : tie.Need-wide-requires
 wide-requires c κs = search needs
 
-array-read-w : tie.Need-array-read-w
-array-read-w c = search needs
+mark-requires : tie.Need-mark-requires
+mark-requires c κs =
+    let at-wide = c .before .before in
+    let start = at-wide .before .before .before .before .before in
+    argument-in (start .pre .0 .row) (c .mark-arg .given .0 .1) (omega (arith, c .before .if2 .taken))
+    (omega (arith, c .before .if2 .taken)) (at-wide .wide .ensures)
 
-marked-requires : tie.Need-marked-requires
-marked-requires c κs =
-    let start = c .before .before .before .before in
-    omega (
-      arith,
-      c .before .wide .ensures,
-      start .pre .0 .row .argument-below (omega (arith, c .if1 .taken))
-          (omega (arith, c .if1 .taken)),
-    )
-
-returns : tie.Need-returns
-returns c =
-    let start = c .before .before .before .before .before in
-    pass-5 _ _ (start .args .e) (bit (start .args .choice) (start .args .e)) _ (start .args .t5) (c .marked .result)
-    (c .before .before .wide .result) (c .before .before .wide .ensures) (c .before .if1 .taken) (c .marked .ensures)
+returns-2 : tie.Need-returns-2
+returns-2 c =
+    let at-wide = c .before .before .before in
+    let start = at-wide .before .before .before .before .before in
+    pass-5 _ _ (start .args .e) _ _ (start .args .marks .now) (c .mark .last .0) (at-wide .wide .result) (at-wide .wide .ensures)
+    (c .before .before .if2 .taken) (c .mark .ensures)
 
 has-requires : tie.Need-has-requires
 has-requires c κs = search needs
 
-marked-requires-2 : tie.Need-marked-requires-2
-marked-requires-2 c κs =
-    let start = c .before .before .before .before .before .before .before in
-    omega (
-      arith,
-      c .before .before .before .before .wide .ensures,
-      start .pre .0 .row .argument-below
-          (omega (arith, c .before .before .if2 .taken)) (omega (arith, c .before .before .if2 .taken)),
-    )
-
-returns-2 : tie.Need-returns-2
-returns-2 c =
-    let start = c .before .before .before .before .before .before .before .before in
-    pass-6 _ _ (start .args .e) (bit (start .args .choice) (start .args .e)) _ (start .args .t5) (c .marked2 .result)
-    (c .before .before .before .before .before .wide .result) (c .before .before .before .before .before .wide .ensures)
-    (c .before .before .before .if2 .taken) true (sym (c .before .before .has .ensures) ∙ c .before .if3 .taken)
-    (c .before .before .before .before .before .wide .result) (c .before .before .before .before .before .wide .ensures)
-    (c .marked2 .ensures)
-
-add-marked : tie.Need-add-marked
-add-marked c = search needs
-
-marked-requires-3 : tie.Need-marked-requires-3
-marked-requires-3 c κs =
-    let start = c .before .before .before .before .before .before .before in
-    start .pre .0 .row .first-below (omega (arith, c .before .before .if2 .taken))
+mark-requires-2 : tie.Need-mark-requires-2
+mark-requires-2 c κs =
+    let at-or = c .before .before .before in
+    let at-wide = at-or .before .before in
+    let start = at-wide .before .before .before .before .before in
+    argument-in (start .pre .0 .row) (c .mark-arg2 .given .0 .1) (omega (arith, at-or .if3 .taken))
+    (omega (arith, at-or .if3 .taken)) (at-wide .wide .ensures)
 
 returns-3 : tie.Need-returns-3
 returns-3 c =
-    let start = c .before .before .before .before .before .before .before .before in
-    pass-6 _ _ (start .args .e) (bit (start .args .choice) (start .args .e)) _ (start .args .t5) (c .marked3 .result)
-    (c .before .before .before .before .before .wide .result) (c .before .before .before .before .before .wide .ensures)
-    (c .before .before .before .if2 .taken) false (sym (c .before .before .has .ensures) ∙ c .before .if3 .left) (start .args .e + 1)
-    refl (c .marked3 .ensures)
+    let at-has = c .before .before .before in
+    let at-wide = at-has .before .before .before in
+    let start = at-wide .before .before .before .before .before in
+    pass-6 _ _ (start .args .e) _ _ (start .args .marks .now) (c .mark2 .last .0) (at-wide .wide .result) (at-wide .wide .ensures)
+    (at-has .before .if3 .taken) true (sym (at-has .has .ensures) ∙ c .before .before .if4 .taken) (at-wide .wide .result)
+    (at-wide .wide .ensures) (c .mark2 .ensures)
 
-add-marked-2 : tie.Need-add-marked-2
-add-marked-2 c = search needs
+add-mark : tie.Need-add-mark
+add-mark c = search needs
 
-marked-requires-4 : tie.Need-marked-requires-4
-marked-requires-4 c κs =
-    let start = c .before .before .before .before .before .before in
-    start .pre .0 .row .first-below (omega (arith, c .if4 .taken))
-
-marked-requires-5 : tie.Need-marked-requires-5
-marked-requires-5 c κs =
-    let start = c .before .before .before .before .before .before .before in
-    omega (
-      arith,
-      c .before .before .before .before .wide .ensures,
-      start .pre .0 .row .argument-below
-          (omega (arith, c .before .if4 .taken)) (omega (arith, c .before .if4 .taken)),
-    )
+mark-requires-3 : tie.Need-mark-requires-3
+mark-requires-3 c κs =
+    let at-or = c .before .before .before in
+    let start = at-or .before .before .before .before .before .before .before in
+    first-in (start .pre .0 .row) (c .mark-arg3 .given .0 .1) (omega (arith, at-or .if3 .taken))
 
 returns-4 : tie.Need-returns-4
 returns-4 c =
-    let start = c .before .before .before .before .before .before .before .before in
-    pass-7 _ _ (start .args .e) (bit (start .args .choice) (start .args .e)) _ (start .args .t5) (c .marked5 .result)
-    (c .before .before .before .before .before .wide .result) (c .before .before .before .before .before .wide .ensures)
-    (c .before .before .if4 .taken) (c .before .marked4 .result) (c .before .marked4 .ensures) (c .marked5 .ensures)
+    let at-has = c .before .before .before in
+    let at-wide = at-has .before .before .before in
+    let start = at-wide .before .before .before .before .before in
+    pass-6 _ _ (start .args .e) _ _ (start .args .marks .now) (c .mark3 .last .0) (at-wide .wide .result) (at-wide .wide .ensures)
+    (at-has .before .if3 .taken) false (sym (at-has .has .ensures) ∙ c .before .before .if4 .left) (start .args .e + 1) refl
+    (c .mark3 .ensures)
+
+add-mark-2 : tie.Need-add-mark-2
+add-mark-2 c = search needs
+
+mark-requires-4 : tie.Need-mark-requires-4
+mark-requires-4 c κs =
+    let at-and = c .before in
+    let start = at-and .before .before .before .before .before .before .before .before in
+    first-in (start .pre .0 .row) (c .mark-arg4 .given .0 .1) (omega (arith, at-and .if5 .taken))
+
+mark-requires-5 : tie.Need-mark-requires-5
+mark-requires-5 c κs =
+    let at-and = c .before .before .before in
+    let at-wide = at-and .before .before .before in
+    let start = at-wide .before .before .before .before .before in
+    argument-in (start .pre .0 .row) (c .mark-arg5 .given .0 .1) (omega (arith, at-and .if5 .taken))
+    (omega (arith, at-and .if5 .taken)) (at-wide .wide .ensures)
+
+returns-5 : tie.Need-returns-5
+returns-5 c =
+    let at-first = c .before .before in
+    let at-and = at-first .before .before in
+    let at-wide = at-and .before .before .before in
+    let start = at-wide .before .before .before .before .before in
+    pass-7 _ _ (start .args .e) _ _ (start .args .marks .now) (c .mark5 .last .0) (at-wide .wide .result) (at-wide .wide .ensures)
+    (at-and .if5 .taken) (at-first .mark4 .last .0) (at-first .mark4 .ensures) (c .mark5 .ensures)
+
+returns-6 : tie.Need-returns-6
+returns-6 c =
+    let start = c .before .before .before .before .before .before .before .before .before in
+    pass-none _ _ (start .args .e) _ _ (start .args .marks .now) (start .args .marks .now) (start .pre .0 .row .some)
+    (c .if6 .taken) (c .before .before .before .if2 .left) (c .before .before .if3 .left) (c .before .if5 .left)
+    (λ n l. refl)
 
 element-copy-out-wide-2 : tie.Need-element-copy-out-wide-2
 element-copy-out-wide-2 c = search needs
@@ -111,61 +126,60 @@ wide-requires-2 c κs = search needs
 
 bit8-requires : tie.Need-bit8-requires
 bit8-requires c κs =
-    let start = c .before .before .before .before .before .before .before .before .before in
-    omega (arith, c .wide2 .ensures, start .pre .1 (c .before .before .if5 .taken))
+    let at-fix = c .before .before in
+    let start = at-fix .before .before .before .before .before .before .before .before .before in
+    omega (arith, c .wide2 .ensures, start .pre .1 (at-fix .if6 .left))
 
 minima-requires : tie.Need-minima-requires
 minima-requires c κs = search needs
 
-add-marked-3 : tie.Need-add-marked-3
-add-marked-3 c = search needs
+add-mark-3 : tie.Need-add-mark-3
+add-mark-3 c = search needs
 
-marked-requires-6 : tie.Need-marked-requires-6
-marked-requires-6 c κs =
-    let start = c .before .before .before .before .before .before .before .before .before .before .before in
-    start .pre .0 .row .first-below (omega (arith, c .before .before .before .before .if5 .taken))
+mark-requires-6 : tie.Need-mark-requires-6
+mark-requires-6 c κs =
+    let at-fix = c .before .before .before .before .before in
+    let start = at-fix .before .before .before .before .before .before .before .before .before in
+    first-in (start .pre .0 .row) (c .mark-arg6 .given .0 .1) (omega (arith, at-fix .if6 .left))
 
-returns-5 : tie.Need-returns-5
-returns-5 c =
-    let start = c .before .before .before .before .before .before .before .before .before .before .before .before in
-    pass-fix _ _ (start .args .e) (bit (start .args .choice) (start .args .e)) _ (start .args .t5) (c .marked6 .result)
-    (c .before .before .before .before .before .if5 .taken) (start .pre .0 .row .known) (c .before .before .before .wide2 .result)
-    (c .before .before .bit8 .result) (c .before .minima .result) (c .before .before .before .wide2 .ensures)
-    (c .before .before .bit8 .ensures) (c .before .minima .ensures) (c .marked6 .ensures)
-
-returns-6 : tie.Need-returns-6
-returns-6 c =
-    let start = c .before .before .before .before .before .before .before in
-    pass-none _ _ (start .args .e) (bit (start .args .choice) (start .args .e)) _ (start .args .t5) (start .args .t5)
-    (start .pre .0 .row .some) (omega (arith, c .if5 .left)) (c .before .before .before .if1 .left) (c .before .before .if2 .left)
-    (c .before .if4 .left) (λ n l. refl)
+returns-7 : tie.Need-returns-7
+returns-7 c =
+    let at-minima = c .before .before in
+    let at-bit8 = at-minima .before in
+    let at-rank = at-bit8 .before in
+    let at-fix = at-rank .before .before in
+    let start = at-fix .before .before .before .before .before .before .before .before .before in
+    pass-fix _ _ (start .args .e) _ _ (start .args .marks .now) (c .mark6 .last .0) (at-fix .if6 .left) (start .pre .0 .row .known)
+    (at-rank .wide2 .result) (at-bit8 .bit8 .result) (at-minima .minima .result) (at-rank .wide2 .ensures) (at-bit8 .bit8 .ensures)
+    (at-minima .minima .ensures) (c .mark6 .ensures)
 
 pub passing-spec : {M : Type 1} → statement M
 passing-spec =
     tie.close
     (tie.spec
+    element-copy-out-w
+    returns
     element-copy-out-op
     add-wide
     element-copy-out-wide
     wide-requires
-    array-read-w
-    marked-requires
-    returns
-    has-requires
-    marked-requires-2
+    mark-requires
     returns-2
-    add-marked
-    marked-requires-3
+    has-requires
+    mark-requires-2
     returns-3
-    add-marked-2
-    marked-requires-4
-    marked-requires-5
+    add-mark
+    mark-requires-3
     returns-4
+    add-mark-2
+    mark-requires-4
+    mark-requires-5
+    returns-5
+    returns-6
     element-copy-out-wide-2
     wide-requires-2
     bit8-requires
     minima-requires
-    add-marked-3
-    marked-requires-6
-    returns-5
-    returns-6)
+    add-mark-3
+    mark-requires-6
+    returns-7)

@@ -36,10 +36,11 @@ same48-requires c κs = search needs
 
 returns : tie.Need-returns Inv-loop μ-loop
 returns c =
-    let start = c .before .before .before .before .before .before .before in
-    let loop = c .before .before .before .before .before .before .loop in
-    reach-still (start .args .rows .now) (start .args .count) (start .args .choice) (start .args .f) (loop .left) (loop .w)
-    (c .before .before .before .before .passed .result) (loop .inv .1) (c .before .before .before .before .passed .ensures)
+    let at-passed = c .before .before .before .before in
+    let at-loop = at-passed .before .before .before in
+    let start = at-loop .before in
+    reach-still (start .args .rows .now) (start .args .count) (start .args .choice) (start .args .f) (at-loop .loop .left)
+    (at-loop .loop .w) (at-passed .passed .last .1 .1 .1 .1 .0) (at-loop .loop .inv .1) (at-passed .passed .ensures)
     (λ i h. c .before .same48 .ensures (c .if1 .taken) i (omega (arith, start .pre .0 .formed .few)))
 
 sub-left : tie.Need-sub-left Inv-loop μ-loop
@@ -50,18 +51,19 @@ loop-less c = search needs
 
 loop-again : tie.Need-loop-again Inv-loop μ-loop
 loop-again c =
-    let start = c .before .before .before .before .before .before .before in
-    let loop = c .before .before .before .before .before .before .loop in (
+    let at-passed = c .before .before .before .before in
+    let at-loop = at-passed .before .before .before in
+    let start = at-loop .before in (
       omega arith,
-      reach-more (start .args .rows .now) (start .args .count) (start .args .choice) (start .args .f) (loop .left) (loop .w)
-          (c .before .before .before .before .passed .result) (omega arith) (loop .inv .1)
-          (c .before .before .before .before .passed .ensures),
+      reach-more (start .args .rows .now) (start .args .count) (start .args .choice) (start .args .f) (at-loop .loop .left)
+          (at-loop .loop .w) (at-passed .passed .last .1 .1 .1 .1 .0) (omega arith) (at-loop .loop .inv .1)
+          (at-passed .passed .ensures),
     )
 
 returns-2 : tie.Need-returns-2 Inv-loop μ-loop
 returns-2 c =
-    let start = c .before .before in
     let loop = c .before .loop in
+    let start = c .before .before in
     reach-end (start .args .rows .now) (start .args .count) (start .args .choice) (start .args .f) (loop .left) (loop .w)
     (omega arith) (loop .inv .1)
 

@@ -9,18 +9,20 @@ use Rattle.traces.proofs.triples_of.Statement.{statement}
 use Rattle.traces.proofs.triples_of.Tie as tie
 
 abbrev Inv-loop : tie.InvT-loop
-Inv-loop rows count r choice node t₀ e₀ t e = (e ≤ count) × Done-to rows count choice node e t
+Inv-loop rows count choice node next fix t₀ e₀ t e = (e ≤ count) × Done-to rows count choice node e t
 
 abbrev μ-loop : tie.MeasureT-loop
-μ-loop rows count r choice node t₀ e₀ t e = count - e
+μ-loop rows count choice node next fix t₀ e₀ t e = count - e
 
 loop-holds : tie.Need-loop-holds Inv-loop μ-loop
 loop-holds c = (omega arith, ((λ v w nv cw i d h. absurd (omega arith)), λ i h k. getD-replicate 144 i 0 0 k))
 
 with-row-requires : tie.Need-with-row-requires Inv-loop μ-loop
 with-row-requires c κs =
-    let start = c .before .before in
-    (start .pre .0, (start .pre .1, (c .loop-test .taken, c .before .loop .inv .1)))
+    let at-test = c .before .before .before in
+    let at-loop = at-test .before in
+    let start = at-loop .before .before .before in
+    (start .pre .0, (start .pre .1 .next-is, (start .pre .1 .fix-is, (at-test .loop-test .taken, at-loop .loop .inv .1))))
 
 add-e : tie.Need-add-e Inv-loop μ-loop
 add-e c = search needs
@@ -33,8 +35,8 @@ loop-again c = (omega arith, c .with-row .ensures)
 
 returns : tie.Need-returns Inv-loop μ-loop
 returns c =
-    let start = c .before .before in
     let loop = c .before .loop in
+    let start = c .before .before .before .before in
     all-done (start .args .rows .now) (start .args .count) (start .args .choice) (start .args .node) (loop .t) (start .pre .0)
     (λ v w nv cw i d h. loop .inv .1 .0 v w nv cw i d (omega arith))
 

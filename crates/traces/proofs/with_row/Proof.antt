@@ -15,8 +15,11 @@ element-copy-out-if1 c = search needs
 returns : tie.Need-returns
 returns c =
     let start = c .before .before in
+    let limited = start .pre .0 in
+    let in-table = start .pre .1 .1 .1 .0 in
+    let done = start .pre .1 .1 .1 .1 in
     skip-other (start .args .rows .now) (start .args .count) (start .args .choice) (start .args .node) (start .args .e)
-    (start .args .t) (start .pre .0) (start .pre .1 .1 .0) (start .pre .1 .1 .1) (c .if1 .taken)
+    (start .args .t .now) limited in-table done (c .if1 .taken)
 
 add-has : tie.Need-add-has
 add-has c = search needs
@@ -26,13 +29,16 @@ has-requires c κs = search needs
 
 returns-2 : tie.Need-returns-2
 returns-2 c =
-    let start = c .before .before .before .before in
+    let at-has = c .before in
+    let start = at-has .before .before .before in
+    let limited = start .pre .0 in
+    let in-table = start .pre .1 .1 .1 .0 in
+    let done = start .pre .1 .1 .1 .1 in
     skip-absent (start .args .rows .now) (start .args .count) (start .args .choice) (start .args .node) (start .args .e)
-    (start .args .t) (start .pre .0) (start .pre .1 .1 .0) (start .pre .1 .1 .1) (c .before .before .if1 .left)
-    (sym (c .before .has .ensures) ∙ not-true _ (c .if2 .taken))
+    (start .args .t .now) limited in-table done (at-has .before .if1 .left) (sym (at-has .has .ensures) ∙ not-true _ (c .if2 .taken))
 
-array-read-wide : tie.Need-array-read-wide
-array-read-wide c = search needs
+element-copy-out-wide : tie.Need-element-copy-out-wide
+element-copy-out-wide c = search needs
 
 wide-requires : tie.Need-wide-requires
 wide-requires c κs = search needs
@@ -42,42 +48,49 @@ add-reaching c = search needs
 
 reaching-requires : tie.Need-reaching-requires
 reaching-requires c κs =
-    let start = c .before .before .before .before .before .before .before .before in (
-      start .pre .0,
-      (
-        start .pre .1 .0 .fix-is,
-        placed (start .pre .0 .formed) (start .pre .1 .1 .0) .row .first-below
-            (omega (arith, c .before .before .before .before .before .before .if1 .left)),
-      ),
-    )
+    let at-next = c .before .before .before .before in
+    let start = at-next .before .before in
+    let limited = start .pre .0 in
+    let fix-is = start .pre .1 .1 .0 in
+    let in-table = start .pre .1 .1 .1 .0 in
+    (limited, (fix-is, placed (limited .formed) in-table .row .first-below (omega (arith, at-next .if1 .left))))
 
 triple-row-requires : tie.Need-triple-row-requires
 triple-row-requires c κs =
-    let start = c .before .before .before .before .before .before .before .before .before .before .before in (
-      start .pre .0,
+    let at-wide = c .before .before .before in
+    let at-next = at-wide .before .before .before .before in
+    let start = at-next .before .before in
+    let limited = start .pre .0 in
+    let next-is = start .pre .1 .0 in
+    let in-table = start .pre .1 .1 .1 .0 in (
+      limited,
       (
-        start .pre .1 .0 .next-is,
+        next-is,
         omega (
           arith,
-          c .before .before .before .before .wide .ensures,
-          start .pre .1 .0 .next-is (start .args .e) (start .pre .1 .1 .0),
-          next-small (start .pre .0) (start .args .e) (start .pre .1 .1 .0)
-              (c .before .before .before .before .before .before .before .before .before .if1 .left),
+          at-wide .wide .ensures,
+          next-is (start .args .e) in-table,
+          next-small limited (start .args .e) in-table (at-next .if1 .left),
         ),
       ),
     )
 
 returns-3 : tie.Need-returns-3
 returns-3 c =
-    let start = c .before .before .before .before .before .before .before .before .before .before .before .before in
-    put-row (start .args .rows .now) (start .args .count) (start .args .choice) (start .args .node) (start .args .e) (start .args .t)
-    (start .pre .0) (start .pre .1 .1 .0) (start .pre .1 .1 .1)
-    (c .before .before .before .before .before .before .before .before .before .before .if1 .left)
-    (c .before .before .before .reaching .result) (c .triple-row .result) (c .before .before .before .before .before .wide .result)
-    (c .before .before .before .before .before .wide .ensures ∙ start .pre .1 .0 .next-is (start .args .e) (start .pre .1 .1 .0))
-    (sym (c .before .before .before .before .before .before .before .before .before .has .ensures) ∙ not-false _
-    (c .before .before .before .before .before .before .before .before .if2 .left)) (c .before .before .before .reaching .ensures)
-    (c .triple-row .ensures .0) (c .triple-row .ensures .1)
+    let at-reaching = c .before .before .before in
+    let at-wide = at-reaching .before in
+    let at-held = at-wide .before .before in
+    let at-has = at-held .before in
+    let start = at-has .before .before .before in
+    let limited = start .pre .0 in
+    let next-is = start .pre .1 .0 in
+    let in-table = start .pre .1 .1 .1 .0 in
+    let done = start .pre .1 .1 .1 .1 in
+    put-row (start .args .rows .now) (start .args .count) (start .args .choice) (start .args .node) (start .args .e)
+    (start .args .t .now) limited in-table done (at-has .before .if1 .left) (at-reaching .reaching .result)
+    (c .triple-row .last .1 .1 .1 .1 .1 .0) (at-wide .wide .result) (at-wide .wide .ensures ∙ next-is (start .args .e) in-table)
+    (sym (at-has .has .ensures) ∙ not-false _ (at-held .if2 .left)) (at-reaching .reaching .ensures) (c .triple-row .ensures .0)
+    (c .triple-row .ensures .1)
 
 pub with-row-spec : {M : Type 1} → statement M
 with-row-spec =
@@ -88,7 +101,7 @@ with-row-spec =
     add-has
     has-requires
     returns-2
-    array-read-wide
+    element-copy-out-wide
     wide-requires
     add-reaching
     reaching-requires
