@@ -37,7 +37,7 @@ use Rattle.coded.proofs.MatchLaws.{Follows, Matches, Thins, search-matc
 use Rattle.coded.proofs.ThinLaws.{all-of, adds-thin, Steps, gather-thins}
 
 -- the tests on coded profiles
-same-sound : (a b : Profile) → T (same-profile a b) → a ≡ b
+pub same-sound : (a b : Profile) → T (same-profile a b) → a ≡ b
 same-sound a b h =
     let u = eqb (a .first) (b .first) in
     let v = eqb (a .last) (b .last) in

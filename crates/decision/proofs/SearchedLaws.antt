@@ -30,8 +30,7 @@ use Rattle.runs.specs.Stored.{stored, Lent, Grown}
 use Rattle.runs.specs.Singles.{Given, nodes-in}
 use Rattle.runs.specs.declared.Shelf.{Shelf}
 use Rattle.coded.proofs.SpreadLaws.{spread-length}
-use Rattle.runs.proofs.RecordLaws.{changed-then}
-use Rattle.runs.proofs.GrowLaws.{grown-longer}
+use Rattle.runs.proofs.GrowLaws.{grown-longer, grown-on}
 use Rattle.runs.proofs.SingleLaws.{nodes-in-are, node-sets}
 use Rattle.decision.specs.Promise.{node-count, profile-count}
 use Rattle.decision.specs.Searched.{Decoded, Profiled, Answers, concluded, Within, Searched, Lends}
@@ -51,16 +50,9 @@ module _ (t : Table) (vs : List Subset) {s : Shelf} {a b : List ℕ} {one : ℕ}
       → (fuel : ℕ) → s .capacity < fuel → Grown s 0 a r d (profiles fuel t vs)
   unfolding profiles
   profiles-all {r} {d} h e f fuel l =
-      let k = f fuel l in
       let same : profiles-from fuel (s .n) (stored s b one) ≡ profiles fuel t vs =
       ap (λ (n : ℕ). profiles-from fuel n (stored s b one)) e ∙ ap (profiles-from fuel (length (operands t))) (g .records h) in
-      subst (Grown s 0 a r d) same
-      (record {
-        more = omega arith;
-        count-is = k .count-is;
-        records = k .records;
-        elsewhere = changed-then (g .elsewhere) (omega arith) (omega arith) (k .elsewhere);
-      })
+      subst (Grown s 0 a r d) same (grown-on g (f fuel l))
 
 -- What changes only before byte n.
 within-of : {n : ℕ} {a b : List ℕ} → length b ≡ length a → ((i : ℕ) → n ≤ i → getD b i 0 ≡ getD a i 0) → Within n a b
@@ -155,6 +147,7 @@ module _ {rows : List ℕ} {count N M buffer : ℕ} {a area : List ℕ} {known :
       record {
         next = omega (arith, b .nexts-are, b .ranks .nexts-are, limited .few-nexts);
         low = omega (arith, b .base-is, b .lends .few-nodes);
+        some = omega (arith, b .capacity-is, b .lends .some-profiles);
         few = omega (arith, b .capacity-is, b .lends .few-profiles);
         enough = omega (arith, b .base-is, ap (λ (k : ℕ). 192 * k) (b .capacity-is), b .lends .workspace-fits, e);
       }

@@ -1,11 +1,11 @@
--- The records of a shelf as a list: it grows at its end, stays while later bytes change, and a profile is known if its list has it
--- (`seen-more`, `seen-found`). What one profile more makes of it (`grown-known`, `grown-new`, `grown-full`), and what several make, one
--- after the other (`grown-then`). Once there is no room, whatever is still to come changes nothing (`grown-longer`), so a loop may stop
+-- The records of a shelf as a list: it grows at its end, stays while its records do, and a profile is known if its list has it
+-- (`seen-never`, `seen-found`). What one profile more makes of it (`grown-known`, `grown-new`, `grown-full`), and what several make, one
+-- after the other (`grown-on`, `grown-then`). Once there is no room, whatever is still to come changes nothing (`grown-longer`), so a loop may stop
 -- there; every loop that adds the lists of rising numbers goes by `turn-more` and `turn-stop`. Assumes nothing.
 use mathlib.Core.Path.{_≡_, refl, sym, ap, subst, _∙_}
 use mathlib.Core.Bool.{Bool, true, false, cond, _||_}
 use mathlib.Core.List.{List, [], _∷_, _++_, map, append-nil}
-use Prim.Native.Nat.{ℕ, _+_, _-_, _≤_, _<_}
+use Prim.Native.Nat.{ℕ, zero, suc, _+_, _-_, _≤_, _<_}
 use native.Mathlib.Nat.{zero-add}
 use native.Mathlib.Omega.{arith}
 use lib.ListN.{length, getD, length-append}
@@ -16,7 +16,7 @@ use Rattle.base.proofs.NumberLaws.{values-length, values-add, values-at, values
 use Rattle.coded.specs.Spread.{seen, add, adds}
 use Rattle.coded.specs.Runs.{Profile, Found, same-profile}
 use Rattle.runs.specs.declared.Shelf.{Shelf}
-use Rattle.runs.specs.Stored.{place, record-of, stored, Changed, Grown, Added}
+use Rattle.runs.specs.Stored.{place, record-of, stored, Changed, Chained, Grown, Added}
 use Rattle.runs.proofs.RecordLaws.{changed-none, changed-then, changed-wide, record-kept}
 use Rattle.coded.proofs.SpreadLaws.{adds-append, adds-length}
 
@@ -33,23 +33,29 @@ module _ (s : Shelf) (b : List ℕ) where
   unfolding stored
   stored-at k p d h = values-at (record-of s b) 0 k p d h ∙ ap (record-of s b) (zero-add p)
 
-  pub stored-kept : {a : List ℕ} {to : ℕ} (k : ℕ) → s .n ≤ 12 → Changed (place s k) to a b → stored s b k ≡ stored s a k
+  pub stored-kept : (a : List ℕ) (k : ℕ) → ((p : ℕ) → p < k → record-of s b p ≡ record-of s a p) → stored s b k ≡ stored s a k
   unfolding stored
-  stored-kept {a} k h c = values-same (record-of s b) (record-of s a) 0 k (λ p l m. record-kept c (s .n) (place s p) h (omega arith))
+  stored-kept a k h = values-same (record-of s b) (record-of s a) 0 k (λ p l m. h p (omega arith))
 
   -- whether a profile is known
   module _ (x : Profile) where
     abbrev is-known : ℕ → Bool
     is-known k = seen same-profile x (stored s b k)
 
-    pub seen-none : is-known 0 ≡ false
+    seen-none : is-known 0 ≡ false
     unfolding stored
     seen-none = refl
 
-    pub seen-more : (p : ℕ) → is-known p ≡ false → same-profile (record-of s b p .at) x ≡ false → is-known (p + 1) ≡ false
+    seen-more : (p : ℕ) → is-known p ≡ false → same-profile (record-of s b p .at) x ≡ false → is-known (p + 1) ≡ false
     seen-more p h e =
         ap (seen same-profile x) (stored-more p)
         ∙ any-append (λ (y : Found). same-profile (y .at) x) (stored s b p) (record-of s b p ∷ []) ∙ rw (h, e)
+
+    pub seen-never : (count : ℕ) → ((p : ℕ) → p < count → same-profile (record-of s b p .at) x ≡ false) → is-known count ≡ false
+    seen-never zero f = seen-none
+    seen-never (suc p) f =
+        ap (λ (k : ℕ). is-known k) {x = suc p} {y = p + 1} (omega arith)
+        ∙ seen-more p (seen-never p (λ q h. f q (omega arith))) (f p (omega arith))
 
     pub seen-found : (count p : ℕ) → p < count → same-profile (record-of s b p .at) x ≡ true → is-known count ≡ true
     unfolding stored
@@ -68,34 +74,45 @@ module _ (s : Shelf) (b : List ℕ) where
         same y = same-profile (y .at) x
 
 -- the list grows
-module _ (s : Shelf) (count : ℕ) (a : List ℕ) where
+module _ (s : Shelf) (count : ℕ) (a : List ℕ) (h : count ≤ s .capacity) (c : Chained s a count) where
   abbrev before : List Found
   before = stored s a count
 
-  pub grown-still : count ≤ s .capacity → Grown s count a count a before
-  grown-still h = record {
+  pub grown-still : Grown s count a count a before
+  grown-still = record {
     more = omega arith;
     count-is = omega (arith, stored-length s a count);
     records = λ l. refl;
-    elsewhere = changed-none (place s count) (place s (s .capacity)) a;
+    chained = λ l. c;
+    kept = λ p l. refl;
+    elsewhere = changed-none (s .base) (place s (s .capacity)) a;
   }
 
   -- one profile more
-  module _ (x : Found) (h : count ≤ s .capacity) where
+  module _ (x : Found) where
     abbrev new : Bool → List Found
     new known = cond known before (before ++ (x ∷ []))
 
     pub grown-known : true ≡ seen same-profile (x .at) before → Grown s count a count a (add same-profile before x)
-    grown-known e = subst (λ (known : Bool). Grown s count a count a (new known)) e (grown-still h)
+    grown-known e = subst (λ (known : Bool). Grown s count a count a (new known)) e grown-still
 
-    pub grown-new : (b : List ℕ) → s .n ≤ 12 → false ≡ seen same-profile (x .at) before → count < s .capacity → record-of s b count ≡ x
-        → Changed (place s count) (place s count + 192) a b → Grown s count a (count + 1) b (add same-profile before x)
-    grown-new b n e l q c =
+    -- its record makes w of the area, and its chain b
+    pub grown-new : {w b : List ℕ} → s .n ≤ 12 → false ≡ seen same-profile (x .at) before → count < s .capacity → record-of s w count ≡ x
+        → Changed (place s count) (place s count + 152) a w → Chained s b (count + 1) → ((p : ℕ) → record-of s b p ≡ record-of s w p)
+        → Changed (s .base) (place s (s .capacity)) w b → Grown s count a (count + 1) b (add same-profile before x)
+    grown-new {w} {b} n e l q u d r v =
+        let same : (p : ℕ) → p < count → record-of s b p ≡ record-of s a p =
+        λ p m. r p ∙ record-kept u (s .n) (place s p) n (λ i j. omega arith) in
         subst (λ (known : Bool). Grown s count a (count + 1) b (new known)) e (record {
           more = omega arith;
           count-is = omega (arith, stored-length s a count, length-append before (x ∷ []));
-          records = λ m. stored-more s b count ∙ ap (λ (l : List Found). l ++ (record-of s b count ∷ [])) (stored-kept s b count n c) ∙ ap (λ (y : Found). before ++ (y ∷ [])) q;
-          elsewhere = changed-wide c (omega arith) (omega arith);
+          records = λ m.
+              stored-more s b count
+              ∙ ap (λ (l : List Found). l ++ (record-of s b count ∷ [])) (stored-kept s b a count same)
+              ∙ ap (λ (y : Found). before ++ (y ∷ [])) (r count ∙ q);
+          chained = λ m. d;
+          kept = same;
+          elsewhere = changed-then (changed-wide u (omega arith) (omega arith)) (omega arith) (omega arith) v;
         })
 
     pub grown-full : false ≡ seen same-profile (x .at) before → s .capacity ≤ count → Grown s count a (count + 1) a (add same-profile before x)
@@ -104,24 +121,38 @@ module _ (s : Shelf) (count : ℕ) (a : List ℕ) where
           more = omega arith;
           count-is = omega (arith, stored-length s a count, length-append before (x ∷ []));
           records = λ m. absurd (omega arith);
-          elsewhere = changed-none (place s count) (place s (s .capacity)) a;
+          chained = λ m. absurd (omega arith);
+          kept = λ p m. refl;
+          elsewhere = changed-none (s .base) (place s (s .capacity)) a;
         })
 
 module _ {s : Shelf} {count all : ℕ} {a b : List ℕ} {xs : List Found} (g : Grown s count a all b xs) where
   -- no room: any longer list
   pub grown-longer : {ys : List Found} → s .capacity < all → length xs ≤ length ys → Grown s count a all b ys
-  grown-longer h l = record { more = g .more; count-is = omega (arith, g .count-is); records = λ m. absurd (omega arith); elsewhere = g .elsewhere }
+  grown-longer h l = record {
+    more = g .more;
+    count-is = omega (arith, g .count-is);
+    records = λ m. absurd (omega arith);
+    chained = λ m. absurd (omega arith);
+    kept = g .kept;
+    elsewhere = g .elsewhere;
+  }
+
+  -- and then from there
+  pub grown-on : {r : ℕ} {d : List ℕ} {ys : List Found} → Grown s all b r d ys → Grown s count a r d ys
+  grown-on n = record {
+    more = omega (arith, g .more, n .more);
+    count-is = n .count-is;
+    records = n .records;
+    chained = n .chained;
+    kept = λ p h. n .kept p (omega (arith, g .more)) ∙ g .kept p h;
+    elsewhere = changed-then (g .elsewhere) (omega arith) (omega arith) (n .elsewhere);
+  }
 
   -- room: more profiles
   pub grown-then : {r : ℕ} {d : List ℕ} (zs : List Found) → all ≤ s .capacity → Added s all b r d zs
       → Grown s count a r d (adds same-profile xs zs)
-  grown-then {r} {d} zs h n =
-      subst (λ (l : List Found). Grown s count a r d (adds same-profile l zs)) (g .records h) (record {
-        more = omega (arith, g .more, n .more);
-        count-is = n .count-is;
-        records = n .records;
-        elsewhere = changed-then (g .elsewhere) (omega (arith, g .more)) (omega arith) (n .elsewhere);
-      })
+  grown-then {r} {d} zs h n = subst (λ (l : List Found). Grown s count a r d (adds same-profile l zs)) (g .records h) (grown-on n)
 
 -- A list with the lists f k, f (k + 1), .., of which there are i, and one turn of a loop that adds them.
 module _ (xs : List Found) (f : ℕ → List Found) (k : ℕ) where

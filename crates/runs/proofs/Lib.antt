@@ -1,5 +1,5 @@
 pub mod RecordLaws
 pub mod GrowLaws
+pub mod BucketLaws
 pub mod TurnLaws
 pub mod SingleLaws
-pub mod ParentLaws

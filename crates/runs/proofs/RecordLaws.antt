@@ -5,7 +5,7 @@ use mathlib.Core.Bool.{Bool, false, _&&_}
 use mathlib.Core.List.{List}
 use Prim.Native.Nat.{ℕ, _+_, _*_, _/_, _%_, _≤_, _<_}
 use native.Mathlib.Omega.{arith}
-use native.Mathlib.Decide.{ℕ-discrete}
+use native.Mathlib.Decide.{decLt, ℕ-discrete}
 use borrow.Author.Tests.{ne-eqb, eq-eqb}
 use lib.Dec.{eqb}
 use lib.ListN.{length, getD, set, length-set}
@@ -42,18 +42,27 @@ module _ {from to : ℕ} {a b : List ℕ} (c : Changed from to a b) where
   pub changed-wide : {low high : ℕ} → low ≤ from → to ≤ high → Changed low high a b
   changed-wide h l = record { same-length = c .same-length; below = λ i k. c .below i (omega arith); beyond = λ i k. c .beyond i (omega arith) }
 
-  pub two-kept : (j : ℕ) → j + 2 ≤ from → two b j ≡ two a j
-  two-kept j h = omega (arith, c .below j (omega arith), c .below (j + 1) (omega arith))
+  byte-kept : (i : ℕ) → (from ≤ i → i < to → ⊥) → getD b i 0 ≡ getD a i 0
+  byte-kept i h = go (decLt i from) (decLt i to)
+    where
+      go : Dec (i < from) → Dec (i < to) → getD b i 0 ≡ getD a i 0
+      go (yes l) m = c .below i l
+      go (no l) (yes m) = absurd (h (omega arith) m)
+      go (no l) (no m) = c .beyond i (omega arith)
 
-  pub record-kept : (n at : ℕ) → n ≤ 12 → at + 192 ≤ from → found-at n b at ≡ found-at n a at
+  pub two-kept : (j : ℕ) → (from < j + 2 → j < to → ⊥) → two b j ≡ two a j
+  two-kept j h = omega (arith, byte-kept j (λ l m. h (omega arith) (omega arith)), byte-kept (j + 1) (λ l m. h (omega arith) (omega arith)))
+
+  pub record-kept : (n at : ℕ) → n ≤ 12 → (from < at + 152 → at < to → ⊥) → found-at n b at ≡ found-at n a at
   unfolding found-at
   record-kept n at h l =
-      let p = two-kept (at + 144) (omega arith) in
-      let q = two-kept (at + 146) (omega arith) in
-      let r = two-kept (at + 148) (omega arith) in
-      let s = two-kept (at + 150) (omega arith) in
+      let p = two-kept (at + 144) (λ u v. l (omega arith) (omega arith)) in
+      let q = two-kept (at + 146) (λ u v. l (omega arith) (omega arith)) in
+      let r = two-kept (at + 148) (λ u v. l (omega arith) (omega arith)) in
+      let s = two-kept (at + 150) (λ u v. l (omega arith) (omega arith)) in
       let t : triples-at n b at ≡ triples-at n a at =
-      those-same n (bits (bytes-from b at)) (bits (bytes-from a at)) (λ f x g hf hx hg. ap (λ (v : ℕ). bit v x) (c .below (at + (f * 12 + g)) (omega arith))) in
+      those-same n (bits (bytes-from b at)) (bits (bytes-from a at))
+      (λ f x g hf hx hg. ap (λ (v : ℕ). bit v x) (byte-kept (at + (f * 12 + g)) (λ u v. l (omega arith) (omega arith)))) in
       λ i. found-of (record { first = p i; last = q i; parent = r i; letter = s i }) (t i)
 
 -- two bytes are put
@@ -85,7 +94,7 @@ store-more a t at i h r j l = go (ℕ-discrete j i)
 module _ {a a0 a1 a2 a3 a4 : List ℕ} (t : List ℕ) (at : ℕ) (e : Ends) (c0 : Changed at (at + 144) a a0) (c1 : Changed (at + 144) (at + 144 + 2) a0 a1)
     (c2 : Changed (at + 146) (at + 146 + 2) a1 a2) (c3 : Changed (at + 148) (at + 148 + 2) a2 a3) (c4 : Changed (at + 150) (at + 150 + 2) a3 a4)
   where
-    pub written-changed : Changed at (at + 192) a a4
+    pub written-changed : Changed at (at + 152) a a4
     written-changed =
         changed-then (changed-then (changed-then (changed-then (changed-wide c0 (omega arith) (omega arith)) (omega arith) (omega arith) c1) (omega arith) (omega arith) c2)
         (omega arith) (omega arith) c3) (omega arith) (omega arith) c4
@@ -96,9 +105,9 @@ module _ {a a0 a1 a2 a3 a4 : List ℕ} (t : List ℕ) (at : ℕ) (e : Ends) (c0 
     unfolding found-at
     written s first last parent letter n h =
         let p : two a4 (at + 144) ≡ e .first =
-        two-kept c4 (at + 144) (omega arith) ∙ two-kept c3 (at + 144) (omega arith) ∙ two-kept c2 (at + 144) (omega arith) ∙ first in
-        let q : two a4 (at + 146) ≡ e .last = two-kept c4 (at + 146) (omega arith) ∙ two-kept c3 (at + 146) (omega arith) ∙ last in
-        let r : two a4 (at + 148) ≡ e .parent = two-kept c4 (at + 148) (omega arith) ∙ parent in
+        two-kept c4 (at + 144) (λ u v. omega arith) ∙ two-kept c3 (at + 144) (λ u v. omega arith) ∙ two-kept c2 (at + 144) (λ u v. omega arith) ∙ first in
+        let q : two a4 (at + 146) ≡ e .last = two-kept c4 (at + 146) (λ u v. omega arith) ∙ two-kept c3 (at + 146) (λ u v. omega arith) ∙ last in
+        let r : two a4 (at + 148) ≡ e .parent = two-kept c4 (at + 148) (λ u v. omega arith) ∙ parent in
         let d : triples-at n a4 at ≡ triples-in n t =
         those-same n (bits (bytes-from a4 at)) (bits (bytes t)) (λ f x g hf hx hg. ap (λ (v : ℕ). bit v x) (byte (f * 12 + g) (omega arith))) in
         λ i. found-of (record { first = p i; last = q i; parent = r i; letter = letter i }) (d i)

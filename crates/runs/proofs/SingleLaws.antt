@@ -40,9 +40,10 @@ use Rattle.triples.specs.Promise.{triples-in}
 use Rattle.traces.specs.Promise.{Triples-of}
 use Rattle.traces.specs.declared.Ranks.{Ranks}
 use Rattle.runs.specs.declared.Shelf.{Shelf}
-use Rattle.runs.specs.Stored.{found-of, stored, Lent, Changed, Grown, Added}
+use Rattle.runs.specs.Stored.{found-of, stored, Lent, Changed, Chained, Grown, Added}
 use Rattle.runs.specs.Singles.{subset-of, node-in, nodes-in, single-of, singles-by, Given}
 use Rattle.runs.proofs.GrowLaws.{grown-still, with-first, turn-more, turn-stop}
+use Rattle.runs.proofs.BucketLaws.{chained-none}
 use Rattle.runs.proofs.TurnLaws.{grown-same}
 
 -- sets and their words
@@ -179,17 +180,17 @@ module _ {rows : List ℕ} {count : ℕ} {r : Ranks} {s : Shelf} {nodes : ℕ} {
     node-is : eight a (8 * i) ≡ word v
     node-is = sym (subset-word count (eight a (8 * i)) (g .sets i h))
 
-    single-nothing : {had : ℕ} → had ≤ s .capacity → transition-of t w (saturate t w v) ≡ [] → Added s had a had a (singles-by t vs i v x)
-    single-nothing {had} l e =
-        grown-same (ap (λ (ys : List Transition). adds same-profile (stored s a had) (map (single-of t vs i v) ys)) (sym e)) (grown-still s had a l)
+    single-nothing : {had : ℕ} → had ≤ s .capacity → Chained s a had → transition-of t w (saturate t w v) ≡ [] → Added s had a had a (singles-by t vs i v x)
+    single-nothing {had} l k e =
+        grown-same (ap (λ (ys : List Transition). adds same-profile (stored s a had) (map (single-of t vs i v) ys)) (sym e)) (grown-still s had a l k)
 
-    pub single-unmet : {had unmet : ℕ} → had ≤ s .capacity → Unmet rows count (eight a (8 * i)) unmet → (bitAnd x unmet ≡ 0 → ⊥)
+    pub single-unmet : {had unmet : ℕ} → had ≤ s .capacity → Chained s a had → Unmet rows count (eight a (8 * i)) unmet → (bitAnd x unmet ≡ 0 → ⊥)
         → Added s had a had a (singles-by t vs i v x)
-    single-unmet l u o = single-nothing l (u .is v long node-is x o)
+    single-unmet l k u o = single-nothing l k (u .is v long node-is x o)
 
     module _ {choice from : ℕ} (c : choice ≡ word (choice-of t x)) (f : from ≡ eight a (8 * i)) where
-      pub single-none : {had : ℕ} → had ≤ s .capacity → Stepped rows count choice from Nothing → Added s had a had a (singles-by t vs i v x)
-      single-none l st = single-nothing l (no-step t w (saturate t w v) (st .is w v long c (f ∙ node-is)))
+      pub single-none : {had : ℕ} → had ≤ s .capacity → Chained s a had → Stepped rows count choice from Nothing → Added s had a had a (singles-by t vs i v x)
+      single-none l k st = single-nothing l k (no-step t w (saturate t w v) (st .is w v long c (f ∙ node-is)))
 
       module _ {to letter : ℕ} (st : Stepped rows count choice from (Leads to letter)) where
         found : Found t w (saturate t w v) to letter
@@ -257,7 +258,7 @@ module _ {rows : List ℕ} {count : ℕ} {r : Ranks} {s : Shelf} {nodes : ℕ} {
 
   pub all-start : Grown s 0 a 0 a (before 1)
   unfolding stored
-  all-start = grown-still s 0 a (omega arith)
+  all-start = grown-still s 0 a (omega arith) (chained-none s a)
 
   pub all-turn : {all q : ℕ} {b d : List ℕ} (i : ℕ) → 0 < i → i < nodes → all ≤ s .capacity → Grown s 0 a all b (before i)
       → Added s all b q d (ones-of t (nodes-in count b nodes) i (node-in count b i))

@@ -18,8 +18,7 @@ use Rattle.triples.specs.Promise.{triples-in, triples-at}
 use Rattle.triples.proofs.CellLaws.{triples-copied}
 use Rattle.runs.specs.declared.Ends.{Ends}
 use Rattle.runs.specs.declared.Shelf.{Shelf}
-use Rattle.runs.specs.Stored.{two, found-of, found-at, place, record-of, stored, Grown, Added}
-use Rattle.runs.proofs.RecordLaws.{record-kept}
+use Rattle.runs.specs.Stored.{two, found-of, found-at, place, record-of, stored, Chained, Grown, Added}
 use Rattle.runs.proofs.GrowLaws.{stored-length, stored-at, stored-kept, grown-still, grown-longer, grown-then, with-first, turn-more, turn-stop}
 use Rattle.coded.proofs.SpreadLaws.{spread-length, spread-done, spread-step}
 
@@ -58,8 +57,8 @@ module _ (s : Shelf) (count : ℕ) (a : List ℕ) (p q : ℕ) where
   abbrev After : (r : ℕ) → List ℕ → Type 0
   After r b = Added s count a r b (follow (s .n) p (record-of s a p) (record-of s a q))
 
-  pub longer-none : count ≤ s .capacity → (two a (place s p + 146) ≡ two a (place s q + 144) → ⊥) → After count a
-  longer-none h d = grown-same (ap (adds same-profile (stored s a count)) (apart (s .n) p a (place s p) (place s q) d)) (grown-still s count a h)
+  pub longer-none : count ≤ s .capacity → Chained s a count → (two a (place s p + 146) ≡ two a (place s q + 144) → ⊥) → After count a
+  longer-none h c d = grown-same (ap (adds same-profile (stored s a count)) (apart (s .n) p a (place s p) (place s q) d)) (grown-still s count a h c)
 
   pub longer-one : {r : ℕ} {b : List ℕ} (e : Ends) (u v t : List ℕ) → s .n ≤ 12 → two a (place s p + 146) ≡ two a (place s q + 144)
       → ((i : ℕ) → i < 144 → getD u i 0 ≡ getD a (place s p + i) 0) → ((i : ℕ) → i < 144 → getD v i 0 ≡ getD a (place s q + i) 0)
@@ -78,15 +77,14 @@ module _ (s : Shelf) (count p : ℕ) (a : List ℕ) where
   unfolding join stored
   extended-all ones = ap (adds same-profile (stored s a count)) (sym (gather-map (follow (s .n) p (record-of s a p)) (record-of s a) (numbers 0 ones)))
 
-  pub extend-more : {all r : ℕ} {b d : List ℕ} (q : ℕ) → s .n ≤ 12 → p < count → q < count → all ≤ s .capacity → Grown s count a all b (extended q)
+  pub extend-more : {all r : ℕ} {b d : List ℕ} (q : ℕ) → p < count → q < count → all ≤ s .capacity → Grown s count a all b (extended q)
       → Added s all b r d (follow (s .n) p (record-of s b p) (record-of s b q))
       → Grown s count a r d (extended (q + 1))
-  extend-more {all} {r} {b} {d} q n hp hq h g m =
-      let kept : (i : ℕ) → i < count → record-of s b i ≡ record-of s a i = λ i l. record-kept (g .elsewhere) (s .n) (place s i) n (omega arith) in
+  extend-more {all} {r} {b} {d} q hp hq h g m =
       turn-more (stored s a count) (λ q. follow (s .n) p (record-of s a p) (record-of s a q)) 0 q h g
       (grown-same
       (ap (adds same-profile (stored s b all))
-      ((λ i. follow (s .n) p (kept p hp i) (kept q hq i)) ∙ ap (λ (j : ℕ). follow (s .n) p (record-of s a p) (record-of s a j)) (sym (zero-add q))))
+      ((λ i. follow (s .n) p (g .kept p hp i) (g .kept q hq i)) ∙ ap (λ (j : ℕ). follow (s .n) p (record-of s a p) (record-of s a j)) (sym (zero-add q))))
       m)
 
   pub extend-stop : {all : ℕ} {b : List ℕ} (q ones : ℕ) → s .capacity < all → q ≤ ones → Grown s count a all b (extended q)
@@ -104,11 +102,11 @@ pub record Pending (s : Shelf) (ones : ℕ) (a : List ℕ) (p all : ℕ) (b : Li
   pub grown : Grown s ones a all b so-far
   pub rest : (fuel : ℕ) → profiles-from (p + fuel) (s .n) (stored s a ones) ≡ spread same-profile (longer (s .n) (stored s a ones)) fuel p so-far
 
-pub pending-start : (s : Shelf) (ones : ℕ) (a : List ℕ) → ones ≤ s .capacity → Pending s ones a 0 ones a
+pub pending-start : (s : Shelf) (ones : ℕ) (a : List ℕ) → ones ≤ s .capacity → Chained s a ones → Pending s ones a 0 ones a
 unfolding profiles-from
-pending-start s ones a h = record {
+pending-start s ones a h c = record {
   so-far = stored s a ones;
-  grown = grown-still s ones a h;
+  grown = grown-still s ones a h c;
   rest = λ fuel. ap (λ (k : ℕ). spread same-profile (longer (s .n) (stored s a ones)) k 0 (stored s a ones)) (zero-add fuel);
 }
 
@@ -119,16 +117,16 @@ module _ {s : Shelf} {ones p all : ℕ} {a b : List ℕ} (k : Pending s ones a p
   at-fuel : (fuel : ℕ) → p ≤ fuel → profiles-from fuel (s .n) (stored s a ones) ≡ spread same-profile onward (fuel - p) p (k .so-far)
   at-fuel fuel h = ap (λ (i : ℕ). profiles-from i (s .n) (stored s a ones)) {x = fuel} {y = p + (fuel - p)} (omega arith) ∙ k .rest (fuel - p)
 
-  pub pending-next : {r : ℕ} {d : List ℕ} → s .n ≤ 12 → all ≤ s .capacity → p < all
+  pub pending-next : {r : ℕ} {d : List ℕ} → all ≤ s .capacity → p < all
       → Added s all b r d (longer (s .n) (stored s b ones) p (record-of s b p)) → Pending s ones a (p + 1) r d
-  pending-next {r} {d} n h l g =
+  pending-next {r} {d} h l g =
       let x = record-of s b p in
       let e : stored s b all ≡ k .so-far = k .grown .records h in
       let there : getD (k .so-far) p x ≡ x = sym (ap (λ (xs : List Found). getD xs p x) e) ∙ stored-at s b all p x l in
       record {
         so-far = adds same-profile (k .so-far) (onward p x);
         grown = grown-then (k .grown) (onward p x) h
-            (grown-same (ap (λ (os : List Found). adds same-profile (stored s b all) (longer (s .n) os p x)) (stored-kept s b ones n (k .grown .elsewhere))) g);
+            (grown-same (ap (λ (os : List Found). adds same-profile (stored s b all) (longer (s .n) os p x)) (stored-kept s b a ones (k .grown .kept))) g);
         rest = λ fuel.
             ap (λ (i : ℕ). profiles-from i (s .n) (stored s a ones)) {x = p + 1 + fuel} {y = p + suc fuel} (omega arith)
             ∙ k .rest (suc fuel)

@@ -1,10 +1,14 @@
 -- Profiles in the lent area: records of 192 bytes, 144 of triples, then two each for the first node, the last node, 1 + the number of the
--- profile that it goes on from (0 for none), and its last letter; 40 are unused. What the functions over these records promise. A reader of
--- the decision's contract need not read it. Assumes nothing.
+-- profile that it goes on from (0 for none), and its last letter. The next six bytes make the records a hash table: two each for the
+-- record's bucket, for 1 + the number of the record before it in this bucket (0 for none), and for the head of a chain; 34 are unused. The
+-- head of bucket k stands in record k, whether or not there is such a record yet. What the functions over these records promise. A reader
+-- of the decision's contract need not read it. Assumes nothing.
 use mathlib.Core.Path.{_≡_}
-use mathlib.Core.List.{List, map}
-use Prim.Native.Nat.{ℕ, _+_, _*_, _≤_, _<_, min}
+use mathlib.Core.Bool.{Bool}
+use mathlib.Core.List.{List, map, foldl}
+use Prim.Native.Nat.{ℕ, _+_, _-_, _*_, _/_, _%_, _≤_, _<_, min}
 use lib.ListN.{length, getD}
+use Rattle.base.specs.Bits.{bit, word}
 use Rattle.base.specs.Lists.{numbers}
 use Rattle.coded.specs.Triples.{Triples}
 use Rattle.coded.specs.Spread.{adds}
@@ -53,6 +57,7 @@ pub record Small (e : Ends) : Type 0 where
 pub record Lent (s : Shelf) (len : ℕ) : Type 0 where
   pub next : s .n ≤ 12
   pub low : s .base ≤ 8192
+  pub some : 0 < s .capacity
   pub few : s .capacity ≤ 4096
   pub enough : place s (s .capacity) ≤ len
 
@@ -62,13 +67,55 @@ pub record Changed (from to : ℕ) (a b : List ℕ) : Type 0 where
   pub below : (i : ℕ) → i < from → getD b i 0 ≡ getD a i 0
   pub beyond : (i : ℕ) → to ≤ i → getD b i 0 ≡ getD a i 0
 
+-- the bits of a byte, and the bits of row f of n operands
+abbrev pub bits-of : ℕ → List Bool
+bits-of x = map (bit x) (numbers 0 8)
+
+abbrev pub row-of : List ℕ → (n f : ℕ) → List (List Bool)
+row-of t n f = map (λ g. bits-of (getD t (f * 12 + g) 0)) (numbers 0 n)
+
+-- a number with one byte of triples more
+abbrev pub mixed : ℕ → List Bool → ℕ
+mixed h x = (h * 2654435761 + word x) % 4294967296
+
+abbrev pub mixed-row : ℕ → List (List Bool) → ℕ
+mixed-row h x = foldl mixed h x
+
+-- the bucket of a profile: its nodes, and the bytes of its triples row by row
+unfoldable pub bucket-of : Shelf → Profile → ℕ
+bucket-of s x = foldl mixed-row (x .first + x .last * 65536) (x .carried) / 65536 % s .capacity
+
+-- what the records' next bytes say
+abbrev pub bucket-at : Shelf → List ℕ → ℕ → ℕ
+bucket-at s b p = two b (place s p + 152)
+
+abbrev pub link-at : Shelf → List ℕ → ℕ → ℕ
+link-at s b p = two b (place s p + 154)
+
+abbrev pub head-at : Shelf → List ℕ → (bucket : ℕ) → ℕ
+head-at s b k = two b (place s k + 156)
+
+-- v is 1 + the last number below count whose bucket is k, or 0 if there is none.
+pub record Latest (bucket : ℕ → ℕ) (k count v : ℕ) : Type 0 where
+  pub among : v ≤ count
+  pub there : 0 < v → bucket (v - 1) ≡ k
+  pub later : (q : ℕ) → v ≤ q → q < count → bucket q ≡ k → ⊥
+
+-- The first count records are chained by their buckets. Nothing is said of the head of a bucket that no record is in.
+pub record Chained (s : Shelf) (b : List ℕ) (count : ℕ) : Type 0 where
+  pub buckets : (p : ℕ) → p < count → bucket-at s b p ≡ bucket-of s (record-of s b p .at)
+  pub links : (p : ℕ) → p < count → Latest (bucket-at s b) (bucket-at s b p) p (link-at s b p)
+  pub heads : (p : ℕ) → p < count → Latest (bucket-at s b) (bucket-at s b p) count (head-at s b (bucket-at s b p))
+
 -- A shelf with count records in the area a has r records in the area b: those of the list xs, or one more than there is room for if xs
--- is longer than that. Only bytes of the shelf behind the first count records have changed.
+-- is longer than that. The first count records stay, and only bytes of the shelf have changed.
 pub record Grown (s : Shelf) (count : ℕ) (a : List ℕ) (r : ℕ) (b : List ℕ) (xs : List Found) : Type 0 where
   pub more : count ≤ r
   pub count-is : r ≡ min (length xs) (s .capacity + 1)
   pub records : r ≤ s .capacity → stored s b r ≡ xs
-  pub elsewhere : Changed (place s count) (place s (s .capacity)) a b
+  pub chained : r ≤ s .capacity → Chained s b r
+  pub kept : (p : ℕ) → p < count → record-of s b p ≡ record-of s a p
+  pub elsewhere : Changed (s .base) (place s (s .capacity)) a b
 
 -- The same, where the list is the count records with the profiles ys too, each unless it is there.
 abbrev pub Added : Shelf → (count : ℕ) → List ℕ → (r : ℕ) → List ℕ → List Found → Type 0

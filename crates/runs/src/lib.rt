@@ -8,7 +8,7 @@ ghost use Rattle.coded.specs.Runs.{same-profile, follow, longer, profiles-from,
 ghost use Rattle.tableau.specs.Promise.{table-of, Unmet};
 ghost use Rattle.tableau.specs.Area.{eight};
 ghost use Rattle.triples.specs.Promise.{triples-in};
-ghost use Rattle.runs.specs.Stored.{two, profile-of, found-of, found-at, record-of, stored, Small, Lent, Changed, Grown, Added};
+ghost use Rattle.runs.specs.Stored.{two, profile-of, found-of, found-at, place, record-of, stored, Small, Lent, Changed, bits-of, row-of, mixed, mixed-row, bucket-of, bucket-at, Latest, Chained, Grown, Added};
 ghost use Rattle.runs.specs.Singles.{node-in, nodes-in, singles-by, Given};
 use tableau::NodeNumber;
 use tableau::Step;
@@ -67,7 +67,7 @@ fn write(area: &mut [u8], at: usize, ends: Ends, t: &[u8; 144])
     requires { ⌜ at + 192 ≤ length (now area) ⌝ }
     requires { ⌜ Small ends ⌝ }
     ensures { λ r. ⌜ ((n : ℕ) → n ≤ 12 → found-at n (now (area .exit)) at ≡ found-of ends (triples-in n (now (t .entry)))) ⌝ }
-    ensures { λ r. ⌜ Changed at (at + 192) (now (area .entry)) (now (area .exit)) ⌝ }
+    ensures { λ r. ⌜ Changed at (at + 152) (now (area .entry)) (now (area .exit)) ⌝ }
 {
     store(area, at, t);
     put2(area, at + 144, ends.first);
@@ -89,19 +89,98 @@ fn same_profile(area: &[u8], at: usize, ends: Ends, t: &[u8; 144], n: usize) -> 
     triples::same_triples(area, at, t, n)
 }
 
-fn known(area: &[u8], shelf: Shelf, count: usize, ends: Ends, t: &[u8; 144]) -> bool
+// One byte more into a hash, modulo 2^32: the factor, a prime near 2^32 over the golden ratio, spreads what came before.
+fn mix(h: usize, x: u8) -> usize
+    requires { ⌜ h < 4294967296 ⌝ }
+    ensures { λ r. ⌜ (r < 4294967296) × (r ≡ mixed h (bits-of x)) ⌝ }
+{
+    (h * 0x9e3779b1 + base::wide(x)) % 0x1_0000_0000
+}
+
+// The bytes of row f too.
+fn mix_row(h: usize, t: &[u8; 144], n: usize, f: usize) -> usize
+    requires { ⌜ (n ≤ 12) × ((f < n) × (h < 4294967296)) ⌝ }
+    ensures { λ r. ⌜ (r < 4294967296) × (r ≡ mixed-row h (row-of (now (t .entry)) n f)) ⌝ }
+{
+    let mut sum = h;
+    let mut g = 0;
+    while g < n {
+        sum = mix(sum, t[f * 12 + g]);
+        g += 1;
+    }
+    sum
+}
+
+// The bucket of a profile: a hash of its nodes and its triples.
+fn bucket(shelf: Shelf, ends: Ends, t: &[u8; 144]) -> usize
+    requires { ⌜ (shelf .n ≤ 12) × (0 < shelf .capacity) ⌝ }
+    requires { ⌜ Small ends ⌝ }
+    ensures { λ r. ⌜ (r ≡ bucket-of shelf (profile-of ends (triples-in (shelf .n) (now (t .entry))))) × (r < shelf .capacity) ⌝ }
+{
+    let n = shelf.n;
+    let mut h = ends.first + ends.last * 65536;
+    let mut f = 0;
+    while f < n {
+        h = mix_row(h, t, n, f);
+        f += 1;
+    }
+    h / 65536 % shelf.capacity
+}
+
+// 1 + the number of the last record in bucket k, or 0. The area was not cleared: what stands there counts only if it leads to a record of
+// this bucket.
+fn head(area: &[u8], shelf: Shelf, count: usize, k: usize) -> usize
     requires { ⌜ Lent shelf (length (now area)) ⌝ }
-    requires { ⌜ count ≤ shelf .capacity ⌝ }
+    requires { ⌜ (count ≤ shelf .capacity) × (k < shelf .capacity) ⌝ }
+    requires { ⌜ Chained shelf (now area) count ⌝ }
+    ensures { λ r. ⌜ Latest (bucket-at shelf (now (area .entry))) k count r ⌝ }
+{
+    let v = get2(area, shelf.base + 192 * k + 156);
+    if v == 0 {
+        return 0;
+    }
+    if count < v {
+        return 0;
+    }
+    if get2(area, shelf.base + 192 * (v - 1) + 152) != k {
+        return 0;
+    }
+    v
+}
+
+// Whether one of the records is this profile, whose bucket is k.
+fn known(area: &[u8], shelf: Shelf, count: usize, k: usize, ends: Ends, t: &[u8; 144]) -> bool
+    requires { ⌜ Lent shelf (length (now area)) ⌝ }
+    requires { ⌜ (count ≤ shelf .capacity) × (k < shelf .capacity) ⌝ }
+    requires { ⌜ Chained shelf (now area) count ⌝ }
+    requires { ⌜ k ≡ bucket-of shelf (profile-of ends (triples-in (shelf .n) (now t))) ⌝ }
     ensures { λ r. ⌜ r ≡ seen same-profile (profile-of ends (triples-in (shelf .n) (now (t .entry)))) (stored shelf (now (area .entry)) count) ⌝ }
 {
-    let mut p = 0;
-    while p < count {
-        if same_profile(area, shelf.base + 192 * p, ends, t, shelf.n) {
+    let mut v = head(area, shelf, count, k);
+    while 0 < v {
+        let at = shelf.base + 192 * (v - 1);
+        if same_profile(area, at, ends, t, shelf.n) {
             return true;
         }
-        p += 1;
+        v = get2(area, at + 154);
     }
     false
+}
+
+// Puts record count, which is written and whose bucket is k, at the head of this bucket's chain.
+fn chain(area: &mut [u8], shelf: Shelf, count: usize, k: usize)
+    requires { ⌜ Lent shelf (length (now area)) ⌝ }
+    requires { ⌜ (count < shelf .capacity) × (k < shelf .capacity) ⌝ }
+    requires { ⌜ Chained shelf (now area) count ⌝ }
+    requires { ⌜ k ≡ bucket-of shelf (record-of shelf (now area) count .at) ⌝ }
+    ensures { λ r. ⌜ Chained shelf (now (area .exit)) (count + 1) ⌝ }
+    ensures { λ r. ⌜ ((p : ℕ) → record-of shelf (now (area .exit)) p ≡ record-of shelf (now (area .entry)) p) ⌝ }
+    ensures { λ r. ⌜ Changed (shelf .base) (place shelf (shelf .capacity)) (now (area .entry)) (now (area .exit)) ⌝ }
+{
+    let v = head(area, shelf, count, k);
+    put2(area, shelf.base + 192 * count + 152, k);
+    put2(area, shelf.base + 192 * count + 154, v);
+    put2(area, shelf.base + 192 * k + 156, count + 1);
 }
 
 // How many profiles there are once this one is; capacity + 1 where there is no room for it.
@@ -109,13 +188,16 @@ fn add(area: &mut [u8], shelf: Shelf, count: usize, ends: Ends, t: &[u8; 144]) -
     requires { ⌜ Lent shelf (length (now area)) ⌝ }
     requires { ⌜ count ≤ shelf .capacity ⌝ }
     requires { ⌜ Small ends ⌝ }
+    requires { ⌜ Chained shelf (now area) count ⌝ }
     ensures { λ r. ⌜ Added shelf count (now (area .entry)) r (now (area .exit)) (found-of ends (triples-in (shelf .n) (now (t .entry))) ∷ []) ⌝ }
 {
-    if known(area, shelf, count, ends, t) {
+    let k = bucket(shelf, ends, t);
+    if known(area, shelf, count, k, ends, t) {
         return count;
     }
     if count < shelf.capacity {
         write(area, shelf.base + 192 * count, ends, t);
+        chain(area, shelf, count, k);
         return count + 1;
     }
     count + 1
@@ -137,6 +219,7 @@ fn single(
     requires { ⌜ Given (now rows) subformulas r shelf nodes (now area) ⌝ }
     requires { ⌜ (number .0 < nodes) × (count ≤ shelf .capacity) ⌝ }
     requires { ⌜ Unmet (now rows) subformulas (eight (now area) (8 * number .0)) unmet ⌝ }
+    requires { ⌜ Chained shelf (now area) count ⌝ }
     ensures { λ all. ⌜ Added shelf count (now (area .entry)) all (now (area .exit)) (singles-by (table-of (now (rows .entry)) subformulas) (nodes-in subformulas (now (area .entry)) nodes) (number .0) (node-in subformulas (now (area .entry)) (number .0)) «choice_word») ⌝ }
 {
     if choice_word & unmet != 0 {
@@ -174,6 +257,7 @@ fn singles_of(
 ) -> usize
     requires { ⌜ Given (now rows) subformulas r shelf nodes (now area) ⌝ }
     requires { ⌜ (number .0 < nodes) × (count ≤ shelf .capacity) ⌝ }
+    requires { ⌜ Chained shelf (now area) count ⌝ }
     ensures { λ all. ⌜ Added shelf count (now (area .entry)) all (now (area .exit)) (ones-of (table-of (now (rows .entry)) subformulas) (nodes-in subformulas (now (area .entry)) nodes) (number .0) (node-in subformulas (now (area .entry)) (number .0))) ⌝ }
 {
     let unmet = tableau::unmet(rows, subformulas, tableau::node(area, number));
@@ -229,6 +313,7 @@ pub fn singles(
 fn longer(area: &mut [u8], shelf: Shelf, p: usize, q: usize, count: usize) -> usize
     requires { ⌜ Lent shelf (length (now area)) ⌝ }
     requires { ⌜ (p < count) × ((q < count) × (count ≤ shelf .capacity)) ⌝ }
+    requires { ⌜ Chained shelf (now area) count ⌝ }
     ensures { λ r. ⌜ Added shelf count (now (area .entry)) r (now (area .exit)) (follow (shelf .n) p (record-of shelf (now (area .entry)) p) (record-of shelf (now (area .entry)) q)) ⌝ }
 {
     let a = shelf.base + 192 * p;
@@ -252,6 +337,7 @@ fn longer(area: &mut [u8], shelf: Shelf, p: usize, q: usize, count: usize) -> us
 fn extend(area: &mut [u8], shelf: Shelf, p: usize, ones: usize, count: usize) -> usize
     requires { ⌜ Lent shelf (length (now area)) ⌝ }
     requires { ⌜ (p < count) × ((ones ≤ count) × (count ≤ shelf .capacity)) ⌝ }
+    requires { ⌜ Chained shelf (now area) count ⌝ }
     ensures { λ r. ⌜ Added shelf count (now (area .entry)) r (now (area .exit)) (longer (shelf .n) (stored shelf (now (area .entry)) ones) p (record-of shelf (now (area .entry)) p)) ⌝ }
 {
     let mut all = count;
@@ -270,6 +356,7 @@ fn extend(area: &mut [u8], shelf: Shelf, p: usize, ones: usize, count: usize) ->
 pub fn profiles(area: &mut [u8], shelf: Shelf, ones: usize) -> usize
     requires { ⌜ Lent shelf (length (now area)) ⌝ }
     requires { ⌜ ones ≤ shelf .capacity ⌝ }
+    requires { ⌜ Chained shelf (now area) ones ⌝ }
     ensures { λ r. ⌜ ((fuel : ℕ) → shelf .capacity < fuel → Grown shelf ones (now (area .entry)) r (now (area .exit)) (profiles-from fuel (shelf .n) (stored shelf (now (area .entry)) ones))) ⌝ }
 {
     let mut all = ones;

@@ -1,8 +1,10 @@
 -- `decision::profiles_of` goes on from the profiles of one transition, if there is room for them; where there is none, there is none for all.
-use mathlib.Core.Path.{_∙_}
+-- These are chained, as the search that goes on from them asks.
+use mathlib.Core.Path.{subst⁻¹, _∙_}
 use native.Mathlib.Omega.{arith}
 use borrow.Author.Needs.{needs}
 use Rattle.tableau.specs.Promise.{table-of}
+use Rattle.runs.specs.Stored.{Lent}
 use Rattle.runs.specs.Singles.{nodes-in}
 use Rattle.decision.proofs.SearchedLaws.{profiles-full, profiles-all}
 use Rattle.decision.proofs.profiles_of.Statement.{statement}
@@ -18,7 +20,7 @@ returns : tie.Need-returns
 returns c = let u = c .before .before .before .before .before .before .before in λ fuel h. profiles-full (table-of (u .args .rows .now) (u .args .count)) (nodes-in (u .args .count) (u .args .area .now) (u .args .nodes)) (c .before .before .before .before .singles .ensures) (c .if1 .taken) fuel
 
 profiles-requires : tie.Need-profiles-requires
-profiles-requires c κs = search needs
+profiles-requires c κs = let g = c .before .before .before .before .before .singles .ensures in let room = c .before .if1 .left in (subst⁻¹ (Lent (c .before .before .before .before .before .before .before .before .args .shelf)) (g .elsewhere .same-length) (c .before .before .before .before .before .before .before .before .pre .lent), (room, g .chained room))
 
 same-length-2 : tie.Need-same-length-2
 same-length-2 c = search needs

@@ -1,11 +1,17 @@
--- `runs::add` adds one profile: it is known, or there is room for it, or there is none.
-use mathlib.Core.Path.{sym, _∙_}
+-- `runs::add` adds one profile: it is known, or there is room for it, or there is none. Its record is written first, so that the chain is
+-- told of a record that stands.
+use mathlib.Core.Path.{sym, ap, subst⁻¹, _∙_}
+use Rattle.coded.specs.Runs.{Found}
 use Rattle.triples.specs.Promise.{triples-in}
-use Rattle.runs.specs.Stored.{found-of}
+use Rattle.runs.specs.Stored.{found-of, Lent, bucket-of}
 use Rattle.runs.proofs.GrowLaws.{grown-known, grown-new, grown-full}
+use Rattle.runs.proofs.BucketLaws.{chained-kept}
 use borrow.Author.Needs.{needs}
 use Rattle.runs.proofs.add.Statement.{statement}
 use Rattle.runs.proofs.add.Tie as tie
+
+bucket-requires : tie.Need-bucket-requires
+bucket-requires c κs = search needs
 
 known-requires : tie.Need-known-requires
 known-requires c κs = search needs
@@ -14,7 +20,7 @@ same-length : tie.Need-same-length
 same-length c = search needs
 
 returns : tie.Need-returns
-returns c = let s = c .before .before .before .before in grown-known (s .args .shelf) (s .args .count) (s .args .area .now) (found-of (s .args .ends) (triples-in (s .args .shelf .n) (s .args .t .now))) (s .pre .1 .0) (sym (c .if1 .taken) ∙ c .before .known .ensures)
+returns c = let s = c .before .before .before .before .before in grown-known (s .args .shelf) (s .args .count) (s .args .area .now) (s .pre .1 .0) (s .pre .1 .1 .1) (found-of (s .args .ends) (triples-in (s .args .shelf .n) (s .args .t .now))) (sym (c .if1 .taken) ∙ c .before .known .ensures)
 
 mul-write : tie.Need-mul-write
 mul-write c = search needs
@@ -25,6 +31,9 @@ add-write c = search needs
 write-requires : tie.Need-write-requires
 write-requires c κs = search needs
 
+chain-requires : tie.Need-chain-requires
+chain-requires c κs = let s = c .before .before .before .before .before .before .before .before .before .before .before .before .before in let w = c .before .before .before .write .ensures in let k = c .before .before .before .before .before .before .before .before .before .before .before .bucket .ensures in (subst⁻¹ (Lent (s .args .shelf)) (w .1 .same-length) (s .pre .0), ((c .before .before .before .before .before .before .if2 .taken, k .1), (chained-kept (s .pre .0 .next) (w .1) (s .pre .1 .1 .1), k .0 ∙ ap (λ (y : Found). bucket-of (s .args .shelf) (y .at)) (sym (w .0 (s .args .shelf .n) (s .pre .0 .next))))))
+
 add-result : tie.Need-add-result
 add-result c = search needs
 
@@ -32,7 +41,7 @@ same-length-2 : tie.Need-same-length-2
 same-length-2 c = search needs
 
 returns-2 : tie.Need-returns-2
-returns-2 c = let s = c .before .before .before .before .before .before .before .before .before .before .before in grown-new (s .args .shelf) (s .args .count) (s .args .area .now) (found-of (s .args .ends) (triples-in (s .args .shelf .n) (s .args .t .now))) (s .pre .1 .0) (c .before .before .write .last .0) (s .pre .0 .next) (sym (c .before .before .before .before .before .before .before .if1 .left) ∙ c .before .before .before .before .before .before .before .before .known .ensures) (c .before .before .before .before .before .if2 .taken) (c .before .before .write .ensures .0 (s .args .shelf .n) (s .pre .0 .next)) (c .before .before .write .ensures .1)
+returns-2 c = let s = c .before .before .before .before .before .before .before .before .before .before .before .before .before .before .before .before in let w = c .before .before .before .before .before .before .write .ensures in let d = c .before .before .chain .ensures in grown-new (s .args .shelf) (s .args .count) (s .args .area .now) (s .pre .1 .0) (s .pre .1 .1 .1) (found-of (s .args .ends) (triples-in (s .args .shelf .n) (s .args .t .now))) (s .pre .0 .next) (sym (c .before .before .before .before .before .before .before .before .before .before .before .if1 .left) ∙ c .before .before .before .before .before .before .before .before .before .before .before .before .known .ensures) (c .before .before .before .before .before .before .before .before .before .if2 .taken) (w .0 (s .args .shelf .n) (s .pre .0 .next)) (w .1) (d .0) (d .1 .0) (d .1 .1)
 
 add-result-2 : tie.Need-add-result-2
 add-result-2 c = search needs
@@ -41,18 +50,20 @@ same-length-3 : tie.Need-same-length-3
 same-length-3 c = search needs
 
 returns-3 : tie.Need-returns-3
-returns-3 c = let s = c .before .before .before .before .before .before in grown-full (s .args .shelf) (s .args .count) (s .args .area .now) (found-of (s .args .ends) (triples-in (s .args .shelf .n) (s .args .t .now))) (s .pre .1 .0) (sym (c .before .before .if1 .left) ∙ c .before .before .before .known .ensures) (c .if2 .left)
+returns-3 c = let s = c .before .before .before .before .before .before .before in grown-full (s .args .shelf) (s .args .count) (s .args .area .now) (s .pre .1 .0) (s .pre .1 .1 .1) (found-of (s .args .ends) (triples-in (s .args .shelf .n) (s .args .t .now))) (sym (c .before .before .if1 .left) ∙ c .before .before .before .known .ensures) (c .if2 .left)
 
 pub add-spec : {M : Type 1} → statement M
 add-spec =
     tie.close
     (tie.spec
+    bucket-requires
     known-requires
     same-length
     returns
     mul-write
     add-write
     write-requires
+    chain-requires
     add-result
     same-length-2
     returns-2

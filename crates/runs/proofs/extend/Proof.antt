@@ -16,7 +16,7 @@ abbrev μ-loop : tie.MeasureT-loop
 μ-loop area₀ shelf p ones count all₀ q₀ area all q = ones - q
 
 loop-holds : tie.Need-loop-holds Inv-loop μ-loop
-loop-holds c = (omega arith, grown-still _ _ _ (omega arith))
+loop-holds c = (omega arith, grown-still _ _ _ (omega arith) (c .before .pre .1 .1))
 
 same-length : tie.Need-same-length Inv-loop μ-loop
 same-length c = c .before .before .before .loop .inv .1 .elsewhere .same-length
@@ -25,7 +25,7 @@ returns : tie.Need-returns Inv-loop μ-loop
 returns c = let s = c .before .before .before .before .before in let l = c .before .before .before .loop in extend-stop (s .args .shelf) (s .args .count) (s .args .p) (s .args .area .now) (l .q) (s .args .ones) (c .if1 .taken) (l .inv .0) (l .inv .1)
 
 longer-requires : tie.Need-longer-requires Inv-loop μ-loop
-longer-requires c κs = let s = c .before .before .before .before .before .before in let l = c .before .before .before .before .loop in (subst (Lent (s .args .shelf)) (sym (l .inv .1 .elsewhere .same-length)) (s .pre .0), omega (arith, l .inv .1 .more))
+longer-requires c κs = let s = c .before .before .before .before .before .before in let l = c .before .before .before .before .loop in (subst (Lent (s .args .shelf)) (sym (l .inv .1 .elsewhere .same-length)) (s .pre .0), (omega (arith, l .inv .1 .more), l .inv .1 .chained (c .before .if1 .left)))
 
 add-q : tie.Need-add-q Inv-loop μ-loop
 add-q c = search needs
@@ -34,7 +34,7 @@ loop-less : tie.Need-loop-less Inv-loop μ-loop
 loop-less c = search needs
 
 loop-again : tie.Need-loop-again Inv-loop μ-loop
-loop-again c = let s = c .before .before .before .before .before .before .before .before .before in let l = c .before .before .before .before .before .before .before .loop in (omega arith, extend-more (s .args .shelf) (s .args .count) (s .args .p) (s .args .area .now) (l .q) (s .pre .0 .next) (omega arith) (omega arith) (c .before .before .before .before .if1 .left) (l .inv .1) (c .before .before .longer .ensures))
+loop-again c = let s = c .before .before .before .before .before .before .before .before .before in let l = c .before .before .before .before .before .before .before .loop in (omega arith, extend-more (s .args .shelf) (s .args .count) (s .args .p) (s .args .area .now) (l .q) (omega arith) (omega arith) (c .before .before .before .before .if1 .left) (l .inv .1) (c .before .before .longer .ensures))
 
 same-length-2 : tie.Need-same-length-2 Inv-loop μ-loop
 same-length-2 c = c .before .loop .inv .1 .elsewhere .same-length

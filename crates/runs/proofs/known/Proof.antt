@@ -1,50 +1,57 @@
--- `runs::known` looks for a profile among the first records. The invariant: those passed are other profiles.
-use mathlib.Core.Path.{_≡_, sym, _∙_}
-use mathlib.Core.Bool.{false}
-use Prim.Native.Nat.{_-_, _≤_}
-use native.Mathlib.Nat.{le-antisymm}
-use Rattle.coded.specs.Spread.{seen}
-use Rattle.coded.specs.Runs.{same-profile}
+-- `runs::known` looks for a profile among the records of its bucket, from the last one back by their links. The invariant: the records from
+-- number v on are other profiles, and record v - 1 is in the bucket.
+use mathlib.Core.Path.{sym, _∙_}
+use Prim.Native.Nat.{_-_}
 use Rattle.triples.specs.Promise.{triples-in}
-use Rattle.runs.specs.Stored.{profile-of, stored}
-use Rattle.runs.proofs.GrowLaws.{seen-none, seen-more, seen-found}
+use Rattle.runs.specs.Stored.{profile-of}
+use Rattle.runs.proofs.GrowLaws.{seen-found}
+use Rattle.runs.proofs.BucketLaws.{Passed, passed-start, passed-less, passed-more, passed-all}
 use borrow.Author.Needs.{needs}
 use native.Mathlib.Omega.{arith}
 use Rattle.runs.proofs.known.Statement.{statement}
 use Rattle.runs.proofs.known.Tie as tie
 
 abbrev Inv-loop : tie.InvT-loop
-Inv-loop area shelf count ends t p₀ p = (p ≤ count) × (seen same-profile (profile-of ends (triples-in (shelf .n) t)) (stored shelf area p) ≡ false)
+Inv-loop area shelf count k ends t v₀ v = Passed shelf area count (profile-of ends (triples-in (shelf .n) t)) v
 
 abbrev μ-loop : tie.MeasureT-loop
-μ-loop area shelf count ends t p₀ p = count - p
+μ-loop area shelf count k ends t v₀ v = v
+
+head-requires : tie.Need-head-requires Inv-loop μ-loop
+head-requires c κs = search needs
 
 loop-holds : tie.Need-loop-holds Inv-loop μ-loop
-loop-holds c = (omega arith, seen-none (c .before .args .shelf) (c .before .args .area .now) _)
+loop-holds c = let s = c .before .before in passed-start (s .pre .1 .1 .0) _ (s .pre .1 .1 .1) (c .head .ensures)
 
-mul-same-profile : tie.Need-mul-same-profile Inv-loop μ-loop
-mul-same-profile c = search needs
+sub-at : tie.Need-sub-at Inv-loop μ-loop
+sub-at c = search needs
 
-add-same-profile : tie.Need-add-same-profile Inv-loop μ-loop
-add-same-profile c = search needs
+mul-at : tie.Need-mul-at Inv-loop μ-loop
+mul-at c = search needs
+
+add-at : tie.Need-add-at Inv-loop μ-loop
+add-at c = search needs
 
 same-profile-requires : tie.Need-same-profile-requires Inv-loop μ-loop
 same-profile-requires c κs = search needs
 
 returns : tie.Need-returns Inv-loop μ-loop
-returns c = let s = c .before .before .before .before .before .before in sym (seen-found (s .args .shelf) (s .args .area .now) _ (s .args .count) (c .before .before .before .before .loop .p) (omega arith) (sym (c .before .same-profile .ensures) ∙ c .if1 .taken))
+returns c = let s = c .before .before .before .before .before .before .before in sym (seen-found (s .args .shelf) (s .args .area .now) _ (s .args .count) (c .before .before .before .before .loop .v - 1) (omega arith) (sym (c .before .same-profile .ensures) ∙ c .if1 .taken))
 
-add-p : tie.Need-add-p Inv-loop μ-loop
-add-p c = search needs
+add-get2 : tie.Need-add-get2 Inv-loop μ-loop
+add-get2 c = search needs
+
+get2-requires : tie.Need-get2-requires Inv-loop μ-loop
+get2-requires c κs = search needs
 
 loop-less : tie.Need-loop-less Inv-loop μ-loop
-loop-less c = search needs
+loop-less c = passed-less (c .before .before .before .before .before .before .before .before .pre .1 .1 .0) _ (c .before .before .before .before .before .loop .inv) (c .before .before .before .before .loop-test .taken) (c .get2 .ensures .0)
 
 loop-again : tie.Need-loop-again Inv-loop μ-loop
-loop-again c = let s = c .before .before .before .before .before .before in let l = c .before .before .before .before .loop in (omega arith, seen-more (s .args .shelf) (s .args .area .now) _ (l .p) (l .inv .1) (sym (c .before .same-profile .ensures) ∙ c .if1 .left))
+loop-again c = passed-more (c .before .before .before .before .before .before .before .before .pre .1 .1 .0) _ (c .before .before .before .before .before .loop .inv) (c .before .before .before .before .loop-test .taken) (c .get2 .ensures .0) (sym (c .before .before .same-profile .ensures) ∙ c .before .if1 .left)
 
 returns-2 : tie.Need-returns-2 Inv-loop μ-loop
-returns-2 c = sym (rw (le-antisymm (c .before .loop .inv .0) (c .loop-test .left)) at (c .before .loop .inv .1))
+returns-2 c = sym (passed-all (c .before .before .before .before .pre .1 .1 .0) _ (c .before .loop .inv) (c .loop-test .left))
 
 pub known-spec : {M : Type 1} → statement M
 known-spec =
@@ -52,12 +59,15 @@ known-spec =
     (tie.spec
     Inv-loop
     μ-loop
+    head-requires
     loop-holds
-    mul-same-profile
-    add-same-profile
+    sub-at
+    mul-at
+    add-at
     same-profile-requires
     returns
-    add-p
+    add-get2
+    get2-requires
     loop-less
     loop-again
     returns-2)

@@ -35,7 +35,7 @@ same-length : tie.Need-same-length
 same-length c = search needs
 
 returns : tie.Need-returns
-returns c = let s = c .before .before .before .before .before .before .before .before in longer-none (s .args .shelf) (s .args .count) (s .args .area .now) (s .args .p) (s .args .q) (s .pre .1 .1 .1) (λ e. c .if1 .taken (c .before .before .before .get2 .ensures .0 ∙ e ∙ sym (c .before .get22 .ensures .0)))
+returns c = let s = c .before .before .before .before .before .before .before .before in longer-none (s .args .shelf) (s .args .count) (s .args .area .now) (s .args .p) (s .args .q) (s .pre .1 .0 .1 .1) (s .pre .1 .1) (λ e. c .if1 .taken (c .before .before .before .get2 .ensures .0 ∙ e ∙ sym (c .before .get22 .ensures .0)))
 
 copied-requires : tie.Need-copied-requires
 copied-requires c κs = search needs
@@ -62,13 +62,13 @@ add-t32 : tie.Need-add-t32
 add-t32 c = search needs
 
 add-get2-5 : tie.Need-add-get2-5
-add-get2-5 c = search needs
+add-get2-5 c = let s = c .before .before .before .before .before .before .before .before .before .before .before .before .before .before .before .before .before .before .before .before in omega (arith, s .pre .0 .low, s .pre .0 .few, s .pre .1 .0 .1 .0, s .pre .1 .0 .1 .1)
 
 get2-requires-5 : tie.Need-get2-requires-5
-get2-requires-5 c κs = search needs
+get2-requires-5 c κs = let s = c .before .before .before .before .before .before .before .before .before .before .before .before .before .before .before .before .before .before .before .before in omega (arith, s .pre .0 .enough, s .pre .1 .0 .1 .0, s .pre .1 .0 .1 .1)
 
 add-requires : tie.Need-add-requires
-add-requires c κs = let s = c .before .before .before .before .before .before .before .before .before .before .before .before .before .before .before .before .before .before .before .before .before .before .before in (s .pre .0, (s .pre .1 .1 .1, record { first = c .before .before .before .before .before .before .get23 .ensures .1; last = c .before .before .before .before .get24 .ensures .1; parent = omega (arith, s .pre .0 .few, s .pre .1 .0, s .pre .1 .1 .1); letter = c .before .before .get25 .ensures .1 }))
+add-requires c κs = let s = c .before .before .before .before .before .before .before .before .before .before .before .before .before .before .before .before .before .before .before .before .before .before .before in (s .pre .0, (s .pre .1 .0 .1 .1, (record { first = c .before .before .before .before .before .before .get23 .ensures .1; last = c .before .before .before .before .get24 .ensures .1; parent = omega (arith, s .pre .0 .few, s .pre .1 .0 .0, s .pre .1 .0 .1 .1); letter = c .before .before .get25 .ensures .1 }, s .pre .1 .1)))
 
 same-length-2 : tie.Need-same-length-2
 same-length-2 c = search needs

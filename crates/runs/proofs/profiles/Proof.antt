@@ -15,7 +15,7 @@ abbrev μ-loop : tie.MeasureT-loop
 μ-loop area₀ shelf ones all₀ p₀ area all p = shelf .capacity + 1 - p
 
 loop-holds : tie.Need-loop-holds Inv-loop μ-loop
-loop-holds c = (omega arith, (omega arith, pending-start _ _ _ (omega arith)))
+loop-holds c = (omega arith, (omega arith, pending-start _ _ _ (omega arith) (c .before .pre .1 .1)))
 
 same-length : tie.Need-same-length Inv-loop μ-loop
 same-length c = c .before .before .before .loop .inv .1 .1 .grown .elsewhere .same-length
@@ -24,7 +24,7 @@ returns : tie.Need-returns Inv-loop μ-loop
 returns c = λ fuel h. pending-stop (c .before .before .before .loop .inv .1 .1) fuel (c .if1 .taken) (omega arith)
 
 extend-requires : tie.Need-extend-requires Inv-loop μ-loop
-extend-requires c κs = let s = c .before .before .before .before .before .before in let k = c .before .before .before .before .loop .inv .1 .1 .grown in (subst (Lent (s .args .shelf)) (sym (k .elsewhere .same-length)) (s .pre .0), omega (arith, k .more))
+extend-requires c κs = let s = c .before .before .before .before .before .before in let k = c .before .before .before .before .loop .inv .1 .1 .grown in (subst (Lent (s .args .shelf)) (sym (k .elsewhere .same-length)) (s .pre .0), (omega (arith, k .more), k .chained (c .before .if1 .left)))
 
 add-p : tie.Need-add-p Inv-loop μ-loop
 add-p c = search needs
@@ -33,7 +33,7 @@ loop-less : tie.Need-loop-less Inv-loop μ-loop
 loop-less c = search needs
 
 loop-again : tie.Need-loop-again Inv-loop μ-loop
-loop-again c = let r = c .before .before .extend in (omega arith, (omega (arith, r .ensures .more), pending-next (c .before .before .before .before .before .before .before .loop .inv .1 .1) (c .before .before .before .before .before .before .before .before .before .pre .0 .next) (c .before .before .before .before .if1 .left) (c .before .before .before .before .before .before .loop-test .taken) (r .ensures)))
+loop-again c = let r = c .before .before .extend in (omega arith, (omega (arith, r .ensures .more), pending-next (c .before .before .before .before .before .before .before .loop .inv .1 .1) (c .before .before .before .before .if1 .left) (c .before .before .before .before .before .before .loop-test .taken) (r .ensures)))
 
 same-length-2 : tie.Need-same-length-2 Inv-loop μ-loop
 same-length-2 c = c .before .loop .inv .1 .1 .grown .elsewhere .same-length

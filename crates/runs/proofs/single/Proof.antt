@@ -8,7 +8,7 @@ use Rattle.runs.proofs.single.Statement.{statement}
 use Rattle.runs.proofs.single.Tie as tie
 
 returns : tie.Need-returns
-returns c = let s = c .before .before in single-unmet (s .pre .0) (s .args .number .0) (s .args .choice-word) (s .pre .1 .0 .0) (s .pre .1 .0 .1) (s .pre .1 .1) (c .if1 .taken)
+returns c = let s = c .before .before in single-unmet (s .pre .0) (s .args .number .0) (s .args .choice-word) (s .pre .1 .0 .0) (s .pre .1 .0 .1) (s .pre .1 .1 .1) (s .pre .1 .1 .0) (c .if1 .taken)
 
 node-requires : tie.Need-node-requires
 node-requires c κs = search needs
@@ -32,13 +32,13 @@ triples-of-requires : tie.Need-triples-of-requires
 triples-of-requires c κs = search needs
 
 add-requires : tie.Need-add-requires
-add-requires c κs = let s = c .before .before .before .before .before .before .before .before .before .before .before .before .before .before in let k = s .pre .0 in (k .lent, (s .pre .1 .0 .1, record { first = omega (arith, s .pre .1 .0 .0, k .few); last = index-small (c .before .before .before .before .before .before .to .given .0 .0) (s .args .area .now) (k .few) (c .before .before .before .find .ensures); parent = omega arith; letter = single-letter k (s .args .number .0) (s .args .choice-word) (s .pre .1 .0 .0) (c .before .before .before .before .before .before .before .before .before .choice-of .ensures) (c .before .before .before .before .before .before .before .before .before .before .node .ensures) (subst (Stepped _ _ _ _) (c .before .before .before .before .before .before .to .given .1) (c .before .before .before .before .before .before .before .before .transition .ensures)) }))
+add-requires c κs = let s = c .before .before .before .before .before .before .before .before .before .before .before .before .before .before in let k = s .pre .0 in (k .lent, (s .pre .1 .0 .1, (record { first = omega (arith, s .pre .1 .0 .0, k .few); last = index-small (c .before .before .before .before .before .before .to .given .0 .0) (s .args .area .now) (k .few) (c .before .before .before .find .ensures); parent = omega arith; letter = single-letter k (s .args .number .0) (s .args .choice-word) (s .pre .1 .0 .0) (c .before .before .before .before .before .before .before .before .before .choice-of .ensures) (c .before .before .before .before .before .before .before .before .before .before .node .ensures) (subst (Stepped _ _ _ _) (c .before .before .before .before .before .before .to .given .1) (c .before .before .before .before .before .before .before .before .transition .ensures)) }, s .pre .1 .1 .1)))
 
 same-length : tie.Need-same-length
 same-length c = search needs
 
 returns-2 : tie.Need-returns-2
-returns-2 c = let s = c .before .before .before .before .before .before .before .before in single-none (s .pre .0) (s .args .number .0) (s .args .choice-word) (s .pre .1 .0 .0) (c .before .before .before .choice-of .ensures) (c .before .before .before .before .node .ensures) (s .pre .1 .0 .1) (subst (Stepped _ _ _ _) (c .enum-told .given .1) (c .before .before .transition .ensures))
+returns-2 c = let s = c .before .before .before .before .before .before .before .before in single-none (s .pre .0) (s .args .number .0) (s .args .choice-word) (s .pre .1 .0 .0) (c .before .before .before .choice-of .ensures) (c .before .before .before .before .node .ensures) (s .pre .1 .0 .1) (s .pre .1 .1 .1) (subst (Stepped _ _ _ _) (c .enum-told .given .1) (c .before .before .transition .ensures))
 
 same-length-2 : tie.Need-same-length-2
 same-length-2 c = search needs

@@ -1,0 +1,60 @@
+-- `runs::mix_row` takes a row of bytes into a hash. The invariant: the first g are in it.
+use mathlib.Core.Path.{_≡_, refl, ap, _∙_}
+use Prim.Native.Nat.{ℕ, _+_, _-_, _*_, _≤_, _<_}
+use native.Mathlib.Nat.{le-antisymm}
+use lib.ListN.{getD}
+use Rattle.runs.specs.Stored.{bits-of, row-of, mixed, mixed-row}
+use Rattle.runs.proofs.BucketLaws.{fold-more}
+use borrow.Author.Needs.{needs}
+use native.Mathlib.Omega.{arith}
+use Rattle.runs.proofs.mix_row.Statement.{statement}
+use Rattle.runs.proofs.mix_row.Tie as tie
+
+abbrev Inv-loop : tie.InvT-loop
+Inv-loop h t n f sum₀ g₀ sum g = (g ≤ n) × ((sum < 4294967296) × (sum ≡ mixed-row h (row-of t g f)))
+
+abbrev μ-loop : tie.MeasureT-loop
+μ-loop h t n f sum₀ g₀ sum g = n - g
+
+loop-holds : tie.Need-loop-holds Inv-loop μ-loop
+loop-holds c = (omega arith, (omega arith, refl))
+
+mul-mix : tie.Need-mul-mix Inv-loop μ-loop
+mul-mix c = search needs
+
+add-mix : tie.Need-add-mix Inv-loop μ-loop
+add-mix c = search needs
+
+element-copy-out-mix : tie.Need-element-copy-out-mix Inv-loop μ-loop
+element-copy-out-mix c = search needs
+
+mix-requires : tie.Need-mix-requires Inv-loop μ-loop
+mix-requires c κs = search needs
+
+add-g : tie.Need-add-g Inv-loop μ-loop
+add-g c = search needs
+
+loop-less : tie.Need-loop-less Inv-loop μ-loop
+loop-less c = search needs
+
+loop-again : tie.Need-loop-again Inv-loop μ-loop
+loop-again c = let s = c .before .before .before .before in let l = c .before .before .before .loop in (omega arith, (c .mix .ensures .0, fold-more mixed (s .args .h) (λ j. bits-of (getD (s .args .t .now) (s .args .f * 12 + j) 0)) (l .g) (l .inv .1 .1) (c .mix .ensures .1)))
+
+returns : tie.Need-returns Inv-loop μ-loop
+returns c = let l = c .before .loop in (l .inv .1 .0, l .inv .1 .1 ∙ ap (λ (k : ℕ). mixed-row (c .before .before .args .h) (row-of (c .before .before .args .t .now) k (c .before .before .args .f))) (le-antisymm (l .inv .0) (c .loop-test .left)))
+
+pub mix-row-spec : {M : Type 1} → statement M
+mix-row-spec =
+    tie.close
+    (tie.spec
+    Inv-loop
+    μ-loop
+    loop-holds
+    mul-mix
+    add-mix
+    element-copy-out-mix
+    mix-requires
+    add-g
+    loop-less
+    loop-again
+    returns)
