@@ -2,6 +2,7 @@ pub mod BitLaws
 pub mod BoolLaws
 pub mod ListLaws
 pub mod WordLaws
+pub mod LowestLaws
 pub mod Inside
 pub mod MemberLaws
 pub mod CondLaws

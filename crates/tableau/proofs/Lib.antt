@@ -5,6 +5,7 @@ pub mod NodeLaws
 pub mod WordSets
 pub mod RowLaws
 pub mod LoopLaws
+pub mod FringeLaws
 pub mod StepLaws
 pub mod WidestLaws
 pub mod UnmetLaws

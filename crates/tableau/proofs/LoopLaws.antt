@@ -1,28 +1,33 @@
 -- The loops over the rows, each as one turn: what holds of the first e rows holds, after the turn, of the first e + 1. So no loop needs
 -- more than the promise of the function it stands in, for a part of the table; the part grows at its end (`operators-more`), and the
--- definitions go along with that (`sweep-append`, `choice-append`, `operators-in-more`). Assumes nothing.
+-- definitions go along with that (`sweep-append`, `choice-append`, `operators-in-more`). A loop over the bits of a set does the same, for
+-- a row whose bit is clear requires nothing (`required-upto`). Assumes nothing.
 use mathlib.Core.Path.{_≡_, refl, sym, ap, subst, subst⁻¹, _∙_}
 use mathlib.Core.Bool.{Bool, true, false, cond, _||_, or-false}
 use mathlib.Core.List.{List, [], _∷_, _++_, append-nil}
-use Prim.Native.Nat.{ℕ, suc, _+_, _-_, _/_, _%_, _^_, _≤_, _<_}
+use Prim.Native.Nat.{ℕ, suc, _+_, _/_, _%_, _^_, _≤_, _<_}
 use native.Mathlib.Nat.{add-zero, zero-add}
+use native.Mathlib.Numerals.{add-one}
+use native.Mathlib.Decide.{decLt, le-ind}
 use native.Mathlib.Omega.{arith}
-use lib.Dec.{eqb}
+use lib.Dec.{T, eqb}
 use lib.Pow.{shr-shr}
 use lib.ListN.{length, getD}
-use Rattle.base.specs.Lists.{gather, any, repeat}
-use Rattle.base.specs.Bits.{bit, word}
+use borrow.Author.Tests.{eqb-false, ne-eqb}
+use Rattle.base.specs.Lists.{gather, any}
+use Rattle.base.specs.Bits.{bit, word, Lowest, Without}
+use Rattle.base.proofs.BoolLaws.{to-T}
 use Rattle.base.proofs.BitLaws.{set-none}
-use Rattle.base.proofs.ListLaws.{repeat-add, repeat-suc, repeat-stays, repeat-keeps}
 use Rattle.base.proofs.AppendLaws.{any-append, gather-append}
 use Rattle.base.proofs.Inside.{inside-length}
 use Rattle.base.proofs.NumberLaws.{values-length, values-add}
-use Rattle.base.proofs.WordLaws.{word-bit, word-past, word-inj}
+use Rattle.base.proofs.ShiftLaws.{low-below, low-bit}
+use Rattle.base.proofs.WordLaws.{no-bit, word-bit, word-past}
 use Rattle.formula.specs.Table.{Operator, Table}
 use Rattle.formula.specs.Rows.{operator-at}
-use Rattle.tableau.specs.Saturation.{Subset, has, add, moves, sweep, saturate}
+use Rattle.tableau.specs.Saturation.{Subset, has, add, moves, sweep}
 use Rattle.tableau.specs.Transition.{operators-in, requires, is-false, next-of, is-or, ors, choice-of}
-use Rattle.tableau.specs.Promise.{table-of, Formed, with-bits, Swept, Saturated, Requires-more, Required, Required-by}
+use Rattle.tableau.specs.Promise.{table-of, Formed, with-bits, Swept, Requires-more, Required, Required-by}
 use Rattle.tableau.specs.declared.Requirement.{Requirement}
 use Rattle.tableau.proofs.SaturationLaws.{sweep-inside}
 use Rattle.tableau.proofs.ChoiceLaws.{choice-of-length}
@@ -146,46 +151,6 @@ swept-more {rows} {count} {choice} {set} e x y b f h s t q = record { is = λ w 
 pub swept-all : {rows : List ℕ} {count e choice set r : ℕ} → Swept rows count e choice set r → e ≤ count → count ≤ e → Swept rows count count choice set r
 swept-all {rows} {count} {e} {choice} {set} {r} s h k = at-end (λ (n : ℕ). Swept rows count n choice set r) h k s
 
--- the sweeps of saturation: the set after n of them
-pub record Rounds (rows : List ℕ) (count n choice node r : ℕ) : Type 0 where
-  pub is : (w v : Subset) → length v ≡ count → choice ≡ word w → node ≡ word v → r ≡ word (repeat n (sweep (table-of rows count) w 0) v)
-
-rounds-length : (t : Table) (w v : Subset) (n count : ℕ) → length v ≡ count → length (repeat n (sweep t w 0) v) ≡ count
-rounds-length t w v n count l = repeat-keeps (λ (u : Subset). length u ≡ count) n (sweep t w 0) (λ u q. sweep-length t w 0 u ∙ q) v l
-
-pub rounds-none : (rows : List ℕ) (count n choice node : ℕ) → n ≡ 0 → Rounds rows count n choice node node
-rounds-none rows count n choice node q = record { is = λ w v l c e. rw q e }
-
-module _ {rows : List ℕ} {count n choice node x : ℕ} (r : Rounds rows count n choice node x) where
-  pub rounds-more : {m y : ℕ} → m ≡ n + 1 → Swept rows count count choice x y → Rounds rows count m choice node y
-  rounds-more {m} q s = record {
-    is = λ w v l c e.
-        s .is w (repeat n (sweep (table-of rows count) w 0) v) (rounds-length (table-of rows count) w v n count l) c (r .is w v l c e)
-        ∙ ap word (sym (repeat-suc n (sweep (table-of rows count) w 0) v)
-        ∙ ap (λ (k : ℕ). repeat k (sweep (table-of rows count) w 0) v) {x = suc n} {y = m} (omega arith));
-  }
-
-  -- all rounds, and a round that changes nothing
-  pub rounds-all : count ≤ n → n ≤ count → Saturated rows count choice node x
-  rounds-all h k = record {
-    is = λ w v l c e.
-        r .is w v l c e
-        ∙ ap (λ (m : ℕ). word (repeat m (sweep (table-of rows count) w 0) v)) {x = n} {y = length (table-of rows count)} (omega (arith, table-length rows count));
-  }
-
-  pub rounds-rest : n ≤ count → Swept rows count count choice x x → Saturated rows count choice node x
-  rounds-rest h s = record { is = λ w v l c e. r .is w v l c e ∙ ap word (rest w v l c (r .is w v l c e)) }
-    where
-      rest : (w v : Subset) → length v ≡ count → choice ≡ word w → x ≡ word (repeat n (sweep (table-of rows count) w 0) v)
-          → repeat n (sweep (table-of rows count) w 0) v ≡ saturate (table-of rows count) w v
-      rest w v l c q =
-          let f : Subset → Subset = sweep (table-of rows count) w 0 in
-          let u : Subset = repeat n f v in
-          let still : f u ≡ u =
-          word-inj (f u) u (sweep-length (table-of rows count) w 0 u) (sym (s .is w u (rounds-length (table-of rows count) w v n count l) c q) ∙ q) in
-          sym (ap (λ (m : ℕ). repeat m f v) {x = length (table-of rows count)} {y = n + (count - n)} (omega (arith, table-length rows count))
-          ∙ repeat-add n (count - n) f v ∙ repeat-stays (count - n) f u still)
-
 -- what is required
 operators-in-more : (t : Table) (o : Operator) (s : Subset) → operators-in (t ++ (o ∷ [])) s ≡ operators-in t s ++ cond (has s (length t)) (o ∷ []) []
 operators-in-more [] o [] = refl
@@ -209,7 +174,7 @@ required-one os o q r k m = record {
   to-is = gathered next-of os o (q .to) (r .to) (k .to-is) (m .to-is);
 }
 
-pub required-none : (rows : List ℕ) (count set : ℕ) → Required-by rows count 0 set (record { present = 0; absent = 0; falsum = false; to = 0 })
+required-none : (rows : List ℕ) (count set : ℕ) → Required-by rows count 0 set (record { present = 0; absent = 0; falsum = false; to = 0 })
 required-none rows count set = record { is = λ s l e. record { present-is = refl; absent-is = refl; falsum-is = refl; to-is = refl } }
 
 module _ {rows : List ℕ} {count e set : ℕ} {q : Requirement} (k : Required-by rows count e set q) where
@@ -220,17 +185,75 @@ module _ {rows : List ℕ} {count e set : ℕ} {q : Requirement} (k : Required-b
       ∙ ap (λ (i : ℕ). operators-in (table-of rows e) s ++ cond (has s i) (operator-at rows e ∷ []) []) (table-length rows e)
       ∙ ap (λ (d : Bool). operators-in (table-of rows e) s ++ cond d (operator-at rows e ∷ []) []) (sym (word-bit s e) ∙ ap (λ (x : ℕ). bit x e) (sym n) ∙ h)
 
-  pub required-more : bit set e ≡ true → {r : Requirement} → Requires-more (operator-at rows e) q r → Required-by rows count (e + 1) set r
+  required-more : bit set e ≡ true → {r : Requirement} → Requires-more (operator-at rows e) q r → Required-by rows count (e + 1) set r
   required-more h {r} m = record {
     is = λ s l n.
         subst⁻¹ (λ (os : List Operator). Required os r) (in-more s true n h)
         (required-one (operators-in (table-of rows e) s) (operator-at rows e) q r (k .is s l n) m);
   }
 
-  pub required-same : bit set e ≡ false → Required-by rows count (e + 1) set q
+  required-same : bit set e ≡ false → Required-by rows count (e + 1) set q
   required-same h = record {
     is = λ s l n. subst⁻¹ (λ (os : List Operator). Required os q) (in-more s false n h ∙ append-nil (operators-in (table-of rows e) s)) (k .is s l n);
   }
 
-  pub required-all : e ≤ count → count ≤ e → Required-by rows count count set q
-  required-all h l = at-end (λ (n : ℕ). Required-by rows count n set q) h l k
+-- rows whose bits are clear are passed over
+required-upto : {rows : List ℕ} {count e set : ℕ} {q : Requirement} (m : ℕ) → e ≤ m → Required-by rows count e set q
+    → ((k : ℕ) → e ≤ k → k < m → bit set k ≡ false) → Required-by rows count m set q
+required-upto {rows} {count} {e} {set} {q} m l r =
+    le-ind (λ (m : ℕ). ((k : ℕ) → e ≤ k → k < m → bit set k ≡ false) → Required-by rows count m set q)
+    (λ h. r)
+    (λ m l f h.
+    subst (λ (n : ℕ). Required-by rows count n set q) (add-one m) (required-same (f (λ k a b. h k a (omega arith))) (h m l (omega arith))))
+    m l
+
+-- The loop over the bits of a set: the rows below `upto` are passed, and the rest has the set's bits from there on.
+pub record Passed (rows : List ℕ) (count set rest : ℕ) (q : Requirement) : Type 0 where
+  pub upto : ℕ
+  pub few : upto ≤ count
+  pub required : Required-by rows count upto set q
+  pub ahead : (k : ℕ) → T (bit rest k) → (upto ≤ k) × (k < count)
+  pub same : (k : ℕ) → upto ≤ k → k < count → bit set k ≡ bit rest k
+
+pub passed-none : (rows : List ℕ) {count rest : ℕ} (set : ℕ) → rest ≡ set % 2 ^ count
+    → Passed rows count set rest (record { present = 0; absent = 0; falsum = false; to = 0 })
+passed-none rows {count} {rest} set q = record {
+  upto = 0;
+  few = omega arith;
+  required = required-none rows count set;
+  ahead = λ k t. (omega arith, low-below count set k (subst (λ (x : ℕ). T (bit x k)) q t));
+  same = λ k a b. sym (ap (λ (x : ℕ). bit x k) q ∙ low-bit count set k b);
+}
+
+module _ {rows : List ℕ} {count set rest : ℕ} {q : Requirement} (p : Passed rows count set rest q) where
+  pub passed-below : {e : ℕ} → Lowest rest e → e < count
+  passed-below {e} l = p .ahead e (to-T (bit rest e) (l .there)) .1
+
+  pub passed-more : {e left : ℕ} {r : Requirement} → Lowest rest e → Without rest e left → Requires-more (operator-at rows e) q r
+      → Passed rows count set left r
+  passed-more {e} {left} {r} l o m = record {
+    upto = e + 1;
+    few = omega (arith, here .1);
+    required = required-more (required-upto e (here .0) (p .required) clear) (p .same e (here .0) (here .1) ∙ l .there) m;
+    ahead = λ k t. from k (eqb k e) refl (subst T (o .bits k) t);
+    same = λ k a b.
+        p .same k (omega (arith, here .0)) b
+        ∙ sym (o .bits k ∙ ap (λ (d : Bool). cond d false (bit rest k)) (ne-eqb k e (λ i. omega arith)));
+  }
+    where
+      here : (p .upto ≤ e) × (e < count)
+      here = p .ahead e (to-T (bit rest e) (l .there))
+
+      clear : (k : ℕ) → p .upto ≤ k → k < e → bit set k ≡ false
+      clear k a b = p .same k a (omega (arith, here .1)) ∙ l .none-below k b
+
+      from : (k : ℕ) (d : Bool) → eqb k e ≡ d → T (cond d false (bit rest k)) → (e + 1 ≤ k) × (k < count)
+      from k true i t = absurd t
+      from k false i t = (after (decLt k e), p .ahead k t .1)
+        where
+          after : Dec (k < e) → e + 1 ≤ k
+          after (yes h) = absurd (subst T (l .none-below k h) t)
+          after (no h) = omega (arith, eqb-false k e i)
+
+  pub passed-all : rest ≡ 0 → Required-by rows count count set q
+  passed-all z = required-upto count (p .few) (p .required) (λ k a b. p .same k a b ∙ ap (λ (x : ℕ). bit x k) z ∙ no-bit k)

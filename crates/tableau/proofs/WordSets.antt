@@ -43,7 +43,7 @@ pub with-bits-append : (ms ns : List ℕ) (x : ℕ) → with-bits (ms ++ ns) x �
 with-bits-append [] ns x = refl
 with-bits-append (m ∷ ms) ns x = with-bits-append ms ns (bitOr x (2 ^ m))
 
-with-bits-bit : (ms : List ℕ) (x k : ℕ) → bit (with-bits ms x) k ≡ (member k ms || bit x k)
+pub with-bits-bit : (ms : List ℕ) (x k : ℕ) → bit (with-bits ms x) k ≡ (member k ms || bit x k)
 with-bits-bit [] x k = refl
 with-bits-bit (m ∷ ms) x k =
     with-bits-bit ms (bitOr x (2 ^ m)) k ∙ ap (λ (b : Bool). member k ms || b) (set-on x m k) ∙ turn (eqb k m) (member k ms) (bit x k)

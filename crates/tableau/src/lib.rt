@@ -102,20 +102,19 @@ fn swept(rows: &[u8; 144], count: usize, choice: u64, set: u64) -> u64
     grown
 }
 
-// The least set that holds the node and follows its moves.
+// The least set that holds the node and follows its moves. The fringe has the subformulas whose moves are still to be followed. A node has
+// no bit from count on: `low` changes none, and bounds e for any word.
 pub fn saturated(rows: &[u8; 144], count: usize, choice: u64, node: u64) -> u64
     requires { ⌜ Formed (now rows) count ⌝ }
     ensures { λ r. ⌜ Saturated (now (rows .entry)) count choice node r ⌝ }
 {
     let mut set = node;
-    let mut left = count;
-    while 0 < left {
-        let grown = swept(rows, count, choice, set);
-        if grown == set {
-            return set;
-        }
+    let mut fringe = base::low(node, count);
+    while fringe != 0 {
+        let e = base::lowest(fringe);
+        let grown = moved(rows, choice, e, set);
+        fringe = base::without(fringe, e) | (grown ^ set);
         set = grown;
-        left -= 1;
     }
     set
 }
@@ -216,12 +215,11 @@ fn required_by(rows: &[u8; 144], count: usize, set: u64) -> Requirement
         falsum: false,
         to: 0,
     };
-    let mut e = 0;
-    while e < count {
-        if base::has(set, e) {
-            all = with_required(rows, e, all);
-        }
-        e += 1;
+    let mut rest = base::low(set, count);
+    while rest != 0 {
+        let e = base::lowest(rest);
+        all = with_required(rows, e, all);
+        rest = base::without(rest, e);
     }
     all
 }

@@ -1,47 +1,42 @@
--- `tableau::required_by` is what the operators of a set require: after e turns, those in the first e rows.
-use mathlib.Core.Logic.{⊎-elim}
-use Rattle.tableau.specs.Promise.{Required-by}
+-- `tableau::required_by` is what the operators of a set require, in rising order: each turn passes over the rows whose bits are clear, up
+-- to the lowest bit that is left, and takes the operator of that row.
 use Rattle.tableau.proofs.RowLaws.{placed}
-use Rattle.tableau.proofs.LoopLaws.{required-none, required-more, required-same, required-all}
+use Rattle.tableau.proofs.LoopLaws.{Passed, passed-none, passed-below, passed-more, passed-all}
 use borrow.Author.Needs.{needs}
 use native.Mathlib.Omega.{arith}
-use Prim.Native.Nat.{_-_, _≤_}
-use mathlib.Core.Path.{sym, _∙_}
+use lib.Pow.{pow-pos}
 use Rattle.tableau.proofs.required_by.Statement.{statement}
 use Rattle.tableau.proofs.required_by.Tie as tie
 
 abbrev Inv-loop : tie.InvT-loop
-Inv-loop rows count set all₀ e₀ all e = (e ≤ count) × Required-by rows count e set all
+Inv-loop rows count set all₀ rest₀ all rest = Passed rows count set rest all
 
 abbrev μ-loop : tie.MeasureT-loop
-μ-loop rows count set all₀ e₀ all e = count - e
+μ-loop rows count set all₀ rest₀ all rest = rest
+
+low-requires : tie.Need-low-requires Inv-loop μ-loop
+low-requires c κs = search needs
 
 loop-holds : tie.Need-loop-holds Inv-loop μ-loop
-loop-holds c = (omega arith, required-none _ _ _)
+loop-holds c = passed-none _ _ (c .low .ensures)
 
-has-requires : tie.Need-has-requires Inv-loop μ-loop
-has-requires c κs = search needs
+lowest-requires : tie.Need-lowest-requires Inv-loop μ-loop
+lowest-requires c κs = search needs
 
 with-required-requires : tie.Need-with-required-requires Inv-loop μ-loop
-with-required-requires c κs = placed (c .before .before .before .before .pre) (c .before .before .loop-test .taken)
+with-required-requires c κs = placed (c .before .before .before .before .pre) (passed-below (c .before .before .loop .inv) (c .lowest .ensures))
 
-add-e : tie.Need-add-e Inv-loop μ-loop
-add-e c = search needs
+without-requires : tie.Need-without-requires Inv-loop μ-loop
+without-requires c κs = search needs
 
 loop-less : tie.Need-loop-less Inv-loop μ-loop
-loop-less c = search needs
+loop-less c = omega (arith, c .without .ensures .less, pow-pos (c .before .before .lowest .result))
 
 loop-again : tie.Need-loop-again Inv-loop μ-loop
-loop-again c = (
-  omega arith,
-  ⊎-elim
-      (λ w. rw (w .2) (required-more (c .before .before .before .loop .inv .1) (sym (c .before .has .ensures) ∙ w .0 .taken) (w .1 .ensures)))
-      (λ w. rw (w .1) (required-same (c .before .before .before .loop .inv .1) (sym (c .before .has .ensures) ∙ w .0 .left)))
-      (c .if1 .came),
-)
+loop-again c = passed-more (c .before .before .before .before .loop .inv) (c .before .before .lowest .ensures) (c .without .ensures) (c .before .with-required .ensures)
 
 returns : tie.Need-returns Inv-loop μ-loop
-returns c = required-all (c .before .loop .inv .1) (c .before .loop .inv .0) (c .loop-test .left)
+returns c = passed-all (c .before .loop .inv) (c .loop-test .left)
 
 pub required-by-spec : {M : Type 1} → statement M
 required-by-spec =
@@ -49,10 +44,11 @@ required-by-spec =
     (tie.spec
     Inv-loop
     μ-loop
+    low-requires
     loop-holds
-    has-requires
+    lowest-requires
     with-required-requires
-    add-e
+    without-requires
     loop-less
     loop-again
     returns)

@@ -1,39 +1,42 @@
--- `tableau::saturated` sweeps until a sweep changes nothing, at most `count` times: after each turn, the set of one round more.
-use Rattle.tableau.specs.Promise.{Swept}
-use Rattle.tableau.proofs.LoopLaws.{Rounds, rounds-none, rounds-more, rounds-all, rounds-rest}
+-- `tableau::saturated` follows the moves of the fringe until it is empty: the set lies between the node and its saturation, and is closed
+-- but for the fringe. What a turn puts into the fringe the set gains, so that twice what the set lacks, with the fringe, gets less.
+use Rattle.tableau.proofs.FringeLaws.{Spread, spread-start, spread-below, spread-turn, spread-less, spread-rest}
+use Rattle.tableau.proofs.RowLaws.{placed}
 use borrow.Author.Needs.{needs}
 use native.Mathlib.Omega.{arith}
-use Prim.Native.Nat.{_-_, _≤_}
-use mathlib.Core.Path.{subst}
+use Prim.Native.Nat.{_+_, _*_, _-_, _^_}
 use Rattle.tableau.proofs.saturated.Statement.{statement}
 use Rattle.tableau.proofs.saturated.Tie as tie
 
 abbrev Inv-loop : tie.InvT-loop
-Inv-loop rows count choice node set₀ left₀ set left = (left ≤ count) × Rounds rows count (count - left) choice node set
+Inv-loop rows count choice node set₀ fringe₀ set fringe = Spread rows count choice node set fringe
 
 abbrev μ-loop : tie.MeasureT-loop
-μ-loop rows count choice node set₀ left₀ set left = left
+μ-loop rows count choice node set₀ fringe₀ set fringe = 2 * (2 ^ 64 - set) + fringe
+
+low-requires : tie.Need-low-requires Inv-loop μ-loop
+low-requires c κs = search needs
 
 loop-holds : tie.Need-loop-holds Inv-loop μ-loop
-loop-holds c = (omega arith, rounds-none _ _ _ _ _ (omega arith))
+loop-holds c = spread-start _ _ _ (c .low .ensures)
 
-swept-requires : tie.Need-swept-requires Inv-loop μ-loop
-swept-requires c κs = search needs
+lowest-requires : tie.Need-lowest-requires Inv-loop μ-loop
+lowest-requires c κs = search needs
 
-returns : tie.Need-returns Inv-loop μ-loop
-returns c = rounds-rest (c .before .before .before .loop .inv .1) (omega arith) (subst (Swept _ _ _ _ _) (c .if1 .taken) (c .before .swept .ensures))
+moved-requires : tie.Need-moved-requires Inv-loop μ-loop
+moved-requires c κs = placed (c .before .before .before .before .pre) (spread-below (c .before .before .loop .inv) (c .lowest .ensures))
 
-sub-left : tie.Need-sub-left Inv-loop μ-loop
-sub-left c = search needs
+without-requires : tie.Need-without-requires Inv-loop μ-loop
+without-requires c κs = search needs
 
 loop-less : tie.Need-loop-less Inv-loop μ-loop
-loop-less c = search needs
+loop-less c = spread-less (c .before .before .before .before .loop .inv) (c .before .before .lowest .ensures) (c .without .ensures) (c .before .moved .ensures) (2 ^ 64) (omega arith)
 
 loop-again : tie.Need-loop-again Inv-loop μ-loop
-loop-again c = (omega arith, rounds-more (c .before .before .before .loop .inv .1) (omega arith) (c .before .swept .ensures))
+loop-again c = spread-turn (c .before .before .before .before .loop .inv) (c .before .before .lowest .ensures) (c .without .ensures) (c .before .moved .ensures) (c .before .before .before .before .before .before .pre)
 
-returns-2 : tie.Need-returns-2 Inv-loop μ-loop
-returns-2 c = rounds-all (c .before .loop .inv .1) (omega arith) (omega arith)
+returns : tie.Need-returns Inv-loop μ-loop
+returns c = spread-rest (c .before .loop .inv) (c .loop-test .left)
 
 pub saturated-spec : {M : Type 1} → statement M
 saturated-spec =
@@ -41,10 +44,11 @@ saturated-spec =
     (tie.spec
     Inv-loop
     μ-loop
+    low-requires
     loop-holds
-    swept-requires
-    returns
-    sub-left
+    lowest-requires
+    moved-requires
+    without-requires
     loop-less
     loop-again
-    returns-2)
+    returns)

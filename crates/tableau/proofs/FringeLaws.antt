@@ -1,0 +1,207 @@
+-- Saturation by a fringe, the subformulas of the set whose moves are still to be followed. The set lies between the node and its saturation,
+-- and is closed but for the fringe (`Between`). A turn takes a subformula out of the fringe and puts in what its moves add to the set
+-- (`spread-turn`); with no fringe left the set is closed, so by `saturate-least` it is the saturation (`spread-rest`). What enters the
+-- fringe enters the set once and for all, which is why the turns end (`spread-less`). Assumes nothing.
+use mathlib.Core.Path.{_≡_, refl, sym, ap, subst, subst⁻¹, _∙_}
+use mathlib.Core.Logic.{_⊎_, inl, inr}
+use mathlib.Core.Bool.{Bool, true, false, cond, not, _||_}
+use mathlib.Core.List.{List, List·Memᴰ}
+use Prim.Native.Nat.{ℕ, _+_, _-_, _*_, _%_, _^_, _≤_, _<_}
+use native.Mathlib.Omega.{arith}
+use native.Mathlib.Nat.{zero-add, mod-eq-of-lt}
+use lib.Bits.{bitOr, bitXor, or-add-and}
+use lib.Dec.{T, eqb, not-T}
+use lib.ListN.{length, getD}
+use lib.Pow.{pow-pos}
+use borrow.Author.Tests.{eqb-true, eqb-false, ne-eqb}
+use Rattle.base.specs.Lists.{member}
+use Rattle.base.specs.Bits.{bit, word, Lowest, Without}
+use Rattle.base.proofs.BoolLaws.{by-test, to-T, or-cases, or-left, or-right}
+use Rattle.base.proofs.BitLaws.{bit-or, bit-xor}
+use Rattle.base.proofs.Inside.{Inside, inside-length, inside-refl, inside-trans, inside-both}
+use Rattle.base.proofs.LowestLaws.{taken-off}
+use Rattle.base.proofs.MemberLaws.{member-of}
+use Rattle.base.proofs.NumberLaws.{values-at}
+use Rattle.base.proofs.ShiftLaws.{low-below}
+use Rattle.base.proofs.WordLaws.{no-bit, word-bit, word-lt}
+use Rattle.formula.specs.Formula.{Leaf}
+use Rattle.formula.specs.Table.{Operator, Table, operator}
+use Rattle.formula.specs.Rows.{operator-at}
+use Rattle.tableau.specs.Saturation.{Subset, has, add, moves, saturate}
+use Rattle.tableau.specs.Promise.{table-of, Formed, with-bits, Saturated}
+use Rattle.tableau.proofs.SaturationLaws.{inside-has, inside-by, add-inside, add-has, add-of, saturate-holds, saturate-closed, saturate-least}
+use Rattle.tableau.proofs.WordSets.{Below, with-bits-bit, word-add}
+use Rattle.tableau.proofs.RowLaws.{moves-below}
+use Rattle.tableau.proofs.LoopLaws.{table-length}
+
+-- A turn of the loop: subformula e leaves the fringe, its moves ms go into the set.
+record Turn (ms : List ℕ) (fringe e rest set grown : ℕ) : Type 0 where
+  there : T (bit fringe e)
+  left : Without fringe e rest
+  gains : grown ≡ with-bits ms set
+
+-- the next fringe, bit by bit: it has the rest and what is new in the set
+module _ {ms : List ℕ} {fringe e rest set grown : ℕ} (u : Turn ms fringe e rest set grown) where
+  next-bit : (k : ℕ) → bit (bitOr rest (bitXor grown set)) k ≡ (bit rest k || bit (bitXor grown set) k)
+  next-bit k = bit-or rest (bitXor grown set) k
+
+  grown-bit : (k : ℕ) → bit grown k ≡ (member k ms || bit set k)
+  grown-bit k = ap (λ (x : ℕ). bit x k) (u .gains) ∙ with-bits-bit ms set k
+
+  kept : (k : ℕ) → (k ≡ e → ⊥) → T (bit fringe k) → T (bit (bitOr rest (bitXor grown set)) k)
+  kept k n h =
+      subst⁻¹ T (next-bit k)
+      (or-left (bit rest k) (bit (bitXor grown set) k)
+      (subst⁻¹ T (u .left .bits k ∙ ap (λ (d : Bool). cond d false (bit fringe k)) (ne-eqb k e n)) h))
+
+  entered : (k : ℕ) → T (bit grown k) → (T (bit set k) → ⊥) → T (bit (bitOr rest (bitXor grown set)) k)
+  entered k h n =
+      subst⁻¹ T (next-bit k)
+      (or-right (bit rest k) (bit (bitXor grown set) k) (subst⁻¹ T (bit-xor grown set k) (only (bit grown k) (bit set k) h n)))
+    where
+      only : (a b : Bool) → T a → (T b → ⊥) → T (cond a (not b) b)
+      only true b h n = not-T b n
+      only false b h n = absurd h
+
+  came : (k : ℕ) → T (bit (bitOr rest (bitXor grown set)) k) → T (bit fringe k) ⊎ List·Memᴰ k ms
+  came k h =
+      elim (or-cases (bit rest k) (bit (bitXor grown set) k) (subst T (next-bit k) h)) [
+        | inl p ↦ inl (old (eqb k e) (subst T (u .left .bits k) p))
+        | inr p ↦ inr (member-of k ms (new (member k ms) (bit set k) (subst T new-bit p)))
+      ]
+    where
+      new-bit : bit (bitXor grown set) k ≡ cond (member k ms || bit set k) (not (bit set k)) (bit set k)
+      new-bit = bit-xor grown set k ∙ ap (λ (d : Bool). cond d (not (bit set k)) (bit set k)) (grown-bit k)
+
+      old : (d : Bool) → T (cond d false (bit fringe k)) → T (bit fringe k)
+      old true h = absurd h
+      old false h = h
+
+      new : (a b : Bool) → T (cond (a || b) (not b) b) → T a
+      new true b h = tt
+      new false true h = h
+      new false false h = h
+
+  -- what is new is missing twice in what the set has room for, and comes once into the fringe, which loses bit e
+  falls : (room : ℕ) → grown ≤ room → 2 * (room - grown) + bitOr rest (bitXor grown set) < 2 * (room - set) + fringe
+  falls room h =
+      let new : bitXor grown set + set ≡ grown = taken-off grown set (λ k t. subst⁻¹ T (grown-bit k) (or-right (member k ms) (bit set k) t)) in
+      omega (arith, or-add-and rest (bitXor grown set), u .left .less, pow-pos e)
+
+-- A set between the node and its saturation that follows the moves of its subformulas but those of the fringe.
+pub record Between (t : Table) (w v : Subset) (set fringe : ℕ) : Type 0 where
+  pub now : Subset
+  pub word-is : set ≡ word now
+  pub holds : Inside v now
+  pub within : Inside now (saturate t w v)
+  pub part : (k : ℕ) → T (bit fringe k) → T (has now k)
+  pub follows : (e m : ℕ) → T (has now e) → (T (bit fringe e) → ⊥) → List·Memᴰ m (moves (operator t e) (has w e)) → m < length now → T (has now m)
+
+module _ {t : Table} {w v : Subset} {ms : List ℕ} {set fringe e rest grown : ℕ} (len : length v ≡ length t)
+    (q : ms ≡ moves (operator t e) (has w e)) (below : Below (length v) ms) (u : Turn ms fringe e rest set grown) (b : Between t w v set fringe) where
+  abbrev after : Subset
+  after = add ms (b .now)
+
+  more : Inside (b .now) after
+  more = add-inside ms (b .now)
+
+  inside-now : Below (length (b .now)) ms
+  inside-now m r = omega (arith, inside-length (b .holds), below m r)
+
+  word-after : grown ≡ word after
+  word-after = u .gains ∙ ap (with-bits ms) (b .word-is) ∙ sym (word-add ms (b .now) inside-now)
+
+  moved-to : (m : ℕ) → List·Memᴰ m ms → T (has after m)
+  moved-to m r = add-has ms r (b .now) (inside-now m r)
+
+  still-within : (k : ℕ) → T (has after k) → T (has (saturate t w v) k)
+  still-within k h =
+      elim (add-of ms (b .now) k h) [
+        | inl p ↦
+            saturate-closed t w v len e k (inside-has (b .within) e (b .part e (u .there))) (subst (List·Memᴰ k) q (p .0))
+            (omega (arith, p .1, inside-length (b .within)))
+        | inr p ↦ inside-has (b .within) k p
+      ]
+
+  still-follows : (i m : ℕ) → T (has after i) → (T (bit (bitOr rest (bitXor grown set)) i) → ⊥) → List·Memᴰ m (moves (operator t i) (has w i))
+      → m < length after → T (has after m)
+  still-follows i m h n r l =
+      by-test (has (b .now) i) (λ _. T (has after m))
+      (λ old. by (eqb i e) refl old)
+      (λ new.
+      absurd (n (entered u i (subst⁻¹ T (ap (λ (x : ℕ). bit x i) word-after ∙ word-bit after i) h)
+      (λ s. new (subst T (ap (λ (x : ℕ). bit x i) (b .word-is) ∙ word-bit (b .now) i) s)))))
+    where
+      by : (d : Bool) → eqb i e ≡ d → T (has (b .now) i) → T (has after m)
+      by true s old = moved-to m (subst⁻¹ (List·Memᴰ m) (q ∙ ap (λ (x : ℕ). moves (operator t x) (has w x)) (sym (eqb-true i e s))) r)
+      by false s old =
+          inside-has more m (b .follows i m old (λ f. n (kept u i (eqb-false i e s) f)) r (omega (arith, inside-length more)))
+
+  between-turn : Between t w v grown (bitOr rest (bitXor grown set))
+  between-turn = record {
+    now = after;
+    word-is = word-after;
+    holds = inside-trans (b .holds) more;
+    within = inside-by after (saturate t w v) (sym (inside-length more) ∙ inside-length (b .within)) still-within;
+    part = λ k h. elim (came u k h) [ inl p ↦ inside-has more k (b .part k p) | inr r ↦ moved-to k r ];
+    follows = still-follows;
+  }
+
+table-at : (rows : List ℕ) {count e : ℕ} → e < count → operator (table-of rows count) e ≡ operator-at rows e
+table-at rows {count} {e} h = values-at (operator-at rows) 0 count e (Operator.leaf (Leaf.constant false)) h ∙ ap (operator-at rows) (zero-add e)
+
+-- The loop's invariant. The fringe has only subformulas, even where the node's word is no set's.
+pub record Spread (rows : List ℕ) (count choice node set fringe : ℕ) : Type 0 where
+  pub few : (k : ℕ) → T (bit fringe k) → k < count
+  pub is : (w v : Subset) → length v ≡ count → choice ≡ word w → node ≡ word v → Between (table-of rows count) w v set fringe
+
+pub spread-start : (rows : List ℕ) {count fringe : ℕ} (choice node : ℕ) → fringe ≡ node % 2 ^ count → Spread rows count choice node node fringe
+spread-start rows {count} {fringe} choice node q = record {
+  few = λ k h. low-below count node k (subst (λ (x : ℕ). T (bit x k)) q h);
+  is = λ w v l c n.
+      let small : word v < 2 ^ count = subst (λ (k : ℕ). word v < 2 ^ k) l (word-lt v) in
+      let same : (k : ℕ) → bit fringe k ≡ has v k =
+      λ k. ap (λ (x : ℕ). bit x k) (q ∙ ap (λ (x : ℕ). x % 2 ^ count) n ∙ mod-eq-of-lt small) ∙ word-bit v k in
+      record {
+        now = v;
+        word-is = n;
+        holds = inside-refl v;
+        within = saturate-holds (table-of rows count) w v;
+        part = λ k h. subst T (same k) h;
+        follows = λ e m h f r k. absurd (f (subst⁻¹ T (same e) h));
+      };
+}
+
+module _ {rows : List ℕ} {count choice node set fringe : ℕ} (s : Spread rows count choice node set fringe) where
+  pub spread-below : {e : ℕ} → Lowest fringe e → e < count
+  spread-below {e} l = s .few e (to-T (bit fringe e) (l .there))
+
+  module _ {e rest grown : ℕ} (l : Lowest fringe e) (o : Without fringe e rest)
+      (g : grown ≡ with-bits (moves (operator-at rows e) (bit choice e)) set) where
+    turn : Turn (moves (operator-at rows e) (bit choice e)) fringe e rest set grown
+    turn = record { there = to-T (bit fringe e) (l .there); left = o; gains = g }
+
+    same-moves : (w : Subset) → choice ≡ word w → moves (operator-at rows e) (bit choice e) ≡ moves (operator (table-of rows count) e) (has w e)
+    same-moves w c =
+        ap (moves (operator-at rows e)) (ap (λ (x : ℕ). bit x e) c ∙ word-bit w e)
+        ∙ ap (λ (x : Operator). moves x (has w e)) (sym (table-at rows (spread-below l)))
+
+    pub spread-turn : Formed rows count → Spread rows count choice node grown (bitOr rest (bitXor grown set))
+    spread-turn f =
+        let below = moves-below (getD rows e 0) (getD rows (48 + e) 0) e count (bit choice e) (f .row e (spread-below l)) in
+        record {
+          few = λ k h. elim (came turn k h) [ inl p ↦ s .few k p | inr r ↦ below k r ];
+          is = λ w v n c d.
+              between-turn (n ∙ sym (table-length rows count)) (same-moves w c) (λ m r. omega (arith, below m r)) turn (s .is w v n c d);
+        }
+
+    pub spread-less : (room : ℕ) → grown ≤ room → 2 * (room - grown) + bitOr rest (bitXor grown set) < 2 * (room - set) + fringe
+    spread-less = falls turn
+
+  pub spread-rest : fringe ≡ 0 → Saturated rows count choice node set
+  spread-rest z = record {
+    is = λ w v l c n.
+        let b = s .is w v l c n in
+        b .word-is ∙ ap word (inside-both (b .within)
+        (saturate-least (table-of rows count) w (b .holds) (λ e m h r k. b .follows e m h (λ t. subst T (ap (λ (x : ℕ). bit x e) z ∙ no-bit e) t) r k)));
+  }
