@@ -1,4 +1,4 @@
--- What trying the transitions of a node finds. A step of the code is the definition's (`tries-nothing`, `tries-found`, `tries-other`); the
+-- What trying the transitions of a node finds. A step of the code is the definition's (`tries-nowhere`, `tries-found`, `tries-other`); the
 -- choice words one after another give all transitions of a node (`tries-some`, `tries-end`); and the nodes one after another the first
 -- that leads to node j (`comes-none`, `comes-next`, `comes-found`). Assumes nothing.
 use mathlib.Core.Path.{_≡_, refl, sym, ap, subst, subst⁻¹, _∙_}
@@ -17,11 +17,11 @@ use Rattle.base.proofs.WordLaws.{word-inj}
 use Rattle.formula.specs.Table.{Operator, Table}
 use Rattle.tableau.specs.Saturation.{Subset, nothing, saturate}
 use Rattle.tableau.specs.Transition.{operators-in, within, possible, letter-of, next-of, ors, choice-of, choices, Transition, transition-of, transitions}
-use Rattle.tableau.specs.Promise.{table-of, step, Stepped}
+use Rattle.tableau.specs.Promise.{table-of, Leads-nowhere, step, Stepped}
 use Rattle.tableau.specs.Area.{eight}
 use Rattle.tableau.specs.declared.NodeNumber.{NodeNumber}
 use Rattle.tableau.specs.declared.Step.{Step}
-use Rattle.tableau.specs.declared.Step.the-variants.{Leads, Nothing}
+use Rattle.tableau.specs.declared.Step.the-variants.{Leads}
 use Rattle.tableau.proofs.SaturationLaws.{add-inside}
 use Rattle.tableau.proofs.TransitionLaws.{transition-with}
 use Rattle.tableau.proofs.LoopLaws.{table-length}
@@ -32,10 +32,6 @@ use Rattle.decision.specs.declared.Came.the-variants.{From, Nowhere}
 use Rattle.decision.proofs.StemLaws.{None-to, some-before, first-nearer, node-length}
 
 -- one transition, if a test holds
-one-none : (b : Bool) (x : Transition) (from : NodeNumber) (u : Subset) → Nothing ≡ step (cond b (x ∷ []) []) → Tried (cond b (x ∷ []) []) from u Nowhere
-one-none true x from u e = absurd (let z : _≡_ {A = ℕ} 0 1 = cc in omega arith)
-one-none false x from u e = Tried.none (λ s m q. List·Memᴰ·not-nil m)
-
 one-found : (b : Bool) (x : Transition) (from : NodeNumber) (u : Subset) (to p : ℕ) → to ≡ word u → length (x .to) ≡ length u → Leads to p ≡ step (cond b (x ∷ []) [])
     → Tried (cond b (x ∷ []) []) from u (From from p)
 one-found true x from u to p h l e =
@@ -61,15 +57,12 @@ module _ (rows : List ℕ) (count x : ℕ) where
   abbrev os : Subset → List Operator
   os v = operators-in t (saturate t w v)
 
-  module _ {choice from : ℕ} (number : NodeNumber) (set : ℕ) (chosen : choice ≡ word w) where
-    pub tries-nothing : {r : Step} → Stepped rows count choice from r → r ≡ Nothing → Tries (by-choice t x) count number from set Nowhere
-    unfolding possible letter-of
-    tries-nothing st e =
-        record {
-          is = λ v u l k p q.
-              one-none (within w (saturate t w v) && possible (os v)) (transition-with t w (saturate t w v)) number u (sym e ∙ st .is w v l chosen p);
-        }
+  pub tries-nowhere : {from : ℕ} (number : NodeNumber) (set : ℕ) → Leads-nowhere rows count from x → Tries (by-choice t x) count number from set Nowhere
+  tries-nowhere number set n = record {
+    is = λ v u l k p q. Tried.none (λ s m e. List·Memᴰ·not-nil (subst (List·Memᴰ s) (n .is v l p) m));
+  }
 
+  module _ {choice from : ℕ} (number : NodeNumber) (set : ℕ) (chosen : choice ≡ word w) where
     pub tries-found : {r : Step} {to letter : ℕ} → Stepped rows count choice from r → r ≡ Leads to letter → to ≡ set
         → Tries (by-choice t x) count number from set (From number letter)
     unfolding possible letter-of

@@ -11,7 +11,7 @@ ghost use Prim.Native.Nat.{ℕ, suc, _+_, _*_, _≤_, _<_};
 ghost use lib.ListN.{length};
 ghost use Rattle.base.specs.Bits.{bit};
 ghost use Rattle.tableau.specs.Transition.{transitions};
-ghost use Rattle.tableau.specs.Promise.{table-of, Formed};
+ghost use Rattle.tableau.specs.Promise.{table-of, Formed, Unmet};
 ghost use Rattle.tableau.specs.Area.{reachable};
 ghost use Rattle.coded.specs.Runs.{accepting, profiles};
 ghost use Rattle.traces.specs.Promise.{fix-rank, Ranked};
@@ -43,18 +43,24 @@ enum Came {
     Nowhere,
 }
 
-// Whether the transition of a choice word leads from a node, with its number, to a set.
+// Whether the transition of a choice word leads from a node, with its number, to a set. A word that picks at an or that it does not meet
+// has none.
 fn by_choice(
     rows: &[u8; 144],
     count: usize,
+    unmet: &[u64; 24],
     choice_word: u64,
     number: NodeNumber,
     from: u64,
     set: u64,
 ) -> Came
     requires { ⌜ Formed (now rows) count ⌝ }
+    requires { ⌜ Unmet (now rows) count from (now unmet) ⌝ }
     ensures { λ r. ⌜ Tries (by-choice (table-of (now (rows .entry)) count) «choice_word») count number from set r ⌝ }
 {
+    if tableau::is_unmet(unmet, choice_word) {
+        return Came::Nowhere;
+    }
     let choice = tableau::choice_of(rows, count, choice_word);
     match tableau::transition(rows, count, choice, from) {
         Step::Nothing => Came::Nowhere,
@@ -72,10 +78,11 @@ fn to_set(rows: &[u8; 144], count: usize, number: NodeNumber, from: u64, set: u6
     requires { ⌜ Formed (now rows) count ⌝ }
     ensures { λ r. ⌜ Tries (transitions (table-of (now (rows .entry)) count)) count number from set r ⌝ }
 {
+    let unmet = tableau::unmet(rows, count, from);
     let end = base::power(tableau::ors(rows, count));
     let mut word = 0u64;
     while word < end {
-        let c = by_choice(rows, count, word, number, from, set);
+        let c = by_choice(rows, count, &unmet, word, number, from, set);
         if let Came::From(_, _) = c {
             return c;
         }

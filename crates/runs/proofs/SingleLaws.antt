@@ -1,6 +1,6 @@
 -- The profiles of one transition. A word below 2^count is the word of its set (`subset-word`), so the number of a node in the area is its
--- number in the definition (`find-number`), and one choice word gives the definition's profile or none (`single-some`, `single-none`,
--- `single-unmet`). The nodes stay while records are added behind them (`given-kept`). All choice words make the profiles of a node
+-- number in the definition (`find-number`), and one choice word gives the definition's profile or none (`single-some`,
+-- `single-nowhere`). The nodes stay while records are added behind them (`given-kept`). All choice words make the profiles of a node
 -- (`of-turn`, `of-stop`, `of-done`), and all nodes but the root those of one transition (`all-turn`, `all-stop`, `all-done`). Assumes
 -- nothing.
 use mathlib.Core.Path.{_≡_, refl, sym, ap, subst, subst⁻¹, _∙_}
@@ -9,7 +9,6 @@ use mathlib.Core.List.{List, [], _∷_, _++_, map, List·Memᴰ·head, List·Mem
 use Prim.Native.Nat.{ℕ, zero, suc, _+_, _-_, _*_, _^_, _≤_, _<_}
 use native.Mathlib.Nat.{zero-add}
 use native.Mathlib.Omega.{arith}
-use lib.Bits.{bitAnd}
 use lib.Dec.{T, eqb, eqb→eq, eqb-refl}
 use lib.ListN.{length, getD, length-map}
 use Rattle.base.specs.Bits.{bit, word}
@@ -23,14 +22,14 @@ use Rattle.base.proofs.WordLaws.{word-bit, word-lt, word-inj}
 use Rattle.formula.specs.Table.{Table}
 use Rattle.tableau.specs.Saturation.{Subset, same-subset, nothing, saturate}
 use Rattle.tableau.specs.Transition.{operators-in, requires, letter-of, next-of, ors, choice-of, Transition, transition-of, transitions}
-use Rattle.tableau.specs.Promise.{table-of, Stepped, Unmet}
+use Rattle.tableau.specs.Promise.{table-of, Leads-nowhere, Unmet, Stepped}
 use Rattle.tableau.specs.Area.{eight, words-at, index, Sized}
-use Rattle.tableau.specs.declared.Step.the-variants.{Leads, Nothing}
+use Rattle.tableau.specs.declared.Step.the-variants.{Leads}
 use Rattle.tableau.proofs.SaturationLaws.{add-inside}
 use Rattle.tableau.proofs.TransitionLaws.{transition-with}
 use Rattle.tableau.proofs.WordSets.{same-word}
 use Rattle.tableau.proofs.LoopLaws.{table-length}
-use Rattle.tableau.proofs.StepLaws.{no-step, Found, a-step}
+use Rattle.tableau.proofs.StepLaws.{Found, a-step}
 use Rattle.tableau.proofs.NodeLoop.{at-sized}
 use Rattle.tableau.proofs.NodeReads.{Kept, kept-at, eight-same, words-same}
 use Rattle.coded.specs.Spread.{add, adds}
@@ -151,7 +150,7 @@ module _ {rows : List ℕ} {count : ℕ} {r : Ranks} {s : Shelf} {nodes : ℕ} {
       sets = λ i h. subst⁻¹ (λ (w : ℕ). w < 2 ^ count) (node-kept i h) (g .sets i h);
     }
 
-    pub unmet-kept : {from unmet : ℕ} (i : ℕ) → i < nodes → from ≡ eight a (8 * i) → Unmet rows count from unmet → Unmet rows count (eight b (8 * i)) unmet
+    pub unmet-kept : {from : ℕ} {unmet : List ℕ} (i : ℕ) → i < nodes → from ≡ eight a (8 * i) → Unmet rows count from unmet → Unmet rows count (eight b (8 * i)) unmet
     unmet-kept {unmet = unmet} i h e d = subst (λ (w : ℕ). Unmet rows count w unmet) (e ∙ sym (node-kept i h)) d
 
     pub node-in-kept : (i : ℕ) → i < nodes → node-in count b i ≡ node-in count a i
@@ -180,40 +179,32 @@ module _ {rows : List ℕ} {count : ℕ} {r : Ranks} {s : Shelf} {nodes : ℕ} {
     node-is : eight a (8 * i) ≡ word v
     node-is = sym (subset-word count (eight a (8 * i)) (g .sets i h))
 
-    single-nothing : {had : ℕ} → had ≤ s .capacity → Chained s a had → transition-of t w (saturate t w v) ≡ [] → Added s had a had a (singles-by t vs i v x)
-    single-nothing {had} l k e =
-        grown-same (ap (λ (ys : List Transition). adds same-profile (stored s a had) (map (single-of t vs i v) ys)) (sym e)) (grown-still s had a l k)
+    pub single-nowhere : {had : ℕ} → had ≤ s .capacity → Chained s a had → Leads-nowhere rows count (eight a (8 * i)) x → Added s had a had a (singles-by t vs i v x)
+    single-nowhere {had} l k n =
+        grown-same (ap (λ (ys : List Transition). adds same-profile (stored s a had) (map (single-of t vs i v) ys)) (sym (n .is v long node-is))) (grown-still s had a l k)
 
-    pub single-unmet : {had unmet : ℕ} → had ≤ s .capacity → Chained s a had → Unmet rows count (eight a (8 * i)) unmet → (bitAnd x unmet ≡ 0 → ⊥)
-        → Added s had a had a (singles-by t vs i v x)
-    single-unmet l k u o = single-nothing l k (u .is v long node-is x o)
+    module _ {choice from : ℕ} (c : choice ≡ word (choice-of t x)) (f : from ≡ eight a (8 * i)) {to letter : ℕ} (st : Stepped rows count choice from (Leads to letter)) where
+      found : Found t w (saturate t w v) to letter
+      found = a-step t w (saturate t w v) (st .is w v long c (f ∙ node-is))
 
-    module _ {choice from : ℕ} (c : choice ≡ word (choice-of t x)) (f : from ≡ eight a (8 * i)) where
-      pub single-none : {had : ℕ} → had ≤ s .capacity → Chained s a had → Stepped rows count choice from Nothing → Added s had a had a (singles-by t vs i v x)
-      single-none l k st = single-nothing l k (no-step t w (saturate t w v) (st .is w v long c (f ∙ node-is)))
+      pub single-letter : letter < 65536
+      single-letter = omega (arith, found .letter-is, letter-few t w (saturate t w v))
 
-      module _ {to letter : ℕ} (st : Stepped rows count choice from (Leads to letter)) where
-        found : Found t w (saturate t w v) to letter
-        found = a-step t w (saturate t w v) (st .is w v long c (f ∙ node-is))
-
-        pub single-letter : letter < 65536
-        single-letter = omega (arith, found .letter-is, letter-few t w (saturate t w v))
-
-        pub single-some : {last had q : ℕ} {d : List ℕ} (carried : List ℕ) → last ≡ index to (words-at a 0 nodes)
-            → Triples-of rows count choice from carried
-            → Added s had a q d (found-of (record { first = i; last = last; parent = 0; letter = letter }) (triples-in (s .n) carried) ∷ [])
-            → Added s had a q d (singles-by t vs i v x)
-        single-some {last} {had} carried l k m =
-            let y = transition-with t w (saturate t w v) in
-            let p : last ≡ number-of vs (y .to) =
-            l ∙ ap (λ (z : ℕ). index z (words-at a 0 nodes)) (found .to-is)
-            ∙ find-number count a 0 nodes (y .to) (to-length t w (saturate t w v) ∙ table-length rows count) (λ j m n. g .sets j (omega arith)) in
-            let q : triples-in (s .n) carried ≡ triples t v w =
-            ap (λ (n : ℕ). triples-in n carried) (g .nexts ∙ g .ranks .nexts-are) ∙ k v w (f ∙ node-is) c in
-            grown-same
-            ((λ j. add same-profile (stored s a had) (found-of (record { first = i; last = p j; parent = 0; letter = found .letter-is j }) (q j)))
-            ∙ ap (λ (ys : List Transition). adds same-profile (stored s a had) (map (single-of t vs i v) ys)) (sym (found .exists)))
-            m
+      pub single-some : {last had q : ℕ} {d : List ℕ} (carried : List ℕ) → last ≡ index to (words-at a 0 nodes)
+          → Triples-of rows count choice from carried
+          → Added s had a q d (found-of (record { first = i; last = last; parent = 0; letter = letter }) (triples-in (s .n) carried) ∷ [])
+          → Added s had a q d (singles-by t vs i v x)
+      single-some {last} {had} carried l k m =
+          let y = transition-with t w (saturate t w v) in
+          let p : last ≡ number-of vs (y .to) =
+          l ∙ ap (λ (z : ℕ). index z (words-at a 0 nodes)) (found .to-is)
+          ∙ find-number count a 0 nodes (y .to) (to-length t w (saturate t w v) ∙ table-length rows count) (λ j m n. g .sets j (omega arith)) in
+          let q : triples-in (s .n) carried ≡ triples t v w =
+          ap (λ (n : ℕ). triples-in n carried) (g .nexts ∙ g .ranks .nexts-are) ∙ k v w (f ∙ node-is) c in
+          grown-same
+          ((λ j. add same-profile (stored s a had) (found-of (record { first = i; last = p j; parent = 0; letter = found .letter-is j }) (q j)))
+          ∙ ap (λ (ys : List Transition). adds same-profile (stored s a had) (map (single-of t vs i v) ys)) (sym (found .exists)))
+          m
 
   -- the loop over the choice words of node i, with a shelf of `had` records
   module _ (i had : ℕ) where

@@ -203,7 +203,7 @@ fn add(area: &mut [u8], shelf: Shelf, count: usize, ends: Ends, t: &[u8; 144]) -
     count + 1
 }
 
-// Adds the profile of the transition of a node under a choice word, if there is one. A word that picks at an or that is never met has none.
+// Adds the profile of the transition of a node under a choice word, if there is one. A word that picks at an or that it does not meet has none.
 fn single(
     rows: &[u8; 144],
     subformulas: usize,
@@ -212,17 +212,17 @@ fn single(
     area: &mut [u8],
     nodes: usize,
     number: NodeNumber,
-    unmet: u64,
+    unmet: &[u64; 24],
     choice_word: u64,
     count: usize,
 ) -> usize
     requires { ⌜ Given (now rows) subformulas r shelf nodes (now area) ⌝ }
     requires { ⌜ (number .0 < nodes) × (count ≤ shelf .capacity) ⌝ }
-    requires { ⌜ Unmet (now rows) subformulas (eight (now area) (8 * number .0)) unmet ⌝ }
+    requires { ⌜ Unmet (now rows) subformulas (eight (now area) (8 * number .0)) (now unmet) ⌝ }
     requires { ⌜ Chained shelf (now area) count ⌝ }
     ensures { λ all. ⌜ Added shelf count (now (area .entry)) all (now (area .exit)) (singles-by (table-of (now (rows .entry)) subformulas) (nodes-in subformulas (now (area .entry)) nodes) (number .0) (node-in subformulas (now (area .entry)) (number .0)) «choice_word») ⌝ }
 {
-    if choice_word & unmet != 0 {
+    if tableau::is_unmet(unmet, choice_word) {
         return count;
     }
     let first = number.0;
@@ -276,7 +276,7 @@ fn singles_of(
             area,
             nodes,
             number,
-            unmet,
+            &unmet,
             word,
             all,
         );

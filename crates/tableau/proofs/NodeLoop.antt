@@ -8,7 +8,7 @@ use mathlib.Core.List.{List, [], _∷_, _++_, map, map-append, map-map, append-n
 use Prim.Native.Nat.{ℕ, zero, suc, _+_, _-_, _*_, _^_, _≤_, _<_, min}
 use native.Mathlib.Omega.{arith}
 use lib.Dec.{eqb}
-use lib.Bits.{bitAnd, bitOr}
+use lib.Bits.{bitOr}
 use lib.Pow.{pow-mono}
 use lib.ListN.{length, getD, take, drop, length-append, length-map, List·getD-map}
 use lib.Seq.{take-all, take-append-le}
@@ -23,15 +23,15 @@ use Rattle.formula.specs.Table.{Operator, Table}
 use Rattle.tableau.specs.Saturation.{Subset, same-subset, nothing, saturate}
 use Rattle.tableau.specs.Transition.{operators-in, within, possible, letter-of, next-of, ors, choice-of, Transition, transition-of, transitions}
 use Rattle.tableau.specs.Nodes.{root, edges, operands, nodes}
-use Rattle.tableau.specs.Promise.{table-of, Formed, Stepped, Unmet}
+use Rattle.tableau.specs.Promise.{table-of, Formed, Leads-nowhere, Stepped}
 use Rattle.tableau.specs.Area.{eight, put, store, Holds, reachable, Sized, with-one, with-all, leads, outs, Added, Followed, Expanded}
-use Rattle.tableau.specs.declared.Step.the-variants.{Leads, Nothing}
+use Rattle.tableau.specs.declared.Step.the-variants.{Leads}
 use Rattle.tableau.proofs.SaturationLaws.{add-inside}
 use Rattle.tableau.proofs.TransitionLaws.{transition-with}
 use Rattle.tableau.proofs.NodeLaws.{root-length, nodes-few}
 use Rattle.tableau.proofs.WordSets.{same-word}
 use Rattle.tableau.proofs.LoopLaws.{table-length}
-use Rattle.tableau.proofs.StepLaws.{no-step, a-step}
+use Rattle.tableau.proofs.StepLaws.{a-step}
 use Rattle.tableau.proofs.SearchLoop.{with-all-append, all-begins, all-each, Searching, searching-start, searching-turn, searching-end, searching-begins}
 use Rattle.tableau.proofs.AreaLaws.{Small, eight-stored}
 
@@ -158,26 +158,14 @@ of-table : (rows : List ℕ) (count : ℕ) {l : List Subset} → Sized (length (
 of-table rows count s u m = s u m ∙ table-length rows count
 
 -- a choice word followed: to nothing where it has no transition
-follow-nowhere : {rows : List ℕ} {count from x known capacity : ℕ} {area : List ℕ}
-    → ((v : Subset) → length v ≡ count → from ≡ word v
-    → transition-of (table-of rows count) (choice-of (table-of rows count) x) (saturate (table-of rows count) (choice-of (table-of rows count) x) v) ≡ [])
+pub follow-nowhere : {rows : List ℕ} {count from x known capacity : ℕ} {area : List ℕ} → Leads-nowhere rows count from x
     → Followed rows count from x known capacity area area known
-follow-nowhere {known = known} {capacity} {area} f = record {
+follow-nowhere {known = known} {capacity} {area} n = record {
   is = λ l v a hs sz e len.
-      subst⁻¹ (λ (xs : List Transition). Holds capacity known a area (with-all same-subset l (map (λ (y : Transition). y .to) xs))) (f v len e) hs;
+      subst⁻¹ (λ (xs : List Transition). Holds capacity known a area (with-all same-subset l (map (λ (y : Transition). y .to) xs))) (n .is v len e) hs;
 }
 
-pub follow-unmet : {rows : List ℕ} {count from unmet x known capacity : ℕ} {area : List ℕ} → Unmet rows count from unmet → (bitAnd x unmet ≡ 0 → ⊥)
-    → Followed rows count from x known capacity area area known
-follow-unmet {x = x} u h = follow-nowhere (λ v len e. u .is v len e x h)
-
 module _ {rows : List ℕ} {count from choice known capacity : ℕ} {area : List ℕ} (x : ℕ) (c : choice ≡ word (choice-of (table-of rows count) x)) where
-  pub follow-none : Stepped rows count choice from Nothing → Followed rows count from x known capacity area area known
-  follow-none st =
-      let t = table-of rows count in
-      let w = choice-of t x in
-      follow-nowhere (λ v len e. no-step t w (saturate t w v) (st .is w v len c e))
-
   pub follow-some : {to p r : ℕ} {area′ : List ℕ} → Formed rows count → known ≤ capacity → Stepped rows count choice from (Leads to p)
       → Added known capacity to area area′ r → Followed rows count from x known capacity area area′ r
   follow-some {to} {p} {r} {area′} f h st ad = record { is = λ l v a hs sz e len. go l v a hs sz e len }

@@ -1,6 +1,6 @@
 -- The answer of `transition` is the definition's: what is required of a saturated set, as words, passes the code's three tests exactly
 -- if the transition exists (`test-is`), and then has its letter and its node (`letter-is`, `to-is`). Back from an answer: what it says of
--- the definition's transition (`no-step`, `a-step`). Assumes nothing.
+-- the definition's transition (`step-nowhere`, `a-step`). Assumes nothing.
 use mathlib.Core.Path.{_≡_, refl, sym, ap, subst⁻¹, _∙_}
 use mathlib.Core.Logic.{inl, inr}
 use mathlib.Core.Bool.{Bool, true, false, cond, not, _&&_}
@@ -19,8 +19,8 @@ use Rattle.base.proofs.WordLaws.{word-none}
 use Rattle.formula.specs.Table.{Operator, Table}
 use Rattle.formula.specs.Rows.{operator-at}
 use Rattle.tableau.specs.Saturation.{Subset, nothing, add, saturate}
-use Rattle.tableau.specs.Transition.{operators-in, requires, next-of, possible, letter-of, within, transition-of}
-use Rattle.tableau.specs.Promise.{table-of, Row, Formed, with-bits, Saturated, Required, Required-by, step, Stepped}
+use Rattle.tableau.specs.Transition.{operators-in, requires, next-of, possible, letter-of, choice-of, within, transition-of}
+use Rattle.tableau.specs.Promise.{table-of, Row, Formed, with-bits, Saturated, Leads-nowhere, Required, Required-by, step, Stepped}
 use Rattle.tableau.specs.declared.Requirement.{Requirement}
 use Rattle.tableau.specs.declared.Step.{Step}
 use Rattle.tableau.specs.declared.Step.the-variants.{Leads, Nothing}
@@ -120,13 +120,22 @@ module _ {rows : List ℕ} {count choice node set : ℕ} {r : Requirement} (f : 
       answer (Leads (r .to) (r .present)) true (rw (eq-eqb (bitAnd choice set) choice m, h, eq-eqb (bitAnd (r .present) (r .absent)) 0 k)) refl
 
 -- what the code's answer says of the definition's transition
-pub no-step : (t : Table) (w s : Subset) → Nothing ≡ step (transition-of t w s) → transition-of t w s ≡ []
+no-step : (t : Table) (w s : Subset) → Nothing ≡ step (transition-of t w s) → transition-of t w s ≡ []
 unfolding possible letter-of
 no-step t w s = by (within w s && possible (operators-in t s))
   where
     by : (b : Bool) → Nothing ≡ step (cond b (transition-with t w s ∷ []) []) → cond b (transition-with t w s ∷ []) [] ≡ []
     by true e = let z : _≡_ {A = ℕ} 0 1 = cc in absurd (omega arith)
     by false e = refl
+
+pub step-nowhere : {rows : List ℕ} {count choice node : ℕ} {r : Step} (x : ℕ) → choice ≡ word (choice-of (table-of rows count) x)
+    → Stepped rows count choice node r → r ≡ Nothing → Leads-nowhere rows count node x
+step-nowhere {rows} {count} x c st q = record {
+  is = λ v l n.
+      let t = table-of rows count in
+      let w = choice-of t x in
+      no-step t w (saturate t w v) (sym q ∙ st .is w v l c n);
+}
 
 pub record Found (t : Table) (w s : Subset) (to letter : ℕ) : Type 0 where
   pub exists : transition-of t w s ≡ transition-with t w s ∷ []

@@ -2,13 +2,13 @@
 -- words in the code and lists of Bools in the definitions: a promise speaks of any list whose word is the code's. A reader of the
 -- decision's contract need not read it. Assumes nothing.
 use mathlib.Core.Path.{_≡_}
-use mathlib.Core.Bool.{Bool, _||_}
+use mathlib.Core.Bool.{Bool, not, _||_}
 use mathlib.Core.List.{List, [], _∷_}
-use Prim.Native.Nat.{ℕ, _+_, _^_, _≤_, _<_}
-use lib.Dec.{T}
+use Prim.Native.Nat.{ℕ, _+_, _*_, _/_, _%_, _^_, _≤_, _<_}
+use lib.Dec.{T, eqb}
 use lib.Bits.{bitAnd, bitOr}
 use lib.ListN.{length, getD}
-use Rattle.base.specs.Lists.{gather, any}
+use Rattle.base.specs.Lists.{gather, any, numbers}
 use Rattle.base.specs.Bits.{bit, word}
 use Rattle.formula.specs.Table.{Operator, Table}
 use Rattle.formula.specs.Rows.{operators-of}
@@ -55,14 +55,36 @@ pub record Swept (rows : List ℕ) (count e choice set r : ℕ) : Type 0 where
 pub record Saturated (rows : List ℕ) (count choice node r : ℕ) : Type 0 where
   pub is : (w v : Subset) → length v ≡ count → choice ≡ word w → node ≡ word v → r ≡ word (saturate (table-of rows count) w v)
 
--- The set r holds every saturation of the node, whatever is picked.
-pub record Widest (rows : List ℕ) (count node r : ℕ) : Type 0 where
-  pub is : (w v : Subset) → length v ≡ count → node ≡ word v → (e : ℕ) → T (has (saturate (table-of rows count) w v) e) → T (bit r e)
+-- The choice word x is between low and high: of its bits at n ors it has those of low, and no others than those of high.
+pub record Between (n low high x : ℕ) : Type 0 where
+  pub above : (i : ℕ) → i < n → T (bit low i) → T (bit x i)
+  pub below : (i : ℕ) → i < n → T (bit x i) → T (bit high i)
 
--- The bits of r are at ors that no saturation of the node meets: a choice word with one of them has no transition.
-pub record Unmet (rows : List ℕ) (count node r : ℕ) : Type 0 where
-  pub is : (v : Subset) → length v ≡ count → node ≡ word v → (x : ℕ) → (bitAnd x r ≡ 0 → ⊥)
+-- The set r holds every saturation of the node under a choice word between low and high.
+pub record Widest (rows : List ℕ) (count low high node r : ℕ) : Type 0 where
+  pub is : (v : Subset) → length v ≡ count → node ≡ word v → (x : ℕ) → Between (ors (table-of rows count)) low high x
+      → (e : ℕ) → T (has (saturate (table-of rows count) (choice-of (table-of rows count) x) v) e) → T (bit r e)
+
+-- The choice word x has no transition from the node.
+pub record Leads-nowhere (rows : List ℕ) (count node x : ℕ) : Type 0 where
+  pub is : (v : Subset) → length v ≡ count → node ≡ word v
       → transition-of (table-of rows count) (choice-of (table-of rows count) x) (saturate (table-of rows count) (choice-of (table-of rows count) x) v) ≡ []
+
+-- A choice word between low and high with a bit of r has no transition: it picks at an or that is not met.
+pub record Unmet-between (rows : List ℕ) (count low high node r : ℕ) : Type 0 where
+  pub is : (x : ℕ) → Between (ors (table-of rows count)) low high x → (bitAnd x r ≡ 0 → ⊥) → Leads-nowhere rows count node x
+
+-- the bits that are unmet by the pick of a choice word at or j
+abbrev pub unmet-at : List ℕ → (x j : ℕ) → ℕ
+unmet-at r x j = getD r (2 * j + x / 2 ^ j % 2) 0
+
+-- whether a choice word has a bit that is unmet by one of its picks
+abbrev pub is-unmet : List ℕ → ℕ → Bool
+is-unmet r x = any (λ j. not (eqb (bitAnd x (unmet-at r x j)) 0)) (numbers 0 12)
+
+-- A choice word with a bit that is unmet by its pick at some or has no transition.
+pub record Unmet (rows : List ℕ) (count node : ℕ) (r : List ℕ) : Type 0 where
+  pub is : (x j : ℕ) → j < 12 → (bitAnd x (unmet-at r x j) ≡ 0 → ⊥) → Leads-nowhere rows count node x
 
 -- The requirement r is the requirement q and what the operator o requires.
 pub record Requires-more (o : Operator) (q r : Requirement) : Type 0 where

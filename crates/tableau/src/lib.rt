@@ -7,7 +7,7 @@ ghost use Rattle.base.specs.Bits.{bit, word};
 ghost use Rattle.formula.specs.Rows.{operator-at};
 ghost use Rattle.tableau.specs.Saturation.{moves};
 ghost use Rattle.tableau.specs.Transition.{ors, choice-of};
-ghost use Rattle.tableau.specs.Promise.{table-of, Formed, Placed, with-bits, Swept, Saturated, Requires-more, Required-by, Stepped, Widest, Unmet};
+ghost use Rattle.tableau.specs.Promise.{table-of, Formed, Placed, with-bits, Swept, Saturated, Requires-more, Required-by, Stepped, Widest, Unmet-between, is-unmet, Unmet};
 ghost use Rattle.tableau.specs.Area.{eight, put, words-at, index, zeros, Room, Holds, reachable, Added, Followed, Expanded};
 
 // The number of a node, kept apart from subformulas and positions.
@@ -119,33 +119,34 @@ pub fn saturated(rows: &[u8; 144], count: usize, choice: u64, node: u64) -> u64
     set
 }
 
-// A set that holds every saturation of the node: it follows the moves of both picks at once. Where it does not come to rest within count
-// rounds, all subformulas.
-fn widest(rows: &[u8; 144], count: usize, node: u64) -> u64
+// A set that holds every saturation of the node under a choice word with the bits of low, and no others than those of high: it follows the
+// moves of both at once. Where it does not come to rest within count rounds, all subformulas.
+fn widest(rows: &[u8; 144], count: usize, low: u64, high: u64, node: u64) -> u64
     requires { ⌜ Formed (now rows) count ⌝ }
-    ensures { λ r. ⌜ Widest (now (rows .entry)) count node r ⌝ }
+    ensures { λ r. ⌜ Widest (now (rows .entry)) count low high node r ⌝ }
 {
-    let all = base::power(count) - 1;
+    let lower = choice_of(rows, count, low);
+    let upper = choice_of(rows, count, high);
     let mut set = node;
     let mut left = count;
     while 0 < left {
-        let half = swept(rows, count, 0, set);
-        let grown = swept(rows, count, all, half);
+        let half = swept(rows, count, lower, set);
+        let grown = swept(rows, count, upper, half);
         if grown == set {
             return set;
         }
         set = grown;
         left -= 1;
     }
-    all
+    base::power(count) - 1
 }
 
-// The bits of a choice word at the ors that no saturation of the node meets.
-pub fn unmet(rows: &[u8; 144], count: usize, node: u64) -> u64
+// The bits of a choice word at the ors that no saturation of the node meets under a choice word between low and high.
+fn unmet_between(rows: &[u8; 144], count: usize, low: u64, high: u64, node: u64) -> u64
     requires { ⌜ Formed (now rows) count ⌝ }
-    ensures { λ r. ⌜ Unmet (now (rows .entry)) count node r ⌝ }
+    ensures { λ r. ⌜ Unmet-between (now (rows .entry)) count low high node r ⌝ }
 {
-    let wide = widest(rows, count, node);
+    let wide = widest(rows, count, low, high, node);
     let mut bits = 0u64;
     let mut n = 0;
     let mut e = 0;
@@ -157,6 +158,45 @@ pub fn unmet(rows: &[u8; 144], count: usize, node: u64) -> u64
         e += 1;
     }
     bits
+}
+
+// For each or j, the bits of a choice word at the ors that no saturation of the node meets: entry 2 j where or j picks left, 2 j + 1 where it
+// picks right. Of few choice words, and for an or that is never met, the bits of all picks: to try the words is cheaper.
+pub fn unmet(rows: &[u8; 144], count: usize, node: u64) -> [u64; 24]
+    requires { ⌜ Formed (now rows) count ⌝ }
+    ensures { λ r. ⌜ Unmet (now (rows .entry)) count node r ⌝ }
+{
+    let n = ors(rows, count);
+    let all = base::power(n) - 1;
+    let never = unmet_between(rows, count, 0, all, node);
+    let mut bits = [never; 24];
+    if n < 7 {
+        return bits;
+    }
+    let mut j = 0;
+    while j < n {
+        if !base::has(never, j) {
+            bits[2 * j] = unmet_between(rows, count, 0, base::with(all, j, false), node);
+            bits[2 * j + 1] = unmet_between(rows, count, base::power(j), all, node);
+        }
+        j += 1;
+    }
+    bits
+}
+
+// Whether a choice word picks at an or that, by another of its picks, no saturation meets.
+pub fn is_unmet(unmet: &[u64; 24], choice_word: u64) -> bool
+    ensures { λ r. ⌜ r ≡ is-unmet (now (unmet .entry)) «choice_word» ⌝ }
+{
+    let mut j = 0;
+    while j < 12 {
+        let pick = ((choice_word >> j) % 2) as usize;
+        if choice_word & unmet[2 * j + pick] != 0 {
+            return true;
+        }
+        j += 1;
+    }
+    false
 }
 
 // What subformula e requires beside the rest.
@@ -320,24 +360,24 @@ fn add(area: &mut [u8], known: usize, capacity: usize, set: u64) -> usize
     known + 1
 }
 
-// Adds the node that a choice word leads to. A word that picks at an or that is never met leads nowhere: most are passed over so.
+// Adds the node that a choice word leads to. A word that picks at an or that it does not meet leads nowhere: most are passed over so.
 fn follow(
     rows: &[u8; 144],
     count: usize,
     area: &mut [u8],
     from: u64,
-    unmet: u64,
+    unmet: &[u64; 24],
     choice_word: u64,
     known: usize,
     capacity: usize,
 ) -> usize
     requires { ⌜ Formed (now rows) count ⌝ }
     requires { ⌜ Room known capacity (length (now area)) ⌝ }
-    requires { ⌜ Unmet (now rows) count from unmet ⌝ }
+    requires { ⌜ Unmet (now rows) count from (now unmet) ⌝ }
     ensures { λ r. ⌜ Followed (now (rows .entry)) count from «choice_word» known capacity (now (area .entry)) (now (area .exit)) r ⌝ }
     ensures { λ r. ⌜ (known ≤ r) × (r ≤ capacity + 1) ⌝ }
 {
-    if choice_word & unmet != 0 {
+    if is_unmet(unmet, choice_word) {
         return known;
     }
     let choice = choice_of(rows, count, choice_word);
@@ -371,7 +411,7 @@ fn expand(
         if capacity < all {
             return all;
         }
-        all = follow(rows, count, area, from, unmet, word, all, capacity);
+        all = follow(rows, count, area, from, &unmet, word, all, capacity);
         word += 1;
     }
     all

@@ -8,16 +8,19 @@ use Rattle.decision.proofs.to_set.Statement.{statement}
 use Rattle.decision.proofs.to_set.Tie as tie
 
 abbrev Inv-loop : tie.InvT-loop
-Inv-loop rows count number from set end word₀ word = None-by (table-of rows count) count number from set word
+Inv-loop rows count number from set unmet end word₀ word = None-by (table-of rows count) count number from set word
 
 abbrev μ-loop : tie.MeasureT-loop
-μ-loop rows count number from set end word₀ word = end - word
+μ-loop rows count number from set unmet end word₀ word = end - word
+
+unmet-requires : tie.Need-unmet-requires Inv-loop μ-loop
+unmet-requires c κs = search needs
 
 ors-requires : tie.Need-ors-requires Inv-loop μ-loop
 ors-requires c κs = search needs
 
 power-requires : tie.Need-power-requires Inv-loop μ-loop
-power-requires c κs = omega (arith, c .ors .ensures, c .before .pre .few-ors)
+power-requires c κs = omega (arith, c .ors .ensures, c .before .before .pre .few-ors)
 
 loop-holds : tie.Need-loop-holds Inv-loop μ-loop
 loop-holds c x h = absurd (omega arith)
@@ -30,8 +33,8 @@ enum-told c = search needs
 
 returns : tie.Need-returns Inv-loop μ-loop
 returns c =
-    let a = c .before .before .before .before .before .before .before .args in
-    tries-some (table-of (a .rows .now) (a .count)) (a .count) (a .number) (a .from) (a .set) (c .before .before .before .before .before .power .ensures) (c .before .before .before .before .before .before .ors .ensures) (c .before .before .before .before .loop .word) (omega arith)
+    let a = c .before .before .before .before .before .before .before .before .before .args in
+    tries-some (table-of (a .rows .now) (a .count)) (a .count) (a .number) (a .from) (a .set) (c .before .before .before .before .before .before .power .ensures) (c .before .before .before .before .before .before .before .ors .ensures) (c .before .before .before .before .before .loop .word) (omega arith)
     (c .enum-told .given .0 .0) (c .enum-told .given .0 .1 .0) (c .enum-told .given .1) (c .before .before .by-choice .ensures)
 
 enum-told-2 : tie.Need-enum-told-2 Inv-loop μ-loop
@@ -45,13 +48,13 @@ loop-less c = search needs
 
 loop-again : tie.Need-loop-again Inv-loop μ-loop
 loop-again c =
-    let a = c .before .before .before .before .before .before .before .args in
-    none-next (table-of (a .rows .now) (a .count)) (a .count) (a .number) (a .from) (a .set) (c .before .before .before .before .loop .word) (c .before .before .before .before .loop .inv) (c .enum-told2 .given .1)
+    let a = c .before .before .before .before .before .before .before .before .before .args in
+    none-next (table-of (a .rows .now) (a .count)) (a .count) (a .number) (a .from) (a .set) (c .before .before .before .before .before .loop .word) (c .before .before .before .before .before .loop .inv) (c .enum-told2 .given .1)
     (c .before .before .by-choice .ensures)
 
 returns-2 : tie.Need-returns-2 Inv-loop μ-loop
 returns-2 c =
-    let a = c .before .before .before .before .args in
+    let a = c .before .before .before .before .before .args in
     tries-end (table-of (a .rows .now) (a .count)) (a .count) (a .number) (a .from) (a .set) (c .before .before .power .ensures) (c .before .before .before .ors .ensures) (c .before .loop .word) (omega arith)
     (c .before .loop .inv)
 
@@ -61,6 +64,7 @@ to-set-spec =
     (tie.spec
     Inv-loop
     μ-loop
+    unmet-requires
     ors-requires
     power-requires
     loop-holds

@@ -38,7 +38,7 @@ returns : tie.Need-returns Inv-loop μ-loop
 returns c = let s = c .before .before .before .before .before .before .before .before .before .before in let l = c .before .before .before .loop in of-stop (s .pre .0) (s .args .number .0) (s .args .count) (l .word) (c .before .before .before .before .power .result) (c .before .before .before .before .power .ensures ∙ ap (λ (n : ℕ). 2 ^ n) (c .before .before .before .before .before .ors .ensures)) (c .if1 .taken) (l .inv .0) (l .inv .1)
 
 single-requires : tie.Need-single-requires Inv-loop μ-loop
-single-requires c κs = let s = c .before .before .before .before .before .before .before .before .before .before .before in let e = c .before .before .before .before .loop .inv .1 .elsewhere in (given-kept (s .pre .0) e (omega arith), ((s .pre .1 .0 .0, c .before .if1 .left), (unmet-kept (s .pre .0) e (omega arith) (s .args .number .0) (s .pre .1 .0 .0) (c .before .before .before .before .before .before .before .before .node .ensures) (c .before .before .before .before .before .before .before .unmet .ensures), c .before .before .before .before .loop .inv .1 .chained (c .before .if1 .left))))
+single-requires c κs = let s = c .before .before .before .before .before .before .before .before .before .before .before .before in let e = c .before .before .before .before .before .loop .inv .1 .elsewhere in (given-kept (s .pre .0) e (omega arith), ((s .pre .1 .0 .0, c .before .before .if1 .left), (unmet-kept (s .pre .0) e (omega arith) (s .args .number .0) (s .pre .1 .0 .0) (c .before .before .before .before .before .before .before .before .before .node .ensures) (c .before .before .before .before .before .before .before .before .unmet .ensures), c .before .before .before .before .before .loop .inv .1 .chained (c .before .before .if1 .left))))
 
 add-word : tie.Need-add-word Inv-loop μ-loop
 add-word c = search needs
@@ -47,7 +47,7 @@ loop-less : tie.Need-loop-less Inv-loop μ-loop
 loop-less c = search needs
 
 loop-again : tie.Need-loop-again Inv-loop μ-loop
-loop-again c = let s = c .before .before .before .before .before .before .before .before .before .before .before .before .before .before in let l = c .before .before .before .before .before .before .before .loop in (omega arith, of-turn (s .pre .0) (s .args .number .0) (s .args .count) (l .word) (s .pre .1 .0 .0) (c .before .before .before .before .if1 .left) (l .inv .1) (c .before .before .single .ensures))
+loop-again c = let s = c .before .before .before .before .before .before .before .before .before .before .before .before .before .before .before in let l = c .before .before .before .before .before .before .before .before .loop in (omega arith, of-turn (s .pre .0) (s .args .number .0) (s .args .count) (l .word) (s .pre .1 .0 .0) (c .before .before .before .before .before .if1 .left) (l .inv .1) (c .before .before .single .ensures))
 
 same-length-2 : tie.Need-same-length-2 Inv-loop μ-loop
 same-length-2 c = c .before .loop .inv .1 .elsewhere .same-length

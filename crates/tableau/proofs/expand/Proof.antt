@@ -37,7 +37,7 @@ returns : tie.Need-returns Inv-loop μ-loop
 returns c = (expand-end (c .before .before .loop .inv .1 .1 .1 .1) (c .before .before .before .before .before .before .before .before .before .pre .0) (c .before .before .before .before .before .before .before .before .before .pre .1 .1 .fits) (c .before .before .before .before .before .before .before .before .before .pre .1 .0) (c .before .before .before .before .before .before .node .ensures) (c .before .before .before .before .ors .ensures) (omega (arith, c .before .before .before .power .ensures)) (inl (c .if1 .taken)), (omega arith, omega arith))
 
 follow-requires : tie.Need-follow-requires Inv-loop μ-loop
-follow-requires c κs = (c .before .before .before .before .before .before .before .before .before .before .pre .0, (search needs, c .before .before .before .before .before .before .unmet .ensures))
+follow-requires c κs = (c .before .before .before .before .before .before .before .before .before .before .before .pre .0, (search needs, c .before .before .before .before .before .before .before .unmet .ensures))
 
 add-word : tie.Need-add-word Inv-loop μ-loop
 add-word c = search needs
@@ -46,7 +46,7 @@ loop-less : tie.Need-loop-less Inv-loop μ-loop
 loop-less c = search needs
 
 loop-again : tie.Need-loop-again Inv-loop μ-loop
-loop-again c = (omega arith, (omega arith, (omega arith, (search needs, expand-turn (c .before .before .before .before .before .before .loop .inv .1 .1 .1 .1) (c .before .before .follow .ensures .0)))))
+loop-again c = (omega arith, (omega arith, (omega arith, (search needs, expand-turn (c .before .before .before .before .before .before .before .loop .inv .1 .1 .1 .1) (c .before .before .follow .ensures .0)))))
 
 same-length-2 : tie.Need-same-length-2 Inv-loop μ-loop
 same-length-2 c = search needs

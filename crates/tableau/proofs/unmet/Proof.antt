@@ -1,27 +1,37 @@
--- `tableau::unmet` has the bits of the ors outside the widest set: after e turns, of those in the first e rows. So a choice word with
--- one of these bits picks at an or that is not met.
+-- `tableau::unmet` has the bits of no pick in every entry, and then, or by or, those of its picks: each entry is right at every turn.
 use mathlib.Core.Logic.{⊎-elim}
-use Rattle.tableau.proofs.UnmetLaws.{Outside, outside-none, outside-or, outside-other, unmet-all}
-use borrow.Author.Needs.{needs}
+use mathlib.Core.Path.{refl, ap}
+use Prim.Native.Nat.{ℕ, _-_, _≤_}
 use native.Mathlib.Omega.{arith}
-use Prim.Native.Nat.{_-_, _≤_}
+use borrow.Author.Needs.{needs}
+use lib.Pow.{pow-pos}
+use Rattle.tableau.proofs.UnmetLaws.{Entries, unmet-start, unmet-turn}
 use Rattle.tableau.proofs.unmet.Statement.{statement}
 use Rattle.tableau.proofs.unmet.Tie as tie
 
 abbrev Inv-loop : tie.InvT-loop
-Inv-loop rows count node wide bits₀ n₀ e₀ bits n e = (e ≤ count) × ((n ≤ e) × Outside rows e wide bits n)
+Inv-loop rows count node n all never bits₀ j₀ bits j = (j ≤ n) × Entries rows count node bits
 
 abbrev μ-loop : tie.MeasureT-loop
-μ-loop rows count node wide bits₀ n₀ e₀ bits n e = count - e
+μ-loop rows count node n all never bits₀ j₀ bits j = n - j
 
-widest-requires : tie.Need-widest-requires Inv-loop μ-loop
-widest-requires c κs = search needs
+ors-requires : tie.Need-ors-requires Inv-loop μ-loop
+ors-requires c κs = search needs
+
+power-requires : tie.Need-power-requires Inv-loop μ-loop
+power-requires c κs = omega (arith, c .ors .ensures, c .before .pre .few-ors)
+
+sub-all : tie.Need-sub-all Inv-loop μ-loop
+sub-all c = omega (arith, c .power .ensures, pow-pos (c .before .ors .result))
+
+unmet-between-requires : tie.Need-unmet-between-requires Inv-loop μ-loop
+unmet-between-requires c κs = search needs
+
+returns : tie.Need-returns Inv-loop μ-loop
+returns c = unmet-start _ _ (c .before .before .before .ors .ensures) (ap (λ (x : ℕ). x - 1) (c .before .before .power .ensures)) (c .before .unmet-between .ensures) .1
 
 loop-holds : tie.Need-loop-holds Inv-loop μ-loop
-loop-holds c = (omega arith, (omega arith, outside-none _ _))
-
-element-copy-out-if1 : tie.Need-element-copy-out-if1 Inv-loop μ-loop
-element-copy-out-if1 c = search needs
+loop-holds c = (omega arith, unmet-start _ _ (c .before .before .before .ors .ensures) (ap (λ (x : ℕ). x - 1) (c .before .before .power .ensures)) (c .before .unmet-between .ensures))
 
 has-requires : tie.Need-has-requires Inv-loop μ-loop
 has-requires c κs = search needs
@@ -29,26 +39,53 @@ has-requires c κs = search needs
 with-requires : tie.Need-with-requires Inv-loop μ-loop
 with-requires c κs = search needs
 
-add-n : tie.Need-add-n Inv-loop μ-loop
-add-n c = search needs
+unmet-between-requires-2 : tie.Need-unmet-between-requires-2 Inv-loop μ-loop
+unmet-between-requires-2 c κs = search needs
 
-add-e : tie.Need-add-e Inv-loop μ-loop
-add-e c = search needs
+mul-bits : tie.Need-mul-bits Inv-loop μ-loop
+mul-bits c = search needs
+
+mul-bits-2 : tie.Need-mul-bits-2 Inv-loop μ-loop
+mul-bits-2 c = search needs
+
+array-write-bits : tie.Need-array-write-bits Inv-loop μ-loop
+array-write-bits c = search needs
+
+power-requires-2 : tie.Need-power-requires-2 Inv-loop μ-loop
+power-requires-2 c κs = search needs
+
+unmet-between-requires-3 : tie.Need-unmet-between-requires-3 Inv-loop μ-loop
+unmet-between-requires-3 c κs = search needs
+
+mul-bits-3 : tie.Need-mul-bits-3 Inv-loop μ-loop
+mul-bits-3 c = search needs
+
+add-bits : tie.Need-add-bits Inv-loop μ-loop
+add-bits c = search needs
+
+mul-bits-4 : tie.Need-mul-bits-4 Inv-loop μ-loop
+mul-bits-4 c = search needs
+
+array-write-bits-2 : tie.Need-array-write-bits-2 Inv-loop μ-loop
+array-write-bits-2 c = search needs
+
+add-j : tie.Need-add-j Inv-loop μ-loop
+add-j c = search needs
 
 loop-less : tie.Need-loop-less Inv-loop μ-loop
 loop-less c = search needs
 
 loop-again : tie.Need-loop-again Inv-loop μ-loop
-loop-again c = (
-  omega arith,
-  ⊎-elim
-      (λ w. (omega (arith, w .4), rw (w .3, w .4) (outside-or (c .before .before .before .loop .inv .1 .1) (w .0 .taken) (w .1 .ensures) (w .2 .result) (w .2 .ensures))))
-      (λ w. (omega (arith, w .2), rw (w .1, w .2) (outside-other (c .before .before .before .loop .inv .1 .1) (c .before .before .before .before .before .pre) (c .before .before .loop-test .taken) (w .0 .left))))
-      (c .if1 .came),
-)
+loop-again c =
+    let s = c .before .before .before in
+    let f = s .before .before .before .before in
+    ⊎-elim
+    (λ w. (omega arith, rw (w .5) (unmet-turn _ _ (f .ors .ensures) (ap (λ (x : ℕ). x - 1) (s .before .before .before .power .ensures)) (s .loop .j) (omega (arith, f .ors .ensures, f .before .pre .few-ors)) refl refl (w .1 .ensures) (w .2 .ensures) (w .3 .ensures) (w .4 .ensures) (s .loop .inv .1))))
+    (λ w. (omega arith, rw (w .1) (s .loop .inv .1)))
+    (c .if2 .came)
 
-returns : tie.Need-returns Inv-loop μ-loop
-returns c = unmet-all (c .before .before .widest .ensures) (c .before .loop .inv .1 .1) (c .before .loop .inv .0) (c .loop-test .left)
+returns-2 : tie.Need-returns-2 Inv-loop μ-loop
+returns-2 c = c .before .loop .inv .1 .1
 
 pub unmet-spec : {M : Type 1} → statement M
 unmet-spec =
@@ -56,13 +93,25 @@ unmet-spec =
     (tie.spec
     Inv-loop
     μ-loop
-    widest-requires
+    ors-requires
+    power-requires
+    sub-all
+    unmet-between-requires
+    returns
     loop-holds
-    element-copy-out-if1
     has-requires
     with-requires
-    add-n
-    add-e
+    unmet-between-requires-2
+    mul-bits
+    mul-bits-2
+    array-write-bits
+    power-requires-2
+    unmet-between-requires-3
+    mul-bits-3
+    add-bits
+    mul-bits-4
+    array-write-bits-2
+    add-j
     loop-less
     loop-again
-    returns)
+    returns-2)

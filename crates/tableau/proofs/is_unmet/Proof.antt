@@ -1,0 +1,67 @@
+-- `tableau::is_unmet` is the definition's test: the word has none of the bits for its picks at the first j ors.
+use mathlib.Core.Path.{_≡_}
+use Prim.Native.Nat.{ℕ, _-_, _≤_, _<_}
+use native.Mathlib.Omega.{arith}
+use borrow.Author.Needs.{needs}
+use lib.Bits.{bitAnd}
+use Rattle.tableau.specs.Promise.{unmet-at}
+use Rattle.tableau.proofs.UnmetLaws.{none-more, some-unmet, none-unmet}
+use Rattle.tableau.proofs.is_unmet.Statement.{statement}
+use Rattle.tableau.proofs.is_unmet.Tie as tie
+
+abbrev Inv-loop : tie.InvT-loop
+Inv-loop unmet choice-word j₀ j = (j ≤ 12) × ((i : ℕ) → i < j → bitAnd choice-word (unmet-at unmet choice-word i) ≡ 0)
+
+abbrev μ-loop : tie.MeasureT-loop
+μ-loop unmet choice-word j₀ j = 12 - j
+
+loop-holds : tie.Need-loop-holds Inv-loop μ-loop
+loop-holds c = (omega arith, λ i h. absurd (omega arith))
+
+shr-pick : tie.Need-shr-pick Inv-loop μ-loop
+shr-pick c = search needs
+
+mul-if1 : tie.Need-mul-if1 Inv-loop μ-loop
+mul-if1 c = search needs
+
+add-if1 : tie.Need-add-if1 Inv-loop μ-loop
+add-if1 c = search needs
+
+mul-if1-2 : tie.Need-mul-if1-2 Inv-loop μ-loop
+mul-if1-2 c = search needs
+
+element-copy-out-if1 : tie.Need-element-copy-out-if1 Inv-loop μ-loop
+element-copy-out-if1 c = search needs
+
+returns : tie.Need-returns Inv-loop μ-loop
+returns c = let a = c .before .before .before .before .args in some-unmet (a .unmet .now) (a .choice-word) (c .before .before .loop-test .taken) (c .if1 .taken)
+
+add-j : tie.Need-add-j Inv-loop μ-loop
+add-j c = search needs
+
+loop-less : tie.Need-loop-less Inv-loop μ-loop
+loop-less c = search needs
+
+loop-again : tie.Need-loop-again Inv-loop μ-loop
+loop-again c = let a = c .before .before .before .before .args in (omega arith, none-more (a .unmet .now) (a .choice-word) (c .before .before .before .loop .inv .1) (c .if1 .left))
+
+returns-2 : tie.Need-returns-2 Inv-loop μ-loop
+returns-2 c = let a = c .before .before .args in none-unmet (a .unmet .now) (a .choice-word) (λ i h. c .before .loop .inv .1 i (omega arith))
+
+pub is-unmet-spec : {M : Type 1} → statement M
+is-unmet-spec =
+    tie.close
+    (tie.spec
+    Inv-loop
+    μ-loop
+    loop-holds
+    shr-pick
+    mul-if1
+    add-if1
+    mul-if1-2
+    element-copy-out-if1
+    returns
+    add-j
+    loop-less
+    loop-again
+    returns-2)
