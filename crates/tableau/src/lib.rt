@@ -160,8 +160,9 @@ fn unmet_between(rows: &[u8; 144], count: usize, low: u64, high: u64, node: u64)
     bits
 }
 
-// For each or j, the bits of a choice word at the ors that no saturation of the node meets: entry 2 j where or j picks left, 2 j + 1 where it
-// picks right. Of few choice words, and for an or that is never met, the bits of all picks: to try the words is cheaper.
+// The bits of a choice word at the ors that no saturation of the node meets: entry 2 j for the words that pick left at or j, 2 j + 1 for those
+// that pick right there. Of an or that is never met, and where there are so few words that to try them is cheaper, both entries have only
+// the bits at the ors that are never met.
 pub fn unmet(rows: &[u8; 144], count: usize, node: u64) -> [u64; 24]
     requires { ⌜ Formed (now rows) count ⌝ }
     ensures { λ r. ⌜ Unmet (now (rows .entry)) count node r ⌝ }
@@ -184,7 +185,7 @@ pub fn unmet(rows: &[u8; 144], count: usize, node: u64) -> [u64; 24]
     bits
 }
 
-// Whether a choice word picks at an or that, by another of its picks, no saturation meets.
+// Whether a choice word picks right at an or that, by one of its picks, no saturation meets.
 pub fn is_unmet(unmet: &[u64; 24], choice_word: u64) -> bool
     ensures { λ r. ⌜ r ≡ is-unmet (now (unmet .entry)) «choice_word» ⌝ }
 {
