@@ -12,7 +12,6 @@ ghost use lib.ListN.{length};
 ghost use Rattle.base.specs.Bits.{bit};
 ghost use Rattle.tableau.specs.Transition.{transitions};
 ghost use Rattle.tableau.specs.Promise.{table-of, Formed, Unmet};
-ghost use Rattle.tableau.specs.Area.{reachable};
 ghost use Rattle.coded.specs.Runs.{accepting, profiles};
 ghost use Rattle.traces.specs.Promise.{fix-rank, Ranked};
 ghost use Rattle.runs.specs.Stored.{record-of, Lent, Grown};
