@@ -4,6 +4,7 @@ pub mod SpreadLaws
 pub mod MatchLaws
 pub mod ThinLaws
 pub mod RankLaws
+pub mod RiseLaws
 pub mod CarryLaws
 pub mod MarkLaws
 pub mod TableLaws

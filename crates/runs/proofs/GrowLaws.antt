@@ -1,7 +1,8 @@
 -- The records of a shelf as a list: it grows at its end, stays while its records do, and a profile is known if its list has it
 -- (`seen-never`, `seen-found`). What one profile more makes of it (`grown-known`, `grown-new`, `grown-full`), and what several make, one
 -- after the other (`grown-on`, `grown-then`). Once there is no room, whatever is still to come changes nothing (`grown-longer`), so a loop may stop
--- there; every loop that adds the lists of rising numbers goes by `turn-more` and `turn-stop`. Assumes nothing.
+-- there; every loop that adds the lists of rising numbers goes by `turn-more` and `turn-stop`, and may leave out empty ones (`turn-past`).
+-- Assumes nothing.
 use mathlib.Core.Path.{_≡_, refl, sym, ap, subst, _∙_}
 use mathlib.Core.Bool.{Bool, true, false, cond, _||_}
 use mathlib.Core.List.{List, [], _∷_, _++_, map, append-nil}
@@ -177,3 +178,14 @@ module _ (xs : List Found) (f : ℕ → List Found) (k : ℕ) where
       grown-longer g h
       (subst (λ (n : ℕ). length (with-first i) ≤ length (with-first n)) {x = i + (m - i)} {y = m} (omega arith)
       (omega (arith, ap length (split i (m - i)), adds-length same-profile (with-first i) (gather f (numbers (k + i) (m - i))))))
+
+  -- empty lists add nothing
+  pub turn-past : (i m : ℕ) → i ≤ m → ((j : ℕ) → i ≤ j → j < m → f (k + j) ≡ []) → with-first i ≡ with-first m
+  turn-past i m l e =
+      sym (ap (λ (n : ℕ). with-first n) {x = m} {y = i + (m - i)} (omega arith)
+      ∙ split i (m - i)
+      ∙ ap (adds same-profile (with-first i)) (none (k + i) (m - i) (λ j p q. ap f {x = j} {y = k + (j - k)} (omega arith) ∙ e (j - k) (omega arith) (omega arith))))
+    where
+      none : (from n : ℕ) → ((j : ℕ) → from ≤ j → j < from + n → f j ≡ []) → gather f (numbers from n) ≡ []
+      none from zero h = refl
+      none from (suc n) h = rw (h from (omega arith) (omega arith), none (suc from) n (λ j p q. h j (omega arith) (omega arith)))

@@ -1,5 +1,5 @@
--- What one turn adds: a profile followed by one of one transition (`longer-none`, `longer-one`), followed by each of them (`extend-more`), and the
--- breadth-first search as a loop over the records (`Pending`). Assumes nothing.
+-- What one turn adds: a profile followed by one of one transition (`longer-none`, `longer-one`), followed by each of them
+-- that begins where it ends (`extend-start`, `extend-more`, `extend-done`), and the breadth-first search as a loop over the records (`Pending`). Assumes nothing.
 use mathlib.Core.Path.{_≡_, sym, ap, subst, _∙_}
 use mathlib.Core.Bool.{Bool, cond}
 use mathlib.Core.List.{List, [], _∷_}
@@ -18,8 +18,8 @@ use Rattle.triples.specs.Promise.{triples-in, triples-at}
 use Rattle.triples.proofs.CellLaws.{triples-copied}
 use Rattle.runs.specs.declared.Ends.{Ends}
 use Rattle.runs.specs.declared.Shelf.{Shelf}
-use Rattle.runs.specs.Stored.{two, found-of, found-at, place, record-of, stored, Chained, Grown, Added}
-use Rattle.runs.proofs.GrowLaws.{stored-length, stored-at, stored-kept, grown-still, grown-longer, grown-then, with-first, turn-more, turn-stop}
+use Rattle.runs.specs.Stored.{two, found-of, found-at, place, record-of, stored, first-of, Chained, Grown, Added}
+use Rattle.runs.proofs.GrowLaws.{stored-length, stored-at, stored-kept, grown-still, grown-longer, grown-then, with-first, turn-more, turn-stop, turn-past}
 use Rattle.coded.proofs.SpreadLaws.{spread-length, spread-done, spread-step}
 
 pub grown-same : {s : Shelf} {count r : ℕ} {a b : List ℕ} {xs ys : List Found} → xs ≡ ys → Grown s count a r b xs → Grown s count a r b ys
@@ -77,6 +77,19 @@ module _ (s : Shelf) (count p : ℕ) (a : List ℕ) where
   unfolding join stored
   extended-all ones = ap (adds same-profile (stored s a count)) (sym (gather-map (follow (s .n) p (record-of s a p)) (record-of s a) (numbers 0 ones)))
 
+  -- those that do not begin where profile p ends add nothing
+  abbrev Elsewhere : (q r : ℕ) → Type 0
+  Elsewhere q r = (j : ℕ) → q ≤ j → j < r → two a (place s p + 146) ≡ first-of s a j → ⊥
+
+  past : (q r : ℕ) → q ≤ r → Elsewhere q r → extended q ≡ extended r
+  unfolding found-at
+  past q r l d =
+      turn-past (stored s a count) (λ q. follow (s .n) p (record-of s a p) (record-of s a q)) 0 q r l
+      (λ j m n. ap (λ (i : ℕ). follow (s .n) p (record-of s a p) (record-of s a i)) (zero-add j) ∙ sym (apart (s .n) p a (place s p) (place s j) (d j m n)))
+
+  pub extend-start : (q : ℕ) → count ≤ s .capacity → Chained s a count → Elsewhere 0 q → Grown s count a count a (extended q)
+  extend-start q h c d = grown-same (past 0 q (omega arith) d) (grown-still s count a h c)
+
   pub extend-more : {all r : ℕ} {b d : List ℕ} (q : ℕ) → p < count → q < count → all ≤ s .capacity → Grown s count a all b (extended q)
       → Added s all b r d (follow (s .n) p (record-of s b p) (record-of s b q))
       → Grown s count a r d (extended (q + 1))
@@ -92,9 +105,9 @@ module _ (s : Shelf) (count p : ℕ) (a : List ℕ) where
   extend-stop q ones h l g =
       grown-same (extended-all ones) (turn-stop (stored s a count) (λ q. follow (s .n) p (record-of s a p) (record-of s a q)) 0 q ones h l g)
 
-  pub extend-done : {all : ℕ} {b : List ℕ} (q ones : ℕ) → q ≤ ones → ones ≤ q → Grown s count a all b (extended q)
+  pub extend-done : {all : ℕ} {b : List ℕ} (q ones : ℕ) → q ≤ ones → Elsewhere q ones → Grown s count a all b (extended q)
       → Added s count a all b (longer (s .n) (stored s a ones) p (record-of s a p))
-  extend-done q ones h l g = grown-same (ap (λ (i : ℕ). extended i) {x = q} {y = ones} (omega arith) ∙ extended-all ones) g
+  extend-done q ones h d g = grown-same (past q ones h d ∙ extended-all ones) g
 
 -- p of the profiles found so far are gone on from: what is left of the search leads to all profiles
 pub record Pending (s : Shelf) (ones : ℕ) (a : List ℕ) (p all : ℕ) (b : List ℕ) : Type 0 where

@@ -46,6 +46,20 @@ record-of s b p = found-at (s .n) b (place s p)
 unfoldable pub stored : Shelf → List ℕ → ℕ → List Found
 stored s b k = map (record-of s b) (numbers 0 k)
 
+-- the node that record p begins at
+abbrev pub first-of : Shelf → List ℕ → ℕ → ℕ
+first-of s b p = record-of s b p .at .first
+
+-- The first k records stand by rising first node.
+abbrev pub Rising : Shelf → List ℕ → (k : ℕ) → Type 0
+Rising s b k = (p q : ℕ) → p ≤ q → q < k → first-of s b p ≤ first-of s b q
+
+-- Of the first k records the first r begin before a node, and no others.
+pub record Parted (s : Shelf) (b : List ℕ) (k node r : ℕ) : Type 0 where
+  pub among : r ≤ k
+  pub before : (p : ℕ) → p < r → first-of s b p < node
+  pub behind : (p : ℕ) → r ≤ p → p < k → node ≤ first-of s b p
+
 -- the numbers of a record fit into its bytes
 pub record Small (e : Ends) : Type 0 where
   pub first : e .first < 65536

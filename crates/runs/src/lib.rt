@@ -8,7 +8,7 @@ ghost use Rattle.coded.specs.Runs.{same-profile, follow, longer, profiles-from,
 ghost use Rattle.tableau.specs.Promise.{table-of, Unmet};
 ghost use Rattle.tableau.specs.Area.{eight};
 ghost use Rattle.triples.specs.Promise.{triples-in};
-ghost use Rattle.runs.specs.Stored.{two, profile-of, found-of, found-at, place, record-of, stored, Small, Lent, Changed, bits-of, row-of, mixed, mixed-row, bucket-of, bucket-at, Latest, Chained, Grown, Added};
+ghost use Rattle.runs.specs.Stored.{two, profile-of, found-of, found-at, place, record-of, stored, Rising, Parted, Small, Lent, Changed, bits-of, row-of, mixed, mixed-row, bucket-of, bucket-at, Latest, Chained, Grown, Added};
 ghost use Rattle.runs.specs.Singles.{node-in, nodes-in, singles-by, Given};
 use tableau::NodeNumber;
 use tableau::Step;
@@ -333,16 +333,39 @@ fn longer(area: &mut [u8], shelf: Shelf, p: usize, q: usize, count: usize) -> us
     add(area, shelf, count, ends, &t)
 }
 
-// Adds profile p followed by each of the `ones` profiles of one transition.
+// How many of the first `ones` records, which stand by rising first node, begin before a node.
+fn begin_before(area: &[u8], shelf: Shelf, ones: usize, node: usize) -> usize
+    requires { ⌜ Lent shelf (length (now area)) ⌝ }
+    requires { ⌜ ones ≤ shelf .capacity ⌝ }
+    requires { ⌜ Rising shelf (now area) ones ⌝ }
+    ensures { λ r. ⌜ Parted shelf (now (area .entry)) ones node r ⌝ }
+{
+    let mut low = 0;
+    let mut high = ones;
+    while low < high {
+        let middle = (low + high) / 2;
+        if get2(area, shelf.base + 192 * middle + 144) < node {
+            low = middle + 1;
+        } else {
+            high = middle;
+        }
+    }
+    low
+}
+
+// Adds profile p followed by each of the `ones` profiles of one transition: those that begin where it ends stand together.
 fn extend(area: &mut [u8], shelf: Shelf, p: usize, ones: usize, count: usize) -> usize
     requires { ⌜ Lent shelf (length (now area)) ⌝ }
     requires { ⌜ (p < count) × ((ones ≤ count) × (count ≤ shelf .capacity)) ⌝ }
     requires { ⌜ Chained shelf (now area) count ⌝ }
+    requires { ⌜ Rising shelf (now area) ones ⌝ }
     ensures { λ r. ⌜ Added shelf count (now (area .entry)) r (now (area .exit)) (longer (shelf .n) (stored shelf (now (area .entry)) ones) p (record-of shelf (now (area .entry)) p)) ⌝ }
 {
+    let node = get2(area, shelf.base + 192 * p + 146);
+    let end = begin_before(area, shelf, ones, node + 1);
     let mut all = count;
-    let mut q = 0;
-    while q < ones {
+    let mut q = begin_before(area, shelf, ones, node);
+    while q < end {
         if shelf.capacity < all {
             return all;
         }
@@ -357,6 +380,7 @@ pub fn profiles(area: &mut [u8], shelf: Shelf, ones: usize) -> usize
     requires { ⌜ Lent shelf (length (now area)) ⌝ }
     requires { ⌜ ones ≤ shelf .capacity ⌝ }
     requires { ⌜ Chained shelf (now area) ones ⌝ }
+    requires { ⌜ Rising shelf (now area) ones ⌝ }
     ensures { λ r. ⌜ ((fuel : ℕ) → shelf .capacity < fuel → Grown shelf ones (now (area .entry)) r (now (area .exit)) (profiles-from fuel (shelf .n) (stored shelf (now (area .entry)) ones))) ⌝ }
 {
     let mut all = ones;

@@ -1,11 +1,12 @@
 -- `decision::profiles_of` goes on from the profiles of one transition, if there is room for them; where there is none, there is none for all.
--- These are chained, as the search that goes on from them asks.
+-- These are chained and stand by rising first node, as the search that goes on from them asks.
 use mathlib.Core.Path.{subst⁻¹, _∙_}
 use native.Mathlib.Omega.{arith}
 use borrow.Author.Needs.{needs}
 use Rattle.tableau.specs.Promise.{table-of}
 use Rattle.runs.specs.Stored.{Lent}
 use Rattle.runs.specs.Singles.{nodes-in}
+use Rattle.runs.proofs.RisingLaws.{ones-rising}
 use Rattle.decision.proofs.SearchedLaws.{profiles-full, profiles-all}
 use Rattle.decision.proofs.profiles_of.Statement.{statement}
 use Rattle.decision.proofs.profiles_of.Tie as tie
@@ -20,7 +21,7 @@ returns : tie.Need-returns
 returns c = let u = c .before .before .before .before .before .before .before in λ fuel h. profiles-full (table-of (u .args .rows .now) (u .args .count)) (nodes-in (u .args .count) (u .args .area .now) (u .args .nodes)) (c .before .before .before .before .singles .ensures) (c .if1 .taken) fuel
 
 profiles-requires : tie.Need-profiles-requires
-profiles-requires c κs = let g = c .before .before .before .before .before .singles .ensures in let room = c .before .if1 .left in (subst⁻¹ (Lent (c .before .before .before .before .before .before .before .before .args .shelf)) (g .elsewhere .same-length) (c .before .before .before .before .before .before .before .before .pre .lent), (room, g .chained room))
+profiles-requires c κs = let s = c .before .before .before .before .before .before .before .before in let g = c .before .before .before .before .before .singles .ensures in let room = c .before .if1 .left in (subst⁻¹ (Lent (s .args .shelf)) (g .elsewhere .same-length) (s .pre .lent), (room, (g .chained room, ones-rising (table-of (s .args .rows .now) (s .args .count)) (nodes-in (s .args .count) (s .args .area .now) (s .args .nodes)) g room)))
 
 same-length-2 : tie.Need-same-length-2
 same-length-2 c = search needs

@@ -2,6 +2,7 @@
 use mathlib.Core.Path.{subst, sym}
 use Prim.Native.Nat.{_+_, _-_, _≤_}
 use Rattle.runs.specs.Stored.{Lent}
+use Rattle.runs.proofs.RisingLaws.{rising-kept}
 use Rattle.runs.proofs.TurnLaws.{Pending, pending-start, pending-next, pending-stop, pending-done}
 use borrow.Author.Needs.{needs}
 use native.Mathlib.Omega.{arith}
@@ -15,7 +16,7 @@ abbrev μ-loop : tie.MeasureT-loop
 μ-loop area₀ shelf ones all₀ p₀ area all p = shelf .capacity + 1 - p
 
 loop-holds : tie.Need-loop-holds Inv-loop μ-loop
-loop-holds c = (omega arith, (omega arith, pending-start _ _ _ (omega arith) (c .before .pre .1 .1)))
+loop-holds c = (omega arith, (omega arith, pending-start _ _ _ (omega arith) (c .before .pre .1 .1 .0)))
 
 same-length : tie.Need-same-length Inv-loop μ-loop
 same-length c = c .before .before .before .loop .inv .1 .1 .grown .elsewhere .same-length
@@ -24,7 +25,7 @@ returns : tie.Need-returns Inv-loop μ-loop
 returns c = λ fuel h. pending-stop (c .before .before .before .loop .inv .1 .1) fuel (c .if1 .taken) (omega arith)
 
 extend-requires : tie.Need-extend-requires Inv-loop μ-loop
-extend-requires c κs = let s = c .before .before .before .before .before .before in let k = c .before .before .before .before .loop .inv .1 .1 .grown in (subst (Lent (s .args .shelf)) (sym (k .elsewhere .same-length)) (s .pre .0), (omega (arith, k .more), k .chained (c .before .if1 .left)))
+extend-requires c κs = let s = c .before .before .before .before .before .before in let k = c .before .before .before .before .loop .inv .1 .1 .grown in (subst (Lent (s .args .shelf)) (sym (k .elsewhere .same-length)) (s .pre .0), (omega (arith, k .more), (k .chained (c .before .if1 .left), rising-kept (s .args .shelf) (s .args .area .now) (c .before .before .before .before .loop .area) (k .kept) (s .pre .1 .1 .1))))
 
 add-p : tie.Need-add-p Inv-loop μ-loop
 add-p c = search needs

@@ -1,0 +1,67 @@
+-- Records that stand by rising first node, as those of one transition do (`ones-rising`). A search by halves finds how many begin before a
+-- node: all before `low` do, none from `high` on does (`Halved`), and what the record between them says moves one of the two. Assumes
+-- nothing.
+use mathlib.Core.Path.{_≡_, refl, ap, subst, subst₂}
+use mathlib.Core.List.{List}
+use Prim.Native.Nat.{ℕ, _+_, _≤_, _<_}
+use native.Mathlib.Omega.{arith}
+use Rattle.base.proofs.At.{At, at-of}
+use Rattle.formula.specs.Table.{Table}
+use Rattle.tableau.specs.Saturation.{Subset}
+use Rattle.coded.specs.Runs.{Found, ones}
+use Rattle.coded.proofs.RiseLaws.{ones-rise}
+use Rattle.runs.specs.declared.Shelf.{Shelf}
+use Rattle.runs.specs.Stored.{two, found-at, place, record-of, stored, first-of, Rising, Parted, Grown}
+use Rattle.runs.proofs.GrowLaws.{stored-length, stored-at}
+
+-- the bytes of a record's first node
+pub first-is : (s : Shelf) (b : List ℕ) (p : ℕ) → two b (place s p + 144) ≡ first-of s b p
+unfolding found-at
+first-is s b p = refl
+
+pub rising-kept : (s : Shelf) (a b : List ℕ) {k : ℕ} → ((p : ℕ) → p < k → record-of s b p ≡ record-of s a p) → Rising s a k → Rising s b k
+rising-kept s a b e r p q l h = omega (arith, r p q l h, ap (λ (x : Found). x .at .first) (e p (omega arith)), ap (λ (x : Found). x .at .first) (e q h))
+
+pub ones-rising : (t : Table) (vs : List Subset) {s : Shelf} {a b : List ℕ} {r : ℕ} → Grown s 0 a r b (ones t vs) → r ≤ s .capacity → Rising s b r
+ones-rising t vs {s} {b = b} {r = r} g h p q l m =
+    ones-rise t vs .1 .rises (there p (omega arith)) (there q m) l
+  where
+    there : (p : ℕ) → p < r → At (ones t vs) p (record-of s b p)
+    there p m =
+        subst (λ (xs : List Found). At xs p (record-of s b p)) (g .records h)
+        (subst (At (stored s b r) p) (stored-at s b r p (record-of s b p) m) (at-of (stored s b r) p (record-of s b p) (omega (arith, stored-length s b r))))
+
+pub record Halved (s : Shelf) (b : List ℕ) (k node low high : ℕ) : Type 0 where
+  pub order : low ≤ high
+  pub among : high ≤ k
+  pub before : (p : ℕ) → p < low → first-of s b p < node
+  pub behind : (p : ℕ) → high ≤ p → p < k → node ≤ first-of s b p
+
+pub halved-start : (s : Shelf) (b : List ℕ) (k node : ℕ) → Halved s b k node 0 k
+halved-start s b k node =
+    record { order = omega arith; among = omega arith; before = λ p h. absurd (omega arith); behind = λ p h l. absurd (omega arith) }
+
+module _ {s : Shelf} {b : List ℕ} {k node low high : ℕ} (v : Halved s b k node low high) where
+  module _ (rise : Rising s b k) (m : ℕ) (l : low ≤ m) (h : m < high) where
+    pub halved-up : two b (place s m + 144) < node → Halved s b k node (m + 1) high
+    halved-up e = record {
+      order = omega arith;
+      among = v .among;
+      before = λ p q. omega (arith, rise p m (omega arith) (omega (arith, v .among)), first-is s b m);
+      behind = v .behind;
+    }
+
+    pub halved-down : node ≤ two b (place s m + 144) → Halved s b k node low m
+    halved-down e = record {
+      order = l;
+      among = omega (arith, v .among);
+      before = v .before;
+      behind = λ p q r. omega (arith, rise m p q r, first-is s b m);
+    }
+
+  pub halved-done : high ≤ low → Parted s b k node low
+  halved-done h = record {
+    among = omega (arith, v .among);
+    before = v .before;
+    behind = λ p q r. v .behind p (omega arith) r;
+  }

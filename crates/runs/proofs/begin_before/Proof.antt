@@ -1,0 +1,68 @@
+-- `runs::begin_before` halves the records between those that are known to begin before the node and those that are known not to.
+use Prim.Native.Nat.{_-_}
+use Rattle.runs.proofs.RisingLaws.{Halved, halved-start, halved-up, halved-down, halved-done}
+use borrow.Author.Needs.{needs}
+use native.Mathlib.Omega.{arith}
+use Rattle.runs.proofs.begin_before.Statement.{statement}
+use Rattle.runs.proofs.begin_before.Tie as tie
+
+abbrev Inv-loop : tie.InvT-loop
+Inv-loop area shelf ones node low₀ high₀ low high = Halved shelf area ones node low high
+
+abbrev μ-loop : tie.MeasureT-loop
+μ-loop area shelf ones node low₀ high₀ low high = high - low
+
+loop-holds : tie.Need-loop-holds Inv-loop μ-loop
+loop-holds c = halved-start _ _ _ _
+
+add-middle : tie.Need-add-middle Inv-loop μ-loop
+add-middle c = omega (arith, c .before .loop .inv .among, c .before .before .before .pre .0 .few, c .before .before .before .pre .0 .low, c .before .before .before .pre .0 .enough)
+
+mul-get2 : tie.Need-mul-get2 Inv-loop μ-loop
+mul-get2 c = omega (arith, c .before .loop .inv .among, c .before .before .before .pre .0 .few, c .before .before .before .pre .0 .low, c .before .before .before .pre .0 .enough)
+
+add-get2 : tie.Need-add-get2 Inv-loop μ-loop
+add-get2 c = omega (arith, c .before .before .loop .inv .among, c .before .before .before .before .pre .0 .few, c .before .before .before .before .pre .0 .low, c .before .before .before .before .pre .0 .enough)
+
+add-get2-2 : tie.Need-add-get2-2 Inv-loop μ-loop
+add-get2-2 c = omega (arith, c .before .before .loop .inv .among, c .before .before .before .before .pre .0 .few, c .before .before .before .before .pre .0 .low, c .before .before .before .before .pre .0 .enough)
+
+get2-requires : tie.Need-get2-requires Inv-loop μ-loop
+get2-requires c κs = omega (arith, c .before .before .loop .inv .among, c .before .before .before .before .pre .0 .few, c .before .before .before .before .pre .0 .low, c .before .before .before .before .pre .0 .enough)
+
+add-low : tie.Need-add-low Inv-loop μ-loop
+add-low c = omega (arith, c .before .before .before .before .loop .inv .among, c .before .before .before .before .before .before .pre .0 .few, c .before .before .before .before .before .before .pre .0 .low, c .before .before .before .before .before .before .pre .0 .enough)
+
+loop-less : tie.Need-loop-less Inv-loop μ-loop
+loop-less c = search needs
+
+loop-again : tie.Need-loop-again Inv-loop μ-loop
+loop-again c = halved-up (c .before .before .before .before .loop .inv) (c .before .before .before .before .before .before .pre .1 .1) _ (omega arith) (omega arith) (omega (arith, c .before .get2 .ensures .0))
+
+loop-less-2 : tie.Need-loop-less-2 Inv-loop μ-loop
+loop-less-2 c = search needs
+
+loop-again-2 : tie.Need-loop-again-2 Inv-loop μ-loop
+loop-again-2 c = halved-down (c .before .before .before .before .loop .inv) (c .before .before .before .before .before .before .pre .1 .1) _ (omega arith) (omega arith) (omega (arith, c .before .get2 .ensures .0))
+
+returns : tie.Need-returns Inv-loop μ-loop
+returns c = halved-done (c .before .loop .inv) (c .loop-test .left)
+
+pub begin-before-spec : {M : Type 1} → statement M
+begin-before-spec =
+    tie.close
+    (tie.spec
+    Inv-loop
+    μ-loop
+    loop-holds
+    add-middle
+    mul-get2
+    add-get2
+    add-get2-2
+    get2-requires
+    add-low
+    loop-less
+    loop-again
+    loop-less-2
+    loop-again-2
+    returns)
