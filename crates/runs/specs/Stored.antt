@@ -88,12 +88,12 @@ bits-of x = map (bit x) (numbers 0 8)
 abbrev pub row-of : List ℕ → (n f : ℕ) → List (List Bool)
 row-of t n f = map (λ g. bits-of (getD t (f * 12 + g) 0)) (numbers 0 n)
 
--- a number with one byte of triples more
+-- the sum of a row's bytes so far with one byte of triples more, and a hash with a row
 abbrev pub mixed : ℕ → List Bool → ℕ
-mixed h x = (h * 2654435761 + word x) % 4294967296
+mixed sum x = (sum * 8 + word x) % 4294967296
 
 abbrev pub mixed-row : ℕ → List (List Bool) → ℕ
-mixed-row h x = foldl mixed h x
+mixed-row h x = (h + foldl mixed 0 x) % 4294967296 * 2654435761 % 4294967296
 
 -- the bucket of a profile: its nodes, and the bytes of its triples row by row
 unfoldable pub bucket-of : Shelf → Profile → ℕ

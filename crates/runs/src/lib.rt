@@ -89,26 +89,27 @@ fn same_profile(area: &[u8], at: usize, ends: Ends, t: &[u8; 144], n: usize) -> 
     triples::same_triples(area, at, t, n)
 }
 
-// One byte more into a hash, modulo 2^32: the factor, a prime near 2^32 over the golden ratio, spreads what came before.
-fn mix(h: usize, x: u8) -> usize
-    requires { ⌜ h < 4294967296 ⌝ }
-    ensures { λ r. ⌜ (r < 4294967296) × (r ≡ mixed h (bits-of x)) ⌝ }
+// One byte more into a row's sum, modulo 2^32.
+fn mix(sum: usize, x: u8) -> usize
+    requires { ⌜ sum < 4294967296 ⌝ }
+    ensures { λ r. ⌜ (r < 4294967296) × (r ≡ mixed sum (bits-of x)) ⌝ }
 {
-    (h * 0x9e3779b1 + base::wide(x)) % 0x1_0000_0000
+    (sum * 8 + base::wide(x)) % 0x1_0000_0000
 }
 
-// The bytes of row f too.
+// The bytes of row f into a hash, modulo 2^32: the factor, a prime near 2^32 over the golden ratio, spreads them and what came before. One
+// product for a row, since each waits for the one before it.
 fn mix_row(h: usize, t: &[u8; 144], n: usize, f: usize) -> usize
     requires { ⌜ (n ≤ 12) × ((f < n) × (h < 4294967296)) ⌝ }
     ensures { λ r. ⌜ (r < 4294967296) × (r ≡ mixed-row h (row-of (now (t .entry)) n f)) ⌝ }
 {
-    let mut sum = h;
+    let mut sum = 0;
     let mut g = 0;
     while g < n {
         sum = mix(sum, t[f * 12 + g]);
         g += 1;
     }
-    sum
+    (h + sum) % 0x1_0000_0000 * 0x9e3779b1 % 0x1_0000_0000
 }
 
 // The bucket of a profile: a hash of its nodes and its triples.

@@ -1,4 +1,4 @@
--- `runs::mix` takes one byte more into a hash. The byte is the number that its eight bits make.
+-- `runs::mix` takes one byte more into a row's sum. The byte is the number that its eight bits make.
 use mathlib.Core.Path.{sym, ap, _∙_}
 use Prim.Native.Nat.{ℕ, _+_, _*_, _%_}
 use Rattle.runs.proofs.SingleLaws.{subset-word}
@@ -17,7 +17,7 @@ add-result : tie.Need-add-result
 add-result c = search needs
 
 returns : tie.Need-returns
-returns c = let s = c .before in (omega arith, ap (λ (w : ℕ). (s .args .h * 2654435761 + w) % 4294967296) (c .wide .ensures ∙ sym (subset-word 8 (s .args .x) (omega arith))))
+returns c = let s = c .before in (omega arith, ap (λ (w : ℕ). (s .args .sum * 8 + w) % 4294967296) (c .wide .ensures ∙ sym (subset-word 8 (s .args .x) (omega arith))))
 
 pub mix-spec : {M : Type 1} → statement M
 mix-spec = tie.close (tie.spec mul-result wide-requires add-result returns)

@@ -1,9 +1,10 @@
--- `runs::mix_row` takes a row of bytes into a hash. The invariant: the first g are in it.
+-- `runs::mix_row` takes a row of bytes into a hash. The invariant: the first g are in their sum.
 use mathlib.Core.Path.{_≡_, refl, ap, _∙_}
-use Prim.Native.Nat.{ℕ, _+_, _-_, _*_, _≤_, _<_}
+use mathlib.Core.List.{foldl}
+use Prim.Native.Nat.{ℕ, _+_, _-_, _*_, _%_, _≤_, _<_}
 use native.Mathlib.Nat.{le-antisymm}
 use lib.ListN.{getD}
-use Rattle.runs.specs.Stored.{bits-of, row-of, mixed, mixed-row}
+use Rattle.runs.specs.Stored.{bits-of, row-of, mixed}
 use Rattle.runs.proofs.BucketLaws.{fold-more}
 use borrow.Author.Needs.{needs}
 use native.Mathlib.Omega.{arith}
@@ -11,7 +12,7 @@ use Rattle.runs.proofs.mix_row.Statement.{statement}
 use Rattle.runs.proofs.mix_row.Tie as tie
 
 abbrev Inv-loop : tie.InvT-loop
-Inv-loop h t n f sum₀ g₀ sum g = (g ≤ n) × ((sum < 4294967296) × (sum ≡ mixed-row h (row-of t g f)))
+Inv-loop h t n f sum₀ g₀ sum g = (g ≤ n) × ((sum < 4294967296) × (sum ≡ foldl mixed 0 (row-of t g f)))
 
 abbrev μ-loop : tie.MeasureT-loop
 μ-loop h t n f sum₀ g₀ sum g = n - g
@@ -38,10 +39,16 @@ loop-less : tie.Need-loop-less Inv-loop μ-loop
 loop-less c = search needs
 
 loop-again : tie.Need-loop-again Inv-loop μ-loop
-loop-again c = let s = c .before .before .before .before in let l = c .before .before .before .loop in (omega arith, (c .mix .ensures .0, fold-more mixed (s .args .h) (λ j. bits-of (getD (s .args .t .now) (s .args .f * 12 + j) 0)) (l .g) (l .inv .1 .1) (c .mix .ensures .1)))
+loop-again c = let s = c .before .before .before .before in let l = c .before .before .before .loop in (omega arith, (c .mix .ensures .0, fold-more mixed 0 (λ j. bits-of (getD (s .args .t .now) (s .args .f * 12 + j) 0)) (l .g) (l .inv .1 .1) (c .mix .ensures .1)))
+
+add-result : tie.Need-add-result Inv-loop μ-loop
+add-result c = search needs
+
+mul-result : tie.Need-mul-result Inv-loop μ-loop
+mul-result c = search needs
 
 returns : tie.Need-returns Inv-loop μ-loop
-returns c = let l = c .before .loop in (l .inv .1 .0, l .inv .1 .1 ∙ ap (λ (k : ℕ). mixed-row (c .before .before .args .h) (row-of (c .before .before .args .t .now) k (c .before .before .args .f))) (le-antisymm (l .inv .0) (c .loop-test .left)))
+returns c = let s = c .before .before in let l = c .before .loop in (omega arith, ap (λ (sum : ℕ). (s .args .h + sum) % 4294967296 * 2654435761 % 4294967296) (l .inv .1 .1 ∙ ap (λ (k : ℕ). foldl mixed 0 (row-of (s .args .t .now) k (s .args .f))) (le-antisymm (l .inv .0) (c .loop-test .left))))
 
 pub mix-row-spec : {M : Type 1} → statement M
 mix-row-spec =
@@ -57,4 +64,6 @@ mix-row-spec =
     add-g
     loop-less
     loop-again
+    add-result
+    mul-result
     returns)
