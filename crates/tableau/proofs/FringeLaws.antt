@@ -1,7 +1,8 @@
--- Saturation by a fringe, the subformulas of the set whose moves are still to be followed. The set lies between the node and its saturation,
--- and is closed but for the fringe (`Between`). A turn takes a subformula out of the fringe and puts in what its moves add to the set
--- (`spread-turn`); with no fringe left the set is closed, so by `saturate-least` it is the saturation (`spread-rest`). What enters the
--- fringe enters the set once and for all, which is why the turns end (`spread-less`). Assumes nothing.
+-- The least set that holds a node and follows moves, by a fringe, the subformulas of the set whose moves are still to be followed. The set
+-- lies inside every set that holds the node and follows the moves, and follows them itself but for the fringe (`Closing`). A turn takes a
+-- subformula out of the fringe and puts in what its moves add to the set (`spread-turn`). What enters the fringe enters the set once and
+-- for all, which is why the turns end (`spread-less`). With no fringe left the set follows the moves, so it is the least (`spread-rest`);
+-- where these are the moves of one choice, it is the saturation (`saturated-rest`). Assumes nothing.
 use mathlib.Core.Path.{_≡_, refl, sym, ap, subst, subst⁻¹, _∙_}
 use mathlib.Core.Logic.{_⊎_, inl, inr}
 use mathlib.Core.Bool.{Bool, true, false, cond, not, _||_}
@@ -25,11 +26,11 @@ use Rattle.base.proofs.NumberLaws.{values-at}
 use Rattle.base.proofs.ShiftLaws.{low-below}
 use Rattle.base.proofs.WordLaws.{no-bit, word-bit, word-lt}
 use Rattle.formula.specs.Formula.{Leaf}
-use Rattle.formula.specs.Table.{Operator, Table, operator}
+use Rattle.formula.specs.Table.{Operator, operator}
 use Rattle.formula.specs.Rows.{operator-at}
 use Rattle.tableau.specs.Saturation.{Subset, has, add, moves, saturate}
 use Rattle.tableau.specs.Promise.{table-of, Formed, with-bits, Saturated}
-use Rattle.tableau.proofs.SaturationLaws.{inside-has, inside-by, add-inside, add-has, add-of, saturate-holds, saturate-closed, saturate-least}
+use Rattle.tableau.proofs.SaturationLaws.{inside-has, has-lt, add-inside, add-has, add-least, Follows, saturate-length, saturate-holds, saturate-closed, saturate-least}
 use Rattle.tableau.proofs.WordSets.{Below, with-bits-bit, word-add}
 use Rattle.tableau.proofs.RowLaws.{moves-below}
 use Rattle.tableau.proofs.LoopLaws.{table-length}
@@ -88,43 +89,34 @@ module _ {ms : List ℕ} {fringe e rest set grown : ℕ} (u : Turn ms fringe e r
       let new : bitXor grown set + set ≡ grown = taken-off grown set (λ k t. subst⁻¹ T (grown-bit k) (or-right (member k ms) (bit set k) t)) in
       omega (arith, or-add-and rest (bitXor grown set), u .left .less, pow-pos e)
 
--- A set between the node and its saturation that follows the moves of its subformulas but those of the fringe.
-pub record Between (t : Table) (w v : Subset) (set fringe : ℕ) : Type 0 where
+-- A set that holds v and follows the moves `go` of its subformulas but those of the fringe, inside every set that holds v and follows all.
+pub record Closing (go : ℕ → List ℕ) (v : Subset) (set fringe : ℕ) : Type 0 where
   pub now : Subset
   pub word-is : set ≡ word now
   pub holds : Inside v now
-  pub within : Inside now (saturate t w v)
+  pub least : (x : Subset) → Inside v x → Follows go x → Inside now x
   pub part : (k : ℕ) → T (bit fringe k) → T (has now k)
-  pub follows : (e m : ℕ) → T (has now e) → (T (bit fringe e) → ⊥) → List·Memᴰ m (moves (operator t e) (has w e)) → m < length now → T (has now m)
+  pub follows : (e m : ℕ) → T (has now e) → (T (bit fringe e) → ⊥) → List·Memᴰ m (go e) → m < length now → T (has now m)
 
-module _ {t : Table} {w v : Subset} {ms : List ℕ} {set fringe e rest grown : ℕ} (len : length v ≡ length t)
-    (q : ms ≡ moves (operator t e) (has w e)) (below : Below (length v) ms) (u : Turn ms fringe e rest set grown) (b : Between t w v set fringe) where
+module _ {go : ℕ → List ℕ} {v : Subset} {set fringe e rest grown : ℕ} (below : Below (length v) (go e)) (u : Turn (go e) fringe e rest set grown)
+    (b : Closing go v set fringe) where
   abbrev after : Subset
-  after = add ms (b .now)
+  after = add (go e) (b .now)
 
   more : Inside (b .now) after
-  more = add-inside ms (b .now)
+  more = add-inside (go e) (b .now)
 
-  inside-now : Below (length (b .now)) ms
+  inside-now : Below (length (b .now)) (go e)
   inside-now m r = omega (arith, inside-length (b .holds), below m r)
 
   word-after : grown ≡ word after
-  word-after = u .gains ∙ ap (with-bits ms) (b .word-is) ∙ sym (word-add ms (b .now) inside-now)
+  word-after = u .gains ∙ ap (with-bits (go e)) (b .word-is) ∙ sym (word-add (go e) (b .now) inside-now)
 
-  moved-to : (m : ℕ) → List·Memᴰ m ms → T (has after m)
-  moved-to m r = add-has ms r (b .now) (inside-now m r)
+  moved-to : (m : ℕ) → List·Memᴰ m (go e) → T (has after m)
+  moved-to m r = add-has (go e) r (b .now) (inside-now m r)
 
-  still-within : (k : ℕ) → T (has after k) → T (has (saturate t w v) k)
-  still-within k h =
-      elim (add-of ms (b .now) k h) [
-        | inl p ↦
-            saturate-closed t w v len e k (inside-has (b .within) e (b .part e (u .there))) (subst (List·Memᴰ k) q (p .0))
-            (omega (arith, p .1, inside-length (b .within)))
-        | inr p ↦ inside-has (b .within) k p
-      ]
-
-  still-follows : (i m : ℕ) → T (has after i) → (T (bit (bitOr rest (bitXor grown set)) i) → ⊥) → List·Memᴰ m (moves (operator t i) (has w i))
-      → m < length after → T (has after m)
+  still-follows : (i m : ℕ) → T (has after i) → (T (bit (bitOr rest (bitXor grown set)) i) → ⊥) → List·Memᴰ m (go i) → m < length after
+      → T (has after m)
   still-follows i m h n r l =
       by-test (has (b .now) i) (λ _. T (has after m))
       (λ old. by (eqb i e) refl old)
@@ -133,32 +125,29 @@ module _ {t : Table} {w v : Subset} {ms : List ℕ} {set fringe e rest grown : �
       (λ s. new (subst T (ap (λ (x : ℕ). bit x i) (b .word-is) ∙ word-bit (b .now) i) s)))))
     where
       by : (d : Bool) → eqb i e ≡ d → T (has (b .now) i) → T (has after m)
-      by true s old = moved-to m (subst⁻¹ (List·Memᴰ m) (q ∙ ap (λ (x : ℕ). moves (operator t x) (has w x)) (sym (eqb-true i e s))) r)
+      by true s old = moved-to m (subst (λ (x : ℕ). List·Memᴰ m (go x)) (eqb-true i e s) r)
       by false s old =
           inside-has more m (b .follows i m old (λ f. n (kept u i (eqb-false i e s) f)) r (omega (arith, inside-length more)))
 
-  between-turn : Between t w v grown (bitOr rest (bitXor grown set))
-  between-turn = record {
+  closing-turn : Closing go v grown (bitOr rest (bitXor grown set))
+  closing-turn = record {
     now = after;
     word-is = word-after;
     holds = inside-trans (b .holds) more;
-    within = inside-by after (saturate t w v) (sym (inside-length more) ∙ inside-length (b .within)) still-within;
+    least = λ x i f. let s = b .least x i f in add-least (go e) s (λ m r l. f e m (inside-has s e (b .part e (u .there))) r l);
     part = λ k h. elim (came u k h) [ inl p ↦ inside-has more k (b .part k p) | inr r ↦ moved-to k r ];
     follows = still-follows;
   }
 
-table-at : (rows : List ℕ) {count e : ℕ} → e < count → operator (table-of rows count) e ≡ operator-at rows e
-table-at rows {count} {e} h = values-at (operator-at rows) 0 count e (Operator.leaf (Leaf.constant false)) h ∙ ap (operator-at rows) (zero-add e)
-
 -- The loop's invariant. The fringe has only subformulas, even where the node's word is no set's.
-pub record Spread (rows : List ℕ) (count choice node set fringe : ℕ) : Type 0 where
+pub record Spread (go : ℕ → List ℕ) (count node set fringe : ℕ) : Type 0 where
   pub few : (k : ℕ) → T (bit fringe k) → k < count
-  pub is : (w v : Subset) → length v ≡ count → choice ≡ word w → node ≡ word v → Between (table-of rows count) w v set fringe
+  pub is : (v : Subset) → length v ≡ count → node ≡ word v → Closing go v set fringe
 
-pub spread-start : (rows : List ℕ) {count fringe : ℕ} (choice node : ℕ) → fringe ≡ node % 2 ^ count → Spread rows count choice node node fringe
-spread-start rows {count} {fringe} choice node q = record {
+pub spread-start : (go : ℕ → List ℕ) {count fringe : ℕ} (node : ℕ) → fringe ≡ node % 2 ^ count → Spread go count node node fringe
+spread-start go {count} {fringe} node q = record {
   few = λ k h. low-below count node k (subst (λ (x : ℕ). T (bit x k)) q h);
-  is = λ w v l c n.
+  is = λ v l n.
       let small : word v < 2 ^ count = subst (λ (k : ℕ). word v < 2 ^ k) l (word-lt v) in
       let same : (k : ℕ) → bit fringe k ≡ has v k =
       λ k. ap (λ (x : ℕ). bit x k) (q ∙ ap (λ (x : ℕ). x % 2 ^ count) n ∙ mod-eq-of-lt small) ∙ word-bit v k in
@@ -166,42 +155,63 @@ spread-start rows {count} {fringe} choice node q = record {
         now = v;
         word-is = n;
         holds = inside-refl v;
-        within = saturate-holds (table-of rows count) w v;
+        least = λ x i f. i;
         part = λ k h. subst T (same k) h;
         follows = λ e m h f r k. absurd (f (subst⁻¹ T (same e) h));
       };
 }
 
-module _ {rows : List ℕ} {count choice node set fringe : ℕ} (s : Spread rows count choice node set fringe) where
+module _ {go : ℕ → List ℕ} {count node set fringe : ℕ} (s : Spread go count node set fringe) where
   pub spread-below : {e : ℕ} → Lowest fringe e → e < count
   spread-below {e} l = s .few e (to-T (bit fringe e) (l .there))
 
-  module _ {e rest grown : ℕ} (l : Lowest fringe e) (o : Without fringe e rest)
-      (g : grown ≡ with-bits (moves (operator-at rows e) (bit choice e)) set) where
-    turn : Turn (moves (operator-at rows e) (bit choice e)) fringe e rest set grown
+  module _ {e rest grown : ℕ} (l : Lowest fringe e) (o : Without fringe e rest) (g : grown ≡ with-bits (go e) set) where
+    turn : Turn (go e) fringe e rest set grown
     turn = record { there = to-T (bit fringe e) (l .there); left = o; gains = g }
 
-    same-moves : (w : Subset) → choice ≡ word w → moves (operator-at rows e) (bit choice e) ≡ moves (operator (table-of rows count) e) (has w e)
-    same-moves w c =
-        ap (moves (operator-at rows e)) (ap (λ (x : ℕ). bit x e) c ∙ word-bit w e)
-        ∙ ap (λ (x : Operator). moves x (has w e)) (sym (table-at rows (spread-below l)))
-
-    pub spread-turn : Formed rows count → Spread rows count choice node grown (bitOr rest (bitXor grown set))
+    pub spread-turn : ((i : ℕ) → i < count → Below count (go i)) → Spread go count node grown (bitOr rest (bitXor grown set))
     spread-turn f =
-        let below = moves-below (getD rows e 0) (getD rows (48 + e) 0) e count (bit choice e) (f .row e (spread-below l)) in
+        let below = f e (spread-below l) in
         record {
           few = λ k h. elim (came turn k h) [ inl p ↦ s .few k p | inr r ↦ below k r ];
-          is = λ w v n c d.
-              between-turn (n ∙ sym (table-length rows count)) (same-moves w c) (λ m r. omega (arith, below m r)) turn (s .is w v n c d);
+          is = λ v n d. closing-turn (λ m r. omega (arith, below m r)) turn (s .is v n d);
         }
 
     pub spread-less : (room : ℕ) → grown ≤ room → 2 * (room - grown) + bitOr rest (bitXor grown set) < 2 * (room - set) + fringe
     spread-less = falls turn
 
-  pub spread-rest : fringe ≡ 0 → Saturated rows count choice node set
-  spread-rest z = record {
-    is = λ w v l c n.
-        let b = s .is w v l c n in
-        b .word-is ∙ ap word (inside-both (b .within)
-        (saturate-least (table-of rows count) w (b .holds) (λ e m h r k. b .follows e m h (λ t. subst T (ap (λ (x : ℕ). bit x e) z ∙ no-bit e) t) r k)));
-  }
+  pub spread-rest : fringe ≡ 0 → (v : Subset) (l : length v ≡ count) (n : node ≡ word v) → Follows go (s .is v l n .now)
+  spread-rest z v l n e m h = s .is v l n .follows e m h (λ t. subst T (ap (λ (x : ℕ). bit x e) z ∙ no-bit e) t)
+
+-- the moves of a subformula under the choice of a word
+abbrev pub moves-at : List ℕ → (choice e : ℕ) → List ℕ
+moves-at rows choice e = moves (operator-at rows e) (bit choice e)
+
+pub moves-at-below : {rows : List ℕ} {count : ℕ} → Formed rows count → (choice e : ℕ) → e < count → Below count (moves-at rows choice e)
+moves-at-below {rows} {count} f choice e h = moves-below (getD rows e 0) (getD rows (48 + e) 0) e count (bit choice e) (f .row e h)
+
+pub moves-same : (rows : List ℕ) (count : ℕ) {choice e : ℕ} (w : Subset) → choice ≡ word w → e < count
+    → moves-at rows choice e ≡ moves (operator (table-of rows count) e) (has w e)
+moves-same rows count {choice} {e} w c h =
+    ap (moves (operator-at rows e)) (ap (λ (x : ℕ). bit x e) c ∙ word-bit w e)
+    ∙ ap (λ (o : Operator). moves o (has w e))
+    (sym (values-at (operator-at rows) 0 count e (Operator.leaf (Leaf.constant false)) h ∙ ap (operator-at rows) (zero-add e)))
+
+pub saturated-rest : {rows : List ℕ} {count choice node set fringe : ℕ} → Spread (moves-at rows choice) count node set fringe → fringe ≡ 0
+    → Saturated rows count choice node set
+saturated-rest {rows} {count} {choice} {node} {set} s z = record { is = λ w v l c n. go w v l c n }
+  where
+    go : (w v : Subset) → length v ≡ count → choice ≡ word w → node ≡ word v → set ≡ word (saturate (table-of rows count) w v)
+    go w v l c n =
+        let t = table-of rows count in
+        let b = s .is v l n in
+        let whole = saturate t w v in
+        b .word-is ∙ ap word (inside-both
+        (b .least whole (saturate-holds t w v)
+        (λ e m h r k.
+        saturate-closed t w v (l ∙ sym (table-length rows count)) e m h
+        (subst (List·Memᴰ m) (moves-same rows count w c (omega (arith, has-lt whole e h, saturate-length t w v))) r) k))
+        (saturate-least t w (b .holds)
+        (λ e m h r k.
+        spread-rest s z v l n e m h
+        (subst⁻¹ (List·Memᴰ m) (moves-same rows count w c (omega (arith, has-lt (b .now) e h, inside-length (b .holds)))) r) k)))

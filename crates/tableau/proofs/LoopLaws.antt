@@ -1,11 +1,11 @@
 -- The loops over the rows, each as one turn: what holds of the first e rows holds, after the turn, of the first e + 1. So no loop needs
 -- more than the promise of the function it stands in, for a part of the table; the part grows at its end (`operators-more`), and the
--- definitions go along with that (`sweep-append`, `choice-append`, `operators-in-more`). A loop over the bits of a set does the same, for
+-- definitions go along with that (`choice-append`, `operators-in-more`). A loop over the bits of a set does the same, for
 -- a row whose bit is clear requires nothing (`required-upto`). Assumes nothing.
 use mathlib.Core.Path.{_≡_, refl, sym, ap, subst, subst⁻¹, _∙_}
 use mathlib.Core.Bool.{Bool, true, false, cond, _||_, or-false}
 use mathlib.Core.List.{List, [], _∷_, _++_, append-nil}
-use Prim.Native.Nat.{ℕ, suc, _+_, _/_, _%_, _^_, _≤_, _<_}
+use Prim.Native.Nat.{ℕ, _+_, _/_, _%_, _^_, _≤_, _<_}
 use native.Mathlib.Nat.{add-zero, zero-add}
 use native.Mathlib.Numerals.{add-one}
 use native.Mathlib.Decide.{decLt, le-ind}
@@ -19,20 +19,18 @@ use Rattle.base.specs.Bits.{bit, word, Lowest, Without}
 use Rattle.base.proofs.BoolLaws.{to-T}
 use Rattle.base.proofs.BitLaws.{set-none}
 use Rattle.base.proofs.AppendLaws.{any-append, gather-append}
-use Rattle.base.proofs.Inside.{inside-length}
 use Rattle.base.proofs.NumberLaws.{values-length, values-add}
 use Rattle.base.proofs.ShiftLaws.{low-below, low-bit}
 use Rattle.base.proofs.WordLaws.{no-bit, word-bit, word-past}
 use Rattle.formula.specs.Table.{Operator, Table}
 use Rattle.formula.specs.Rows.{operator-at}
-use Rattle.tableau.specs.Saturation.{Subset, has, add, moves, sweep}
+use Rattle.tableau.specs.Saturation.{Subset, has}
 use Rattle.tableau.specs.Transition.{operators-in, requires, is-false, next-of, is-or, ors, choice-of}
-use Rattle.tableau.specs.Promise.{table-of, Formed, with-bits, Swept, Requires-more, Required, Required-by}
+use Rattle.tableau.specs.Promise.{table-of, Formed, with-bits, Requires-more, Required, Required-by}
 use Rattle.tableau.specs.declared.Requirement.{Requirement}
-use Rattle.tableau.proofs.SaturationLaws.{sweep-inside}
 use Rattle.tableau.proofs.ChoiceLaws.{choice-of-length}
-use Rattle.tableau.proofs.WordSets.{Below, with-bits-append, word-add, word-more}
-use Rattle.tableau.proofs.RowLaws.{moves-below, or-at, other-at}
+use Rattle.tableau.proofs.WordSets.{with-bits-append, word-more}
+use Rattle.tableau.proofs.RowLaws.{or-at, other-at}
 
 pub table-length : (rows : List ℕ) (count : ℕ) → length (table-of rows count) ≡ count
 table-length rows count = values-length (operator-at rows) 0 count
@@ -109,47 +107,6 @@ module _ {rows : List ℕ} {e x choice left : ℕ} (c : Chosen rows e x choice l
 
   pub chosen-all : {count : ℕ} → e ≤ count → count ≤ e → choice ≡ word (choice-of (table-of rows count) x)
   chosen-all h k = c .choice-is ∙ at-end (λ (n : ℕ). word (choice-of (table-of rows e) x) ≡ word (choice-of (table-of rows n) x)) h k refl
-
--- a sweep
-sweep-length : (t : Table) (w : Subset) (e : ℕ) (v : Subset) → length (sweep t w e v) ≡ length v
-sweep-length t w e v = sym (inside-length (sweep-inside t w e v))
-
-sweep-append : (s t : Table) (w : Subset) (e : ℕ) (v : Subset) → sweep (s ++ t) w e v ≡ sweep t w (e + length s) (sweep s w e v)
-sweep-append [] t w e v = rw (add-zero e)
-sweep-append (o ∷ s) t w e v =
-    sweep-append s t w (suc e) (cond (has v e) (add (moves o (has w e)) v) v)
-    ∙ ap (λ (n : ℕ). sweep t w n (sweep (o ∷ s) w e v)) {x = suc e + length s} {y = e + suc (length s)} (omega arith)
-
--- one operator's moves, on words
-moved-word : (o : Operator) (w u : Subset) (e : ℕ) → Below (length u) (moves o (has w e))
-    → cond (bit (word u) e) (with-bits (moves o (bit (word w) e)) (word u)) (word u) ≡ word (cond (has u e) (add (moves o (has w e)) u) u)
-moved-word o w u e h = rw (word-bit u e, word-bit w e) (by (has u e))
-  where
-    by : (b : Bool) → cond b (with-bits (moves o (has w e)) (word u)) (word u) ≡ word (cond b (add (moves o (has w e)) u) u)
-    by true = sym (word-add (moves o (has w e)) u h)
-    by false = refl
-
-pub swept-none : (rows : List ℕ) (count choice set : ℕ) → Swept rows count 0 choice set set
-swept-none rows count choice set = record { is = λ w v l p q. q }
-
-pub swept-more : {rows : List ℕ} {count choice set : ℕ} (e x y : ℕ) (b : Bool) → Formed rows count → e < count → Swept rows count e choice set x
-    → bit x e ≡ b → y ≡ cond b (with-bits (moves (operator-at rows e) (bit choice e)) x) x → Swept rows count (e + 1) choice set y
-swept-more {rows} {count} {choice} {set} e x y b f h s t q = record { is = λ w v l c n. go w v l c n }
-  where
-    go : (w v : Subset) → length v ≡ count → choice ≡ word w → set ≡ word v → y ≡ word (sweep (table-of rows (e + 1)) w 0 v)
-    go w v l c n =
-        let u : Subset = sweep (table-of rows e) w 0 v in
-        q ∙ ap (λ (d : Bool). cond d (with-bits (moves (operator-at rows e) (bit choice e)) x) x) (sym t)
-        ∙ ap (λ (z : ℕ). cond (bit z e) (with-bits (moves (operator-at rows e) (bit choice e)) z) z) (s .is w v l c n)
-        ∙ ap (λ (z : ℕ). cond (bit (word u) e) (with-bits (moves (operator-at rows e) (bit z e)) (word u)) (word u)) c
-        ∙ moved-word (operator-at rows e) w u e
-        (subst⁻¹ (λ (n : ℕ). Below n (moves (operator-at rows e) (has w e))) (sweep-length (table-of rows e) w 0 v ∙ l)
-        (moves-below (getD rows e 0) (getD rows (48 + e) 0) e count (has w e) (f .row e h)))
-        ∙ ap word (sym (ap (λ (t : Table). sweep t w 0 v) (operators-more rows e) ∙ sweep-append (table-of rows e) (operator-at rows e ∷ []) w 0 v
-        ∙ ap (λ (i : ℕ). sweep (operator-at rows e ∷ []) w i u) (zero-add (length (table-of rows e)) ∙ table-length rows e)))
-
-pub swept-all : {rows : List ℕ} {count e choice set r : ℕ} → Swept rows count e choice set r → e ≤ count → count ≤ e → Swept rows count count choice set r
-swept-all {rows} {count} {e} {choice} {set} {r} s h k = at-end (λ (n : ℕ). Swept rows count n choice set r) h k s
 
 -- what is required
 operators-in-more : (t : Table) (o : Operator) (s : Subset) → operators-in (t ++ (o ∷ [])) s ≡ operators-in t s ++ cond (has s (length t)) (o ∷ []) []

@@ -99,6 +99,11 @@ add-of (m ∷ ms) v e h =
       | inr r ↦ elim (set-of v m e r) [ inl p ↦ inl (List·Memᴰ·head (p .0), omega (arith, p .0, p .1)) | inr q ↦ inr q ]
     ]
 
+pub add-least : (ms : List ℕ) {v u : Subset} → Inside v u → ((m : ℕ) → List·Memᴰ m ms → m < length u → T (has u m)) → Inside (add ms v) u
+add-least ms {v} {u} i f =
+    inside-by (add ms v) u (sym (inside-length (add-inside ms v)) ∙ inside-length i)
+    (λ k q. elim (add-of ms v k q) [ inl p ↦ f k (p .0) (omega (arith, p .1, inside-length i)) | inr r ↦ inside-has i k r ])
+
 -- what the operator of subformula e adds in a pass
 abbrev added : Operator → Subset → ℕ → Subset → Subset
 added o w e v = cond (has v e) (add (moves o (has w e)) v) v
@@ -122,7 +127,7 @@ added-has : (o : Operator) (w : Subset) (e : ℕ) (v : Subset) (m : ℕ) → T (
 added-has o w e v m h r l =
     subst⁻¹ (λ (b : Bool). T (has (cond b (add (moves o (has w e)) v) v) m)) (of-T (has v e) h) (add-has (moves o (has w e)) r v l)
 
-pub sweep-inside : (t : Table) (w : Subset) (e : ℕ) (v : Subset) → Inside v (sweep t w e v)
+sweep-inside : (t : Table) (w : Subset) (e : ℕ) (v : Subset) → Inside v (sweep t w e v)
 sweep-inside [] w e v = inside-refl v
 sweep-inside (o ∷ t) w e v = inside-trans (added-inside o w e v) (sweep-inside t w (suc e) (added o w e v))
 
@@ -130,16 +135,19 @@ sweep-mono : (t : Table) (w : Subset) (e : ℕ) {v u : Subset} → Inside v u �
 sweep-mono [] w e i = i
 sweep-mono (o ∷ t) w e i = sweep-mono t w (suc e) (added-mono o w e i)
 
--- a move from a subformula of the set to one of the table stays in the set
+-- a move from a subformula of the set to one of the table stays in the set: for any moves, and for those of a choice
+abbrev pub Follows : (ℕ → List ℕ) → Subset → Type 0
+Follows go v = (e m : ℕ) → T (has v e) → List·Memᴰ m (go e) → m < length v → T (has v m)
+
 abbrev pub Closed : Table → (choice : Subset) → Subset → Type 0
-Closed t w v = (e m : ℕ) → T (has v e) → List·Memᴰ m (moves (operator t e) (has w e)) → m < length v → T (has v m)
+Closed t w v = Follows (λ e. moves (operator t e) (has w e)) v
 
 -- the same for a part of a table, whose first subformula is e
 abbrev Closed-from : Table → (choice : Subset) → ℕ → Subset → Type 0
 Closed-from t w e v = (i m : ℕ) → T (has v (e + i)) → List·Memᴰ m (moves (operator t i) (has w (e + i))) → m < length v → T (has v m)
 
 -- a pass adds what a move from the set leads to
-pub sweep-closed : (t : Table) (w : Subset) (e : ℕ) (v u : Subset) → Inside (sweep t w e v) u
+sweep-closed : (t : Table) (w : Subset) (e : ℕ) (v u : Subset) → Inside (sweep t w e v) u
     → (i m : ℕ) → T (has v (e + i)) → List·Memᴰ m (moves (operator t i) (has w (e + i))) → m < length v → T (has u m)
 sweep-closed [] w e v u s i m h r l = absurd (List·Memᴰ·not-nil r)
 sweep-closed (o ∷ t) w e v u s zero m h r l =
@@ -154,11 +162,7 @@ added-least : (o : Operator) (w : Subset) (e : ℕ) {v u : Subset} → Inside v 
     → ((m : ℕ) → T (has u e) → List·Memᴰ m (moves o (has w e)) → m < length u → T (has u m)) → Inside (added o w e v) u
 added-least o w e {v} {u} i f =
     by-test (has v e) (λ b. Inside (cond b (add (moves o (has w e)) v) v) u)
-    (λ h.
-    inside-by (add (moves o (has w e)) v) u (sym (inside-length (add-inside (moves o (has w e)) v)) ∙ inside-length i)
-    (λ k q.
-    elim (add-of (moves o (has w e)) v k q)
-    [ inl p ↦ f k (inside-has i e h) (p .0) (omega (arith, p .1, inside-length i)) | inr r ↦ inside-has i k r ]))
+    (λ h. add-least (moves o (has w e)) i (λ m r l. f m (inside-has i e h) r l))
     (λ h. i)
 
 sweep-least : (t : Table) (w : Subset) (e : ℕ) {v u : Subset} → Inside v u → Closed-from t w e u → Inside (sweep t w e v) u

@@ -7,10 +7,11 @@
 use mathlib.Core.Path.{_≡_, refl, sym, ap, subst, subst⁻¹, _∙_}
 use mathlib.Core.Bool.{Bool, true, false, not, cond, _&&_}
 use mathlib.Core.List.{List, _∷_, _++_}
-use Prim.Native.Nat.{ℕ, suc, _+_, _-_, _*_, _/_, _%_, _^_, _≤_, _<_}
-use native.Mathlib.Nat.{zero-add}
+use Prim.Native.Nat.{ℕ, zero, suc, _+_, _-_, _*_, _/_, _%_, _^_, _≤_, _<_}
+use native.Mathlib.Nat.{zero-add, pow-succ'}
 use native.Mathlib.Omega.{arith}
 use lib.Bits.{bitAnd}
+use lib.Pow.{pow-pos}
 use lib.Dec.{T, T-not, not-T, eqb, eqb→eq}
 use lib.ListN.{length, getD, set, replicate, length-replicate, getD-replicate, length-set}
 use lib.Seq.{getD-at, getD-set-same, getD-set-other}
@@ -23,7 +24,7 @@ use Rattle.base.proofs.BitLaws.{bit-and, bit-other}
 use Rattle.base.proofs.AppendLaws.{numbers-of}
 use Rattle.base.proofs.MemberLaws.{any-of, any-in, numbers-in}
 use Rattle.base.proofs.NumberLaws.{values-add}
-use Rattle.base.proofs.WordLaws.{same-bits, no-bit}
+use Rattle.base.proofs.WordLaws.{same-bits, no-bit, bit-zero, bit-suc}
 use Rattle.formula.specs.Table.{Table}
 use Rattle.formula.specs.Rows.{operator-at, operators-of}
 use Rattle.tableau.specs.Saturation.{Subset, has, saturate}
@@ -32,7 +33,6 @@ use Rattle.tableau.specs.Promise.{table-of, Formed, Between, Widest, Lea
 use Rattle.tableau.proofs.ChoiceLaws.{choice-of-length}
 use Rattle.tableau.proofs.TransitionLaws.{within-of, no-transition}
 use Rattle.tableau.proofs.RowLaws.{or-at}
-use Rattle.tableau.proofs.WidestLaws.{ones-bit}
 use Rattle.tableau.proofs.LoopLaws.{table-length, at-end, ors-one, ors-same, choice-append}
 
 -- the table as the rows before e, row e, and the rest
@@ -131,6 +131,16 @@ unmet-all {rows} {count} {set = set} {bits = bits} {n = n} wd o h k = record {
 -- equal numbers, or others
 same-or-not : (i j : ℕ) {P : Type 0} → (i ≡ j → P) → ((i ≡ j → ⊥) → P) → P
 same-or-not i j {P} f g = by-test (eqb i j) (λ _. P) (λ h. f (eqb→eq i j h)) (λ h. g (λ e. h (to-T (eqb i j) (eq-eqb i j e))))
+
+-- a number one below a power has all lower bits
+ones-bit : (n k : ℕ) → k < n → T (bit (2 ^ n - 1) k)
+ones-bit zero k h = absurd (omega arith)
+ones-bit (suc n) zero h =
+    let w = 2 ^ suc n - 1 in
+    to-T (bit w 0) (bit-zero w ∙ ap (λ (y : ℕ). eqb y 1) {x = w % 2} {y = 1} (omega (arith, pow-succ' 2 n, pow-pos n)))
+ones-bit (suc n) (suc k) h =
+    let w = 2 ^ suc n - 1 in
+    subst⁻¹ T (bit-suc w k ∙ ap (λ (y : ℕ). bit y k) {x = w / 2} {y = 2 ^ n - 1} (omega (arith, pow-succ' 2 n, pow-pos n))) (ones-bit n k (omega arith))
 
 -- Every choice word is below all ones; one that picks left at or j is below all but its bit, and one that picks right is above its bit.
 module _ {n all : ℕ} (a : all ≡ 2 ^ n - 1) (x : ℕ) where

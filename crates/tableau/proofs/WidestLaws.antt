@@ -1,35 +1,28 @@
--- A set that holds every saturation of a node under a choice word between two others (`widest-rest`, `widest-all`). Its choice is then
--- between theirs (`choice-inside`). Where a pass by the lower choice and one by the upper add nothing, the set is closed under the moves of
--- every choice between, which picks at each or as one of the two, so by `saturate-least` it holds the saturation. Assumes nothing.
+-- A set that holds every saturation of a node under a choice word between two others (`widest-rest`): the least set that holds the node and
+-- follows the moves under the lower choice and those under the upper one. The choice of a word between is between theirs
+-- (`choice-inside`), so it picks at each or as one of the two (`between-moves`), and by `saturate-least` the set holds its saturation.
+-- Assumes nothing.
 use mathlib.Core.Path.{_≡_, sym, ap, subst, subst⁻¹, _∙_}
+use mathlib.Core.Logic.{inl, inr}
 use mathlib.Core.Bool.{Bool, true, false, cond}
-use mathlib.Core.List.{List, [], _∷_, List·Memᴰ}
-use Prim.Native.Nat.{ℕ, zero, suc, _+_, _-_, _/_, _%_, _^_, _<_}
+use mathlib.Core.List.{List, [], _∷_, _++_, List·Memᴰ, Memᴰ·append-left, Memᴰ·append-right, List·Memᴰ·append-cases}
+use Prim.Native.Nat.{ℕ, suc, _+_, _-_, _*_, _/_, _%_, _≤_, _<_}
 use native.Mathlib.Omega.{arith}
-use native.Mathlib.Nat.{zero-add, pow-succ'}
+use lib.Bits.{bitOr, bitXor}
 use lib.Dec.{T, eqb}
-use lib.Pow.{pow-pos}
 use lib.ListN.{length}
-use Rattle.base.specs.Bits.{bit, word}
+use Rattle.base.specs.Bits.{bit, word, Lowest, Without}
 use Rattle.base.proofs.BoolLaws.{by-test, of-T, to-T}
 use Rattle.base.proofs.TestLaws.{not-of-T}
-use Rattle.base.proofs.WordLaws.{bit-zero, bit-suc, word-bit, word-inj}
-use Rattle.base.proofs.Inside.{Below, below-of, Inside, inside-length, inside-refl, inside-trans}
-use Rattle.formula.specs.Table.{Table, operator}
-use Rattle.tableau.specs.Saturation.{Subset, has, moves, sweep, saturate}
+use Rattle.base.proofs.WordLaws.{bit-zero, bit-suc, word-bit}
+use Rattle.base.proofs.Inside.{below-of, below-least, Inside, inside-length}
+use Rattle.formula.specs.Table.{Operator, Table, operator}
+use Rattle.tableau.specs.Saturation.{Subset, has, moves, saturate}
 use Rattle.tableau.specs.Transition.{is-or, ors, choice-of}
-use Rattle.tableau.specs.Promise.{table-of, Swept, Between, Widest}
-use Rattle.tableau.proofs.SaturationLaws.{inside-has, has-lt, sweep-inside, Closed, sweep-closed, saturate-length, saturate-least}
-
--- a number one below a power has all lower bits
-pub ones-bit : (n k : ℕ) → k < n → T (bit (2 ^ n - 1) k)
-ones-bit zero k h = absurd (omega arith)
-ones-bit (suc n) zero h =
-    let w = 2 ^ suc n - 1 in
-    to-T (bit w 0) (bit-zero w ∙ ap (λ (y : ℕ). eqb y 1) {x = w % 2} {y = 1} (omega (arith, pow-succ' 2 n, pow-pos n)))
-ones-bit (suc n) (suc k) h =
-    let w = 2 ^ suc n - 1 in
-    subst⁻¹ T (bit-suc w k ∙ ap (λ (y : ℕ). bit y k) {x = w / 2} {y = 2 ^ n - 1} (omega (arith, pow-succ' 2 n, pow-pos n))) (ones-bit n k (omega arith))
+use Rattle.tableau.specs.Promise.{table-of, Formed, with-bits, Between, Widest}
+use Rattle.tableau.proofs.SaturationLaws.{inside-has, has-lt, saturate-least}
+use Rattle.tableau.proofs.WordSets.{Below, with-bits-append}
+use Rattle.tableau.proofs.FringeLaws.{Spread, spread-turn, spread-less, spread-rest, moves-at, moves-at-below, moves-same}
 
 -- a choice word with more bits picks right at more ors
 choice-inside : (t : Table) (x y : ℕ) → ((i : ℕ) → i < ors t → T (bit x i) → T (bit y i)) → Inside (choice-of t x) (choice-of t y)
@@ -44,79 +37,57 @@ choice-inside (o ∷ t) x y f = by (is-or o) f (choice-inside t)
         (below-of (eqb (x % 2) 1) (eqb (y % 2) 1)
         (λ q. sym (bit-zero y) ∙ of-T (bit y 0) (f 0 (omega arith) (to-T (bit x 0) (bit-zero x ∙ q)))))
         (g (x / 2) (y / 2) (λ i h k. subst T (bit-suc y i) (f (suc i) (omega arith) (subst⁻¹ T (bit-suc x i) k))))
-    by false f g = Inside.put Below.same (g x y (λ i h k. f i (omega arith) k))
+    by false f g = Inside.put (below-least false) (g x y (λ i h k. f i (omega arith) k))
 
--- one pass by each of two choices
-abbrev both : Table → (lower upper : Subset) → Subset → Subset
-both t p q u = sweep t q 0 (sweep t p 0 u)
+-- the moves of an operator under a choice between two others are among theirs
+between-moves : (o : Operator) {p w q : Subset} (e : ℕ) {m : ℕ} → Inside p w → Inside w q → List·Memᴰ m (moves o (has w e))
+    → List·Memᴰ m (moves o (has p e) ++ moves o (has q e))
+between-moves o {p} {w} {q} e {m} lower upper =
+    by-test (has w e) (λ b. List·Memᴰ m (moves o b) → List·Memᴰ m (moves o (has p e) ++ moves o (has q e)))
+    (λ y r. Memᴰ·append-right (moves o (has p e)) (rw (of-T (has q e) (inside-has upper e y)) r))
+    (λ n r. Memᴰ·append-left {s = moves o (has p e)} (moves o (has q e)) (rw (not-of-T (has p e) (λ y. n (inside-has lower e y))) r))
 
-both-inside : (t : Table) (p q u : Subset) → Inside u (both t p q u)
-both-inside t p q u = inside-trans (sweep-inside t p 0 u) (sweep-inside t q 0 (sweep t p 0 u))
+-- the moves of a subformula under the choices of two words
+abbrev pub moves-both : List ℕ → (lower upper e : ℕ) → List ℕ
+moves-both rows lower upper e = moves-at rows lower e ++ moves-at rows upper e
 
--- what these passes add nothing to is closed under the moves of a choice between the two
-both-closed : (t : Table) {p w q : Subset} (u : Subset) → Inside p w → Inside w q → both t p q u ≡ u → Closed t w u
-both-closed t {p} {w} {q} u lower upper rest e m h r l =
-    subst (λ (x : Subset). T (has x m)) rest
-    (by-test (has w e) (λ b. List·Memᴰ m (moves (operator t e) b) → T (has (both t p q u) m))
-    (λ y k.
-    sweep-closed t q 0 half (both t p q u) (inside-refl (both t p q u)) e m (rw zero-add (inside-has first e h))
-    (rw (zero-add, of-T (has q e) (inside-has upper e y)) k) (omega (arith, inside-length first)))
-    (λ n k.
-    sweep-closed t p 0 u (both t p q u) (sweep-inside t q 0 half) e m (rw zero-add h)
-    (rw (zero-add, not-of-T (has p e) (λ y. n (inside-has lower e y))) k) l)
-    r)
+moves-both-below : {rows : List ℕ} {count : ℕ} → Formed rows count → (lower upper e : ℕ) → e < count → Below count (moves-both rows lower upper e)
+moves-both-below {rows} f lower upper e h m r =
+    elim (List·Memᴰ·append-cases (moves-at rows lower e) r)
+    [ inl p ↦ moves-at-below f lower e h m p | inr p ↦ moves-at-below f upper e h m p ]
+
+-- a turn of the loop: the moves under the lower choice, then those under the upper one
+module _ (rows : List ℕ) (lower upper : ℕ) {count node set fringe : ℕ} (s : Spread (moves-both rows lower upper) count node set fringe)
+    {e rest half wider : ℕ} (l : Lowest fringe e) (o : Without fringe e rest) (p : half ≡ with-bits (moves-at rows lower e) set)
+    (q : wider ≡ with-bits (moves-at rows upper e) half) where
+  moved-both : wider ≡ with-bits (moves-both rows lower upper e) set
+  moved-both = q ∙ ap (with-bits (moves-at rows upper e)) p ∙ sym (with-bits-append (moves-at rows lower e) (moves-at rows upper e) set)
+
+  pub widest-turn : Formed rows count → Spread (moves-both rows lower upper) count node wider (bitOr rest (bitXor wider set))
+  widest-turn f = spread-turn s l o moved-both (moves-both-below f lower upper)
+
+  pub widest-less : (room : ℕ) → wider ≤ room → 2 * (room - wider) + bitOr rest (bitXor wider set) < 2 * (room - set) + fringe
+  widest-less = spread-less s l o moved-both
+
+pub widest-rest : {rows : List ℕ} {count low high lower upper node set fringe : ℕ} → lower ≡ word (choice-of (table-of rows count) low)
+    → upper ≡ word (choice-of (table-of rows count) high) → Spread (moves-both rows lower upper) count node set fringe → fringe ≡ 0
+    → Widest rows count low high node set
+widest-rest {rows} {count} {low} {high} {lower} {upper} {node} {set} a b s z = record { is = λ v l n x m k h. go v l n x m k h }
   where
-    half : Subset
-    half = sweep t p 0 u
+    t : Table
+    t = table-of rows count
 
-    first : Inside u half
-    first = sweep-inside t p 0 u
+    both : {e : ℕ} → e < count
+        → moves-both rows lower upper e ≡ moves (operator t e) (has (choice-of t low) e) ++ moves (operator t e) (has (choice-of t high) e)
+    both h = rw (moves-same rows count (choice-of t low) a h, moves-same rows count (choice-of t high) b h)
 
--- the loop: a set that holds the node
-pub record Widening (count node set : ℕ) : Type 0 where
-  pub is : (v : Subset) → length v ≡ count → node ≡ word v → (u : Subset) × Inside v u × (set ≡ word u)
-
-pub widen-start : (count node : ℕ) → Widening count node node
-widen-start count node = record { is = λ v l e. (v, inside-refl v, e) }
-
-module _ {rows : List ℕ} (low high : ℕ) {count lower upper node set half grown : ℕ} (a : lower ≡ word (choice-of (table-of rows count) low)) (b : upper ≡ word (choice-of (table-of rows count) high)) (wd : Widening count node set) (left : Swept rows count count lower set half) (right : Swept rows count count upper half grown) where
-  abbrev t : Table
-  t = table-of rows count
-
-  abbrev wider : Subset → Subset
-  wider = both t (choice-of t low) (choice-of t high)
-
-  grown-is : (u : Subset) → length u ≡ count → set ≡ word u → grown ≡ word (wider u)
-  grown-is u l s =
-      let half = sweep t (choice-of t low) 0 u in
-      right .is (choice-of t high) half (sym (inside-length (sweep-inside t (choice-of t low) 0 u)) ∙ l) b (left .is (choice-of t low) u l a s)
-
-  pub widen-turn : Widening count node grown
-  widen-turn = record {
-    is = λ v l e.
-        let (u, i, s) = wd .is v l e in
-        (wider u, inside-trans i (both-inside t (choice-of t low) (choice-of t high) u), grown-is u (sym (inside-length i) ∙ l) s);
-  }
-
-  pub widest-rest : grown ≡ set → Widest rows count low high node set
-  widest-rest g = record { is = λ v l n x m k h. go v l n x m k h }
-    where
-      go : (v : Subset) → length v ≡ count → node ≡ word v → (x : ℕ) → Between (ors t) low high x → (k : ℕ) → T (has (saturate t (choice-of t x) v) k)
-          → T (bit set k)
-      go v l n x m k h =
-          let (u, i, s) = wd .is v l n in
-          let rest : wider u ≡ u =
-          word-inj (wider u) u (sym (inside-length (both-inside t (choice-of t low) (choice-of t high) u)))
-          (sym (grown-is u (sym (inside-length i) ∙ l) s) ∙ g ∙ s) in
-          let closed : Closed t (choice-of t x) u =
-          both-closed t u (choice-inside t low x (m .above)) (choice-inside t x high (m .below)) rest in
-          subst⁻¹ T (ap (λ (y : ℕ). bit y k) s ∙ word-bit u k) (inside-has (saturate-least t (choice-of t x) i closed) k h)
-
--- the set of all subformulas
-pub widest-all : (rows : List ℕ) (low high node : ℕ) {count all : ℕ} → all ≡ 2 ^ count - 1 → Widest rows count low high node all
-widest-all rows low high node {count} {all} a = record {
-  is = λ v l n x m k h.
-      let t = table-of rows count in
-      let w = choice-of t x in
-      subst⁻¹ (λ (y : ℕ). T (bit y k)) a (ones-bit count k (omega (arith, has-lt (saturate t w v) k h, saturate-length t w v, l)));
-}
+    go : (v : Subset) → length v ≡ count → node ≡ word v → (x : ℕ) → Between (ors t) low high x → (k : ℕ) → T (has (saturate t (choice-of t x) v) k)
+        → T (bit set k)
+    go v l n x m k h =
+        let u = s .is v l n in
+        subst⁻¹ T (ap (λ (y : ℕ). bit y k) (u .word-is) ∙ word-bit (u .now) k)
+        (inside-has (saturate-least t (choice-of t x) (u .holds)
+        (λ e i p r j.
+        spread-rest s z v l n e i p
+        (subst⁻¹ (List·Memᴰ i) (both (omega (arith, has-lt (u .now) e p, inside-length (u .holds))))
+        (between-moves (operator t e) e (choice-inside t low x (m .above)) (choice-inside t x high (m .below)) r)) j)) k h)

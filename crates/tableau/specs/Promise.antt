@@ -12,7 +12,7 @@ use Rattle.base.specs.Lists.{gather, any, numbers}
 use Rattle.base.specs.Bits.{bit, word}
 use Rattle.formula.specs.Table.{Operator, Table}
 use Rattle.formula.specs.Rows.{operators-of}
-use Rattle.tableau.specs.Saturation.{Subset, has, sweep, saturate}
+use Rattle.tableau.specs.Saturation.{Subset, has, saturate}
 use Rattle.tableau.specs.Transition.{operators-in, requires, is-false, next-of, ors, choice-of, Transition, transition-of}
 use Rattle.tableau.specs.declared.Requirement.{Requirement}
 use Rattle.tableau.specs.declared.Step.{Step}
@@ -46,10 +46,6 @@ pub record Formed (rows : List ℕ) (count : ℕ) : Type 0 where
 abbrev pub with-bits : List ℕ → ℕ → ℕ
 with-bits [] x = x
 with-bits (m ∷ ms) x = with-bits ms (bitOr x (2 ^ m))
-
--- The set became r by a sweep over the first e rows.
-pub record Swept (rows : List ℕ) (count e choice set r : ℕ) : Type 0 where
-  pub is : (w v : Subset) → length v ≡ count → choice ≡ word w → set ≡ word v → r ≡ word (sweep (table-of rows e) w 0 v)
 
 -- The node became r by saturation.
 pub record Saturated (rows : List ℕ) (count choice node r : ℕ) : Type 0 where

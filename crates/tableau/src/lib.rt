@@ -7,7 +7,7 @@ ghost use Rattle.base.specs.Bits.{bit, word};
 ghost use Rattle.formula.specs.Rows.{operator-at};
 ghost use Rattle.tableau.specs.Saturation.{moves};
 ghost use Rattle.tableau.specs.Transition.{ors, choice-of};
-ghost use Rattle.tableau.specs.Promise.{table-of, Formed, Placed, with-bits, Swept, Saturated, Requires-more, Required-by, Stepped, Widest, Unmet-between, is-unmet, Unmet};
+ghost use Rattle.tableau.specs.Promise.{table-of, Formed, Placed, with-bits, Saturated, Requires-more, Required-by, Stepped, Widest, Unmet-between, is-unmet, Unmet};
 ghost use Rattle.tableau.specs.Area.{eight, put, words-at, index, zeros, Room, Holds, reachable, Added, Followed, Expanded};
 
 // The number of a node, kept apart from subformulas and positions.
@@ -86,22 +86,6 @@ fn moved(rows: &[u8; 144], choice: u64, e: usize, set: u64) -> u64
     set
 }
 
-// The set with the moves of its subformulas, taken in rising order.
-fn swept(rows: &[u8; 144], count: usize, choice: u64, set: u64) -> u64
-    requires { ⌜ Formed (now rows) count ⌝ }
-    ensures { λ r. ⌜ Swept (now (rows .entry)) count count choice set r ⌝ }
-{
-    let mut grown = set;
-    let mut e = 0;
-    while e < count {
-        if base::has(grown, e) {
-            grown = moved(rows, choice, e, grown);
-        }
-        e += 1;
-    }
-    grown
-}
-
 // The least set that holds the node and follows its moves. The fringe has the subformulas whose moves are still to be followed. A node has
 // no bit from count on: `low` changes none, and bounds e for any word.
 pub fn saturated(rows: &[u8; 144], count: usize, choice: u64, node: u64) -> u64
@@ -120,7 +104,7 @@ pub fn saturated(rows: &[u8; 144], count: usize, choice: u64, node: u64) -> u64
 }
 
 // A set that holds every saturation of the node under a choice word with the bits of low, and no others than those of high: it follows the
-// moves of both at once. Where it does not come to rest within count rounds, all subformulas.
+// moves of both at once, by a fringe as above.
 fn widest(rows: &[u8; 144], count: usize, low: u64, high: u64, node: u64) -> u64
     requires { ⌜ Formed (now rows) count ⌝ }
     ensures { λ r. ⌜ Widest (now (rows .entry)) count low high node r ⌝ }
@@ -128,17 +112,15 @@ fn widest(rows: &[u8; 144], count: usize, low: u64, high: u64, node: u64) -> u64
     let lower = choice_of(rows, count, low);
     let upper = choice_of(rows, count, high);
     let mut set = node;
-    let mut left = count;
-    while 0 < left {
-        let half = swept(rows, count, lower, set);
-        let grown = swept(rows, count, upper, half);
-        if grown == set {
-            return set;
-        }
-        set = grown;
-        left -= 1;
+    let mut fringe = base::low(node, count);
+    while fringe != 0 {
+        let e = base::lowest(fringe);
+        let half = moved(rows, lower, e, set);
+        let wider = moved(rows, upper, e, half);
+        fringe = base::without(fringe, e) | (wider ^ set);
+        set = wider;
     }
-    base::power(count) - 1
+    set
 }
 
 // The bits of a choice word at the ors that no saturation of the node meets under a choice word between low and high.

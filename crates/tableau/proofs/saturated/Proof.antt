@@ -1,6 +1,6 @@
 -- `tableau::saturated` follows the moves of the fringe until it is empty: the set lies between the node and its saturation, and is closed
 -- but for the fringe. What a turn puts into the fringe the set gains, so that twice what the set lacks, with the fringe, gets less.
-use Rattle.tableau.proofs.FringeLaws.{Spread, spread-start, spread-below, spread-turn, spread-less, spread-rest}
+use Rattle.tableau.proofs.FringeLaws.{Spread, spread-start, spread-below, spread-turn, spread-less, moves-at, moves-at-below, saturated-rest}
 use Rattle.tableau.proofs.RowLaws.{placed}
 use borrow.Author.Needs.{needs}
 use native.Mathlib.Omega.{arith}
@@ -9,7 +9,7 @@ use Rattle.tableau.proofs.saturated.Statement.{statement}
 use Rattle.tableau.proofs.saturated.Tie as tie
 
 abbrev Inv-loop : tie.InvT-loop
-Inv-loop rows count choice node set₀ fringe₀ set fringe = Spread rows count choice node set fringe
+Inv-loop rows count choice node set₀ fringe₀ set fringe = Spread (moves-at rows choice) count node set fringe
 
 abbrev μ-loop : tie.MeasureT-loop
 μ-loop rows count choice node set₀ fringe₀ set fringe = 2 * (2 ^ 64 - set) + fringe
@@ -18,7 +18,7 @@ low-requires : tie.Need-low-requires Inv-loop μ-loop
 low-requires c κs = search needs
 
 loop-holds : tie.Need-loop-holds Inv-loop μ-loop
-loop-holds c = spread-start _ _ _ (c .low .ensures)
+loop-holds c = spread-start _ _ (c .low .ensures)
 
 lowest-requires : tie.Need-lowest-requires Inv-loop μ-loop
 lowest-requires c κs = search needs
@@ -33,10 +33,10 @@ loop-less : tie.Need-loop-less Inv-loop μ-loop
 loop-less c = spread-less (c .before .before .before .before .loop .inv) (c .before .before .lowest .ensures) (c .without .ensures) (c .before .moved .ensures) (2 ^ 64) (omega arith)
 
 loop-again : tie.Need-loop-again Inv-loop μ-loop
-loop-again c = spread-turn (c .before .before .before .before .loop .inv) (c .before .before .lowest .ensures) (c .without .ensures) (c .before .moved .ensures) (c .before .before .before .before .before .before .pre)
+loop-again c = spread-turn (c .before .before .before .before .loop .inv) (c .before .before .lowest .ensures) (c .without .ensures) (c .before .moved .ensures) (moves-at-below (c .before .before .before .before .before .before .pre) _)
 
 returns : tie.Need-returns Inv-loop μ-loop
-returns c = spread-rest (c .before .loop .inv) (c .loop-test .left)
+returns c = saturated-rest (c .before .loop .inv) (c .loop-test .left)
 
 pub saturated-spec : {M : Type 1} → statement M
 saturated-spec =

@@ -1,18 +1,18 @@
--- `tableau::widest` sweeps by the lower and by the upper choice until that changes nothing: the set always holds the node.
-use mathlib.Core.Path.{ap}
-use Prim.Native.Nat.{ℕ, _-_}
-use native.Mathlib.Omega.{arith}
+-- `tableau::widest` follows the moves under both choices by a fringe, as `saturated` does those under one: a turn is two calls of `moved`.
+use Rattle.tableau.proofs.FringeLaws.{Spread, spread-start, spread-below}
+use Rattle.tableau.proofs.WidestLaws.{moves-both, widest-turn, widest-less, widest-rest}
+use Rattle.tableau.proofs.RowLaws.{placed}
 use borrow.Author.Needs.{needs}
-use lib.Pow.{pow-pos}
-use Rattle.tableau.proofs.WidestLaws.{Widening, widen-start, widen-turn, widest-rest, widest-all}
+use native.Mathlib.Omega.{arith}
+use Prim.Native.Nat.{_+_, _*_, _-_, _^_}
 use Rattle.tableau.proofs.widest.Statement.{statement}
 use Rattle.tableau.proofs.widest.Tie as tie
 
 abbrev Inv-loop : tie.InvT-loop
-Inv-loop rows count low high node lower upper set₀ left₀ set left = Widening count node set
+Inv-loop rows count low high node lower upper set₀ fringe₀ set fringe = Spread (moves-both rows lower upper) count node set fringe
 
 abbrev μ-loop : tie.MeasureT-loop
-μ-loop rows count low high node lower upper set₀ left₀ set left = left
+μ-loop rows count low high node lower upper set₀ fringe₀ set fringe = 2 * (2 ^ 64 - set) + fringe
 
 choice-of-requires : tie.Need-choice-of-requires Inv-loop μ-loop
 choice-of-requires c κs = search needs
@@ -20,35 +20,32 @@ choice-of-requires c κs = search needs
 choice-of-requires-2 : tie.Need-choice-of-requires-2 Inv-loop μ-loop
 choice-of-requires-2 c κs = search needs
 
+low-requires : tie.Need-low-requires Inv-loop μ-loop
+low-requires c κs = search needs
+
 loop-holds : tie.Need-loop-holds Inv-loop μ-loop
-loop-holds c = widen-start _ _
+loop-holds c = spread-start _ _ (c .low .ensures)
 
-swept-requires : tie.Need-swept-requires Inv-loop μ-loop
-swept-requires c κs = search needs
+lowest-requires : tie.Need-lowest-requires Inv-loop μ-loop
+lowest-requires c κs = search needs
 
-swept-requires-2 : tie.Need-swept-requires-2 Inv-loop μ-loop
-swept-requires-2 c κs = search needs
+moved-requires : tie.Need-moved-requires Inv-loop μ-loop
+moved-requires c κs = placed (c .before .before .before .before .before .before .pre) (spread-below (c .before .before .loop .inv) (c .lowest .ensures))
 
-returns : tie.Need-returns Inv-loop μ-loop
-returns c = let s = c .before .before .before .before in widest-rest _ _ (s .before .before .choice-of .ensures) (s .before .choice-of2 .ensures) (s .loop .inv) (c .before .before .swept .ensures) (c .before .swept2 .ensures) (c .if1 .taken)
+moved-requires-2 : tie.Need-moved-requires-2 Inv-loop μ-loop
+moved-requires-2 c κs = placed (c .before .before .before .before .before .before .before .pre) (spread-below (c .before .before .before .loop .inv) (c .before .lowest .ensures))
 
-sub-left : tie.Need-sub-left Inv-loop μ-loop
-sub-left c = search needs
+without-requires : tie.Need-without-requires Inv-loop μ-loop
+without-requires c κs = search needs
 
 loop-less : tie.Need-loop-less Inv-loop μ-loop
-loop-less c = search needs
+loop-less c = let k = c .before .before .before .before .before .before .before in widest-less (k .before .before .args .rows .now) (k .before .choice-of .result) (k .choice-of2 .result) (c .before .before .before .before .before .loop .inv) (c .before .before .before .lowest .ensures) (c .without .ensures) (c .before .before .moved .ensures) (c .before .moved2 .ensures) (2 ^ 64) (omega arith)
 
 loop-again : tie.Need-loop-again Inv-loop μ-loop
-loop-again c = let s = c .before .before .before .before in widen-turn _ _ (s .before .before .choice-of .ensures) (s .before .choice-of2 .ensures) (s .loop .inv) (c .before .before .swept .ensures) (c .before .swept2 .ensures)
+loop-again c = widest-turn _ _ _ (c .before .before .before .before .before .loop .inv) (c .before .before .before .lowest .ensures) (c .without .ensures) (c .before .before .moved .ensures) (c .before .moved2 .ensures) (c .before .before .before .before .before .before .before .before .before .pre)
 
-power-requires : tie.Need-power-requires Inv-loop μ-loop
-power-requires c κs = search needs
-
-sub-result : tie.Need-sub-result Inv-loop μ-loop
-sub-result c = omega (arith, c .power .ensures, pow-pos (c .before .before .before .before .before .args .count))
-
-returns-2 : tie.Need-returns-2 Inv-loop μ-loop
-returns-2 c = widest-all _ _ _ _ (ap (λ (x : ℕ). x - 1) (c .power .ensures))
+returns : tie.Need-returns Inv-loop μ-loop
+returns c = widest-rest (c .before .before .before .before .choice-of .ensures) (c .before .before .before .choice-of2 .ensures) (c .before .loop .inv) (c .loop-test .left)
 
 pub widest-spec : {M : Type 1} → statement M
 widest-spec =
@@ -58,13 +55,12 @@ widest-spec =
     μ-loop
     choice-of-requires
     choice-of-requires-2
+    low-requires
     loop-holds
-    swept-requires
-    swept-requires-2
-    returns
-    sub-left
+    lowest-requires
+    moved-requires
+    moved-requires-2
+    without-requires
     loop-less
     loop-again
-    power-requires
-    sub-result
-    returns-2)
+    returns)
