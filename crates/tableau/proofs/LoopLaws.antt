@@ -5,19 +5,20 @@
 use mathlib.Core.Path.{_≡_, refl, sym, ap, subst, subst⁻¹, _∙_}
 use mathlib.Core.Bool.{Bool, true, false, cond, _||_, or-false}
 use mathlib.Core.List.{List, [], _∷_, _++_, append-nil}
-use Prim.Native.Nat.{ℕ, _+_, _/_, _%_, _^_, _≤_, _<_}
+use Prim.Native.Nat.{ℕ, zero, suc, _+_, _*_, _/_, _%_, _^_, _≤_, _<_}
 use native.Mathlib.Nat.{add-zero, zero-add}
 use native.Mathlib.Numerals.{add-one}
 use native.Mathlib.Decide.{decLt, le-ind}
 use native.Mathlib.Omega.{arith}
+use lib.Bits.{bitOr, or-zero-r}
 use lib.Dec.{T, eqb}
-use lib.Pow.{shr-shr}
+use lib.Pow.{shl-exact, shr-shr}
 use lib.ListN.{length, getD}
 use borrow.Author.Tests.{eqb-false, ne-eqb}
 use Rattle.base.specs.Lists.{gather, any}
 use Rattle.base.specs.Bits.{bit, word, Lowest, Without}
 use Rattle.base.proofs.BoolLaws.{to-T}
-use Rattle.base.proofs.BitLaws.{set-none}
+use Rattle.base.proofs.BitLaws.{set-on, set-none}
 use Rattle.base.proofs.AppendLaws.{any-append, gather-append}
 use Rattle.base.proofs.NumberLaws.{values-length, values-add}
 use Rattle.base.proofs.ShiftLaws.{low-below, low-bit}
@@ -69,6 +70,12 @@ choice-append (o ∷ s) t x = by (is-or o) (choice-append s t)
     by true f = ap (λ (v : Subset). eqb (x % 2) 1 ∷ v) (f (x / 2) ∙ ap (λ (y : ℕ). choice-of s (x / 2) ++ choice-of t y) (shr-shr x 1 (ors s)))
     by false f = ap (λ (v : Subset). false ∷ v) (f x ∙ ap (λ (n : ℕ). choice-of s x ++ choice-of t (x / 2 ^ n)) (sym (zero-add (ors s))))
 
+-- a digit put in as bit e, which the word lacks
+digit-bit : (w e d : ℕ) → d < 2 → bit w e ≡ false → (k : ℕ) → bit (bitOr w (d * 2 ^ e)) k ≡ cond (eqb k e) (eqb d 1) (bit w k)
+digit-bit w e zero h q k = ap (λ (x : ℕ). bit x k) (ap (bitOr w) {x = 0 * 2 ^ e} {y = 0} (omega arith) ∙ or-zero-r w) ∙ set-none w e q k
+digit-bit w e (suc zero) h q k = ap (λ (x : ℕ). bit (bitOr w x) k) {x = 1 * 2 ^ e} {y = 2 ^ e} (omega arith) ∙ set-on w e k
+digit-bit w e (suc (suc d)) h q k = absurd (omega arith)
+
 -- the first e rows' part of the choice, and what is left of the choice word behind them
 pub record Chosen (rows : List ℕ) (e x choice left : ℕ) : Type 0 where
   pub choice-is : choice ≡ word (choice-of (table-of rows e) x)
@@ -92,16 +99,20 @@ module _ {rows : List ℕ} {e x choice left : ℕ} (c : Chosen rows e x choice l
       ∙ ap word (sym (ap (λ (t : Table). choice-of t x) (operators-more rows e) ∙ choice-append before (operator-at rows e ∷ []) x
       ∙ ap (λ (y : ℕ). choice-of before x ++ choice-of (operator-at rows e ∷ []) y) (sym (c .left-is)) ∙ ap (λ (v : Subset). choice-of before x ++ v) q))
 
-  pub chosen-or : getD rows e 0 ≡ 6 → (r : ℕ) → ((k : ℕ) → bit r k ≡ cond (eqb k e) (eqb (left % 2) 1) (bit choice k))
-      → Chosen rows (e + 1) x r (left / 2)
-  chosen-or h r f = let q : is-or (operator-at rows e) ≡ true = or-at rows e h in record {
-    choice-is = grown (eqb (left % 2) 1) r (rw q) f;
+  clear : bit choice e ≡ false
+  clear = ap (λ (y : ℕ). bit y e) (c .choice-is) ∙ word-past (choice-of before x) e (omega (arith, long))
+
+  pub chosen-or : getD rows e 0 ≡ 6 → e < 64 → Chosen rows (e + 1) x (bitOr choice (left % 2 * 2 ^ e % 2 ^ 64)) (left / 2)
+  chosen-or h few = let q : is-or (operator-at rows e) ≡ true = or-at rows e h in record {
+    choice-is =
+        ap (bitOr choice) (shl-exact {a = left % 2} 1 e 64 (omega arith) (omega arith))
+        ∙ grown (eqb (left % 2) 1) (bitOr choice (left % 2 * 2 ^ e)) (rw q) (digit-bit choice e (left % 2) (omega arith) clear);
     left-is = ap (λ (y : ℕ). y / 2) (c .left-is) ∙ shr-shr x (ors before) 1 ∙ ap (λ (n : ℕ). x / 2 ^ n) (sym (ors-one rows e h));
   }
 
   pub chosen-other : {count : ℕ} → Formed rows count → e < count → (getD rows e 0 ≡ 6 → ⊥) → Chosen rows (e + 1) x choice left
   chosen-other f h n = let q : is-or (operator-at rows e) ≡ false = other-at e f h n in record {
-    choice-is = grown false choice (rw q) (set-none choice e (ap (λ (y : ℕ). bit y e) (c .choice-is) ∙ word-past (choice-of before x) e (omega (arith, long))));
+    choice-is = grown false choice (rw q) (set-none choice e clear);
     left-is = c .left-is ∙ ap (λ (n : ℕ). x / 2 ^ n) (sym (ors-same rows e f h n));
   }
 

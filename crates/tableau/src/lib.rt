@@ -53,7 +53,7 @@ pub fn choice_of(rows: &[u8; 144], count: usize, choice_word: u64) -> u64
     let mut e = 0;
     while e < count {
         if rows[e] == 6 {
-            choice = base::with(choice, e, left % 2 == 1);
+            choice = choice | ((left % 2) << e);
             left = left / 2;
         }
         e += 1;

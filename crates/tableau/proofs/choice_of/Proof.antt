@@ -1,4 +1,5 @@
--- `tableau::choice_of` spreads a choice word over the or operators: after e turns, over those of the first e rows.
+-- `tableau::choice_of` spreads a choice word over the or operators: after e turns, over those of the first e rows. An or's
+-- pick is put in as bit e, which the choice does not have yet.
 use mathlib.Core.Logic.{⊎-elim}
 use Rattle.tableau.proofs.LoopLaws.{Chosen, chosen-none, chosen-or, chosen-other, chosen-all}
 use borrow.Author.Needs.{needs}
@@ -19,8 +20,8 @@ loop-holds c = (omega arith, chosen-none _ _)
 element-copy-out-if1 : tie.Need-element-copy-out-if1 Inv-loop μ-loop
 element-copy-out-if1 c = search needs
 
-with-requires : tie.Need-with-requires Inv-loop μ-loop
-with-requires c κs = search needs
+shl-choice : tie.Need-shl-choice Inv-loop μ-loop
+shl-choice c = search needs
 
 add-e : tie.Need-add-e Inv-loop μ-loop
 add-e c = search needs
@@ -32,7 +33,7 @@ loop-again : tie.Need-loop-again Inv-loop μ-loop
 loop-again c = (
   omega arith,
   ⊎-elim
-      (λ w. rw (w .2, w .3) (chosen-or (c .before .before .before .loop .inv .1) (w .0 .taken) (w .1 .result) (w .1 .ensures)))
+      (λ w. rw (w .1, w .2) (chosen-or (c .before .before .before .loop .inv .1) (w .0 .taken) (omega arith)))
       (λ w. rw (w .1, w .2) (chosen-other (c .before .before .before .loop .inv .1) (c .before .before .before .before .pre) (c .before .before .loop-test .taken) (w .0 .left)))
       (c .if1 .came),
 )
@@ -48,7 +49,7 @@ choice-of-spec =
     μ-loop
     loop-holds
     element-copy-out-if1
-    with-requires
+    shl-choice
     add-e
     loop-less
     loop-again
