@@ -1,12 +1,15 @@
 -- What a row's bytes say: the operator that they decode to moves, requires and leads to what the code does for its opcode, and its
 -- operands are in their ranges. A row's opcode is one of ten, so each law is a look at ten cases. Assumes nothing.
-use mathlib.Core.Path.{_≡_, refl, sym, ap, subst⁻¹}
-use mathlib.Core.Bool.{Bool, true, false, cond, or-true, or-false}
+use mathlib.Core.Path.{_≡_, refl, sym, ap, subst⁻¹, _∙_}
+use mathlib.Core.Logic.{_⊎_, inl, inr}
+use mathlib.Core.Bool.{Bool, true, false, cond, _||_}
 use mathlib.Core.List.{List, [], _∷_}
 use Prim.Native.Nat.{ℕ, zero, suc, _+_, _^_, _≤_, _<_}
 use native.Mathlib.Omega.{arith}
 use lib.Bits.{bitOr}
+use lib.Dec.{eqb}
 use lib.ListN.{getD}
+use borrow.Author.Tests.{eq-eqb, ne-eqb}
 use Rattle.formula.specs.Table.{Operator}
 use Rattle.formula.specs.Reading.{opcode}
 use Rattle.formula.specs.Rows.{operator-of, operator-at}
@@ -44,6 +47,14 @@ placed {rows} {count} {e} f h =
         first-below = λ p. omega (arith, f .few, r .first-below p);
       };
     }
+
+-- the word y is x with bit k put in, if the opcode is n
+abbrev pub Put : (op n k x y : ℕ) → Type 0
+Put op n k x y = ((op ≡ n) × (y ≡ bitOr x (2 ^ k))) ⊎ ((op ≡ n → ⊥) × (y ≡ x))
+
+put-bits : (k : ℕ) {op n x y : ℕ} {ms : List ℕ} → ms ≡ cond (eqb op n) (k ∷ []) [] → Put op n k x y → y ≡ with-bits ms x
+put-bits k {op} {n} {x} q (inl (h, p)) = p ∙ sym (ap (λ (l : List ℕ). with-bits l x) (q ∙ ap (λ (b : Bool). cond b (k ∷ []) []) (eq-eqb op n h)))
+put-bits k {op} {n} {x} q (inr (h, p)) = p ∙ sym (ap (λ (l : List ℕ). with-bits l x) (q ∙ ap (λ (b : Bool). cond b (k ∷ []) []) (ne-eqb op n h)))
 
 module _ (op a e : ℕ) where
   abbrev o : Operator
@@ -122,45 +133,23 @@ module _ (op a e : ℕ) where
         (λ m f g h. refl) (λ m f g h. absurd (omega arith)) (λ m f g h. absurd (omega arith))
         op l (omega arith) m
 
-  -- what is required, opcode by opcode
-  module _ (q : Requirement) where
-    abbrev More : ℕ → Requirement → Type 0
-    More n r = Requires-more (operator-of (opcode n) a e) q r
-
-    more-as : {r : Requirement} (n : ℕ) → op ≡ n → More n r → More op r
-    more-as {r} n h m = subst⁻¹ (λ (k : ℕ). More k r) h m
-
-    pub more-false : op ≡ 2 → More op (record { present = q .present; absent = q .absent; falsum = true; to = q .to })
-    more-false h = more-as 2 h (record { present-is = refl; absent-is = refl; falsum-is = sym (or-true (q .falsum)); to-is = refl })
-
-    pub more-present : op ≡ 3 → More op (record { present = bitOr (q .present) (2 ^ a); absent = q .absent; falsum = q .falsum; to = q .to })
-    more-present h = more-as 3 h (record { present-is = refl; absent-is = refl; falsum-is = sym (or-false (q .falsum)); to-is = refl })
-
-    pub more-absent : op ≡ 4 → More op (record { present = q .present; absent = bitOr (q .absent) (2 ^ a); falsum = q .falsum; to = q .to })
-    more-absent h = more-as 4 h (record { present-is = refl; absent-is = refl; falsum-is = sym (or-false (q .falsum)); to-is = refl })
-
-    pub more-next : op ≡ 8 → More op (record { present = q .present; absent = q .absent; falsum = q .falsum; to = bitOr (q .to) (2 ^ (e + 1)) })
-    more-next h = more-as 8 h (record { present-is = refl; absent-is = refl; falsum-is = sym (or-false (q .falsum)); to-is = refl })
-
-    pub more-none : 0 < op → op ≤ 10 → (op ≡ 2 → ⊥) → (op ≡ 3 → ⊥) → (op ≡ 4 → ⊥) → (op ≡ 8 → ⊥) → More op q
-    more-none l m =
-        ten (λ (n : ℕ). (n ≡ 2 → ⊥) → (n ≡ 3 → ⊥) → (n ≡ 4 → ⊥) → (n ≡ 8 → ⊥) → More n q)
-        (same 1 refl refl refl refl)
-        (λ f g h i. absurd (f refl)) (λ f g h i. absurd (g refl)) (λ f g h i. absurd (h refl))
-        (same 5 refl refl refl refl) (same 6 refl refl refl refl) (same 7 refl refl refl refl)
-        (λ f g h i. absurd (i refl))
-        (same 9 refl refl refl refl) (same 10 refl refl refl refl)
-        op l m
-      where
-        same : (n : ℕ) → requires true (operator-of (opcode n) a e) ≡ [] → requires false (operator-of (opcode n) a e) ≡ []
-            → is-false (operator-of (opcode n) a e) ≡ false → next-of (operator-of (opcode n) a e) ≡ []
-            → (n ≡ 2 → ⊥) → (n ≡ 3 → ⊥) → (n ≡ 4 → ⊥) → (n ≡ 8 → ⊥) → More n q
-        same n p b f t g h i j = record {
-          present-is = rw p;
-          absent-is = rw b;
-          falsum-is = rw f (sym (or-false (q .falsum)));
-          to-is = rw t;
-        }
+  -- what is required: one test of the opcode for each part
+  pub more-at : (q : Requirement) {present absent to : ℕ} → 0 < op → op ≤ 10 → Put op 3 a (q .present) present → Put op 4 a (q .absent) absent
+      → Put op 8 (e + 1) (q .to) to → Requires-more o q (record { present = present; absent = absent; falsum = q .falsum || eqb op 2; to = to })
+  more-at q l m f g h = record {
+    present-is =
+        put-bits a
+        (ten (λ (n : ℕ). requires true (operator-of (opcode n) a e) ≡ cond (eqb n 3) (a ∷ []) []) refl refl refl refl refl refl refl refl refl refl op l m) f;
+    absent-is =
+        put-bits a
+        (ten (λ (n : ℕ). requires false (operator-of (opcode n) a e) ≡ cond (eqb n 4) (a ∷ []) []) refl refl refl refl refl refl refl refl refl refl op l m) g;
+    falsum-is =
+        ap (λ (b : Bool). q .falsum || b)
+        (ten (λ (n : ℕ). eqb n 2 ≡ is-false (operator-of (opcode n) a e)) refl refl refl refl refl refl refl refl refl refl op l m);
+    to-is =
+        put-bits (e + 1)
+        (ten (λ (n : ℕ). next-of (operator-of (opcode n) a e) ≡ cond (eqb n 8) ((e + 1) ∷ []) []) refl refl refl refl refl refl refl refl refl refl op l m) h;
+  }
 
 -- whether a row is an or, by its opcode
 pub or-at : (rows : List ℕ) (e : ℕ) → getD rows e 0 ≡ 6 → is-or (operator-at rows e) ≡ true

@@ -189,42 +189,27 @@ fn with_required(rows: &[u8; 144], e: usize, q: Requirement) -> Requirement
 {
     let op = rows[e];
     let argument = base::wide(rows[48 + e]);
-    if op == 2 {
-        return Requirement {
-            present: q.present,
-            absent: q.absent,
-            falsum: true,
-            to: q.to,
-        };
+    let present = if op == 3 {
+        q.present | base::power(argument)
+    } else {
+        q.present
+    };
+    let absent = if op == 4 {
+        q.absent | base::power(argument)
+    } else {
+        q.absent
+    };
+    let to = if op == 8 {
+        q.to | base::power(e + 1)
+    } else {
+        q.to
+    };
+    Requirement {
+        present: present,
+        absent: absent,
+        falsum: q.falsum | (op == 2),
+        to: to,
     }
-    if op == 3 {
-        let present = q.present | base::power(argument);
-        return Requirement {
-            present: present,
-            absent: q.absent,
-            falsum: q.falsum,
-            to: q.to,
-        };
-    }
-    if op == 4 {
-        let absent = q.absent | base::power(argument);
-        return Requirement {
-            present: q.present,
-            absent: absent,
-            falsum: q.falsum,
-            to: q.to,
-        };
-    }
-    if op == 8 {
-        let to = q.to | base::power(e + 1);
-        return Requirement {
-            present: q.present,
-            absent: q.absent,
-            falsum: q.falsum,
-            to: to,
-        };
-    }
-    q
 }
 
 // What the subformulas of a set require.
