@@ -11,6 +11,7 @@
 //! assert_eq!(found, yuktrob::Decided::Met { lead: 1, around: 1, nodes: 3, profiles: 3, course: vec![0x0001, 0x0000] });
 //! ```
 
+pub mod compared;
 pub mod random;
 pub mod reference;
 
@@ -84,6 +85,15 @@ impl Table {
                 }
             })
             .collect()
+    }
+
+    /// Of each entry the one after its last.
+    ///
+    /// ```
+    /// assert_eq!(yuktrob::read(&[0x07, 0x03, 0x02, 0x01]).unwrap().ends(), [3, 2, 3]);
+    /// ```
+    pub fn ends(&self) -> Vec<usize> {
+        self.rows[96..96 + self.count].iter().map(|&end| end.into()).collect()
     }
 }
 

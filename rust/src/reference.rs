@@ -26,8 +26,8 @@ pub struct Unreadable {
     pub place: usize,
 }
 
-/// What is still to be read: one rule, inside these fixpoints (entry, whether a next stands between), innermost last; `slot` is the
-/// entry that waits for its number.
+/// What is still to be read: one rule, inside these fixpoints (entry, whether a next stands between), innermost last; `parent` is
+/// the entry whose second operand it is, which waits for its number.
 struct Wanted {
     scope: Vec<(usize, bool)>,
     parent: Option<usize>,
@@ -121,6 +121,19 @@ pub fn read(bytes: &[u8]) -> Result<Vec<Command>, Unreadable> {
         return refuse(9, at);
     }
     Ok(entries)
+}
+
+/// Of each entry the one after its last.
+pub fn ends(entries: &[Command]) -> Vec<usize> {
+    let mut ends = vec![0; entries.len()];
+    for e in (0..entries.len()).rev() {
+        ends[e] = match entries[e] {
+            Command::Or(_, right) | Command::And(_, right) => ends[right],
+            Command::Next(f) | Command::Least(f) | Command::Greatest(f) => ends[f],
+            _ => e + 1,
+        };
+    }
+    ends
 }
 
 /// What the truth operation answers.

@@ -1,5 +1,7 @@
 //! The outcomes that document 01 gives, through the wrappers: cases A to L and the truth examples.
 
+use yuktrob::compared::{self, Areas};
+use yuktrob::random::Random;
 use yuktrob::{Decided, Truth};
 
 fn decided(rule: &[u8]) -> Decided {
@@ -43,12 +45,12 @@ fn truth_examples() {
 
 #[test]
 fn the_two_implementations_agree_on_some_thousands() {
-    let mut random = yuktrob::random::Random::new(42);
+    let mut random = Random::new(42);
+    let (mut areas, mut other) = (Areas::new(), 0);
     for _ in 0..3000 {
-        let size = 1 + random.below(20);
-        let rule = if random.one_in(3) { random.damaged(size) } else { random.rule(size) };
-        let ours = yuktrob::read(&rule).map(|t| t.commands()).map_err(|w| (w.number, w.place));
-        let theirs = yuktrob::reference::read(&rule).map_err(|w| (w.number, w.place));
-        assert_eq!(ours, theirs, "{rule:02x?}");
+        let rule = compared::rule(&mut random);
+        assert_eq!(compared::reading(&rule), Ok(()));
+        assert_eq!(compared::truth(&mut random, &rule), Ok(()));
+        assert_eq!(compared::decision(&mut random, &rule, &mut areas, &mut other), Ok(()));
     }
 }
