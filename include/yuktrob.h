@@ -21,12 +21,14 @@ extern "C" {
  * Fewer than 144 bytes of rows: refused 255. Refused, rows is unchanged. */
 uint64_t yuktrob_read(const uint8_t *rule, size_t rule_len, uint8_t *rows, size_t rows_len);
 
-/* Truth of a rule on a course. Told, word i has bit e exactly if entry e is true at place i; refused, no word is written. */
+/* Truth of a rule on a course. Told, word i has bit e exactly if entry e is true at place i, and words past the course are unchanged; refused,
+ * no word is written. */
 uint64_t yuktrob_truth(const uint8_t *rule, size_t rule_len, const uint16_t *places, size_t places_len, size_t lead, uint64_t *words,
                        size_t words_len);
 
 /* Whether any course meets a rule, with room for so many nodes and profiles: a work area of 8 * nodes + 192 * profiles bytes and a
- * course buffer of nodes + profiles places. After MET the course stands in the buffer's first places. */
+ * course buffer of nodes + profiles places. After MET the course stands in the buffer's first places; the rest of it, and all of it after any
+ * other answer, is unchanged. After MET, NOT, 14 and 15 these bytes of the work area are zero; otherwise the work area is unchanged. */
 uint64_t yuktrob_decide(const uint8_t *rule, size_t rule_len, size_t nodes, size_t profiles, uint8_t *work, size_t work_len,
                         uint16_t *course, size_t course_len);
 
