@@ -23,8 +23,8 @@ use Rattle.tableau.specs.Nodes.{root, nodes}
 use Rattle.tableau.proofs.SaturationLaws.{subset-sound, subset-refl}
 use Rattle.tableau.proofs.NodeLaws.{by-transition, nodes-all, others-reachable, others-all}
 use Rattle.profile.specs.Traces.{Triple, same-triple, all-triples, triples, join}
-use Rattle.profile.specs.Profiles.{Profile, same-profile, longer, profile-edges, profile-room, profiles}
-use Rattle.profile.specs.Cycle.{single, extended, Run, Run.one, Run.more}
+use Rattle.profile.specs.Profiles.{Profile, same-profile, single, extended, longer, profile-edges, profile-room, profiles}
+use Rattle.profile.specs.Cycle.{Run, Run.one, Run.more}
 use Rattle.tableau.specs.Run.{Reachable}
 use Rattle.profile.proofs.TripleLaws.{triple-sound, triple-refl}
 

@@ -6,15 +6,8 @@ use Rattle.formula.specs.Table.{Table, operator}
 use Rattle.tableau.specs.Saturation.{Subset}
 use Rattle.tableau.specs.Transition.{Transition, transitions}
 use Rattle.tableau.specs.Run.{Reachable}
-use Rattle.profile.specs.Traces.{Triple, triples, joined, join}
-use Rattle.profile.specs.Profiles.{Profile, is-least}
-
--- the profile of one transition from v, and of one transition more
-abbrev pub single : Table → Subset → Transition → Profile
-single t v s = record { first = v; last = s .to; carried = triples t v (s .choice) }
-
-abbrev pub extended : Table → Profile → Transition → Profile
-extended t p s = record { first = p .first; last = s .to; carried = join t (p .carried) (triples t (p .last) (s .choice)) }
+use Rattle.profile.specs.Traces.{Triple, joined}
+use Rattle.profile.specs.Profiles.{Profile, single, extended, is-least}
 
 -- "some run of one or more steps", by its profile and its transitions
 pub data Run (t : Table) : Profile → List Transition → Type 0 where

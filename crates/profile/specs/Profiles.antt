@@ -21,16 +21,21 @@ abbrev pub same-profile : Profile → Profile → Bool
 same-profile a b =
     same-subset (a .first) (b .first) && same-subset (a .last) (b .last) && alike same-triple (a .carried) (b .carried)
 
--- a run of one transition
+-- the profile of a run of one transition from v, and of one transition more
+abbrev pub single : Table → Subset → Transition → Profile
+single t v s = record { first = v; last = s .to; carried = triples t v (s .choice) }
+
+abbrev pub extended : Table → Profile → Transition → Profile
+extended t p s = record { first = p .first; last = s .to; carried = join t (p .carried) (triples t (p .last) (s .choice)) }
+
+-- the same in the search: a start with its way, and an edge
 abbrev pub one-transition : Table → Subset → Transition → Item Transition Profile
 unfolding triples
-one-transition t v s = record { way = s ∷ []; at = record { first = v; last = s .to; carried = triples t v (s .choice) } }
+one-transition t v s = record { way = s ∷ []; at = single t v s }
 
--- one transition more
 abbrev pub longer : Table → Profile → Transition → Edge Transition Profile
 unfolding triples join
-longer t p s =
-    record { label = s; to = record { first = p .first; last = s .to; carried = join t (p .carried) (triples t (p .last) (s .choice)) } }
+longer t p s = record { label = s; to = extended t p s }
 
 abbrev pub profile-edges : Table → Profile → List (Edge Transition Profile)
 unfolding triples join transitions
