@@ -17,8 +17,9 @@
 extern "C" {
 #endif
 
-/* Reads a rule. Accepted, rows has 144 bytes: of entry e the command at e, its argument at 48 + e, the entry after its last at 96 + e.
- * Fewer than 144 bytes of rows: refused 255. Refused, rows is unchanged. */
+/* Reads a rule. Accepted, the first 144 bytes of rows are written: of entry e the command at e, its argument at 48 + e, the entry after its
+ * last at 96 + e. A byte among them that is of no entry, or the argument of a command without one, means nothing. The rest of rows is
+ * unchanged. Fewer than 144 bytes of rows: refused 255. Refused, rows is unchanged. */
 uint64_t yuktrob_read(const uint8_t *rule, size_t rule_len, uint8_t *rows, size_t rows_len);
 
 /* Truth of a rule on a course. Told, word i has bit e exactly if entry e is true at place i, and words past the course are unchanged; refused,

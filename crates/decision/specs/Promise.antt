@@ -35,7 +35,7 @@ abbrev pub profile-count : Table → ℕ
 profile-count t = length (profiles t (nodes t))
 
 -- "The loop has the fewest steps of any good loop; the lead-in the fewest steps from the root to a node with such a loop; the course is
--- the places of these steps in order." Demand 3: at most K-1 lead-in and at most P loop places. Which of several equally short courses
+-- the places of these steps in order." So there are at most K-1 lead-in and at most P loop places. Which of several equally short courses
 -- is left free.
 pub record Witness (t : Table) (stem cycle : ℕ) (letters : List ℕ) : Type 0 where
   pub node : Subset

@@ -1,6 +1,5 @@
 -- The line that a case of the decision's vectors comes to. Assumes nothing.
 use mathlib.Core.Bool.{Bool, true, false, cond, _&&_}
-use mathlib.Core.List.{[], _∷_}
 use Prim.Native.Nat.{ℕ, _+_, _*_}
 use lib.Dec.{leb}
 use lib.ListN.{take}
@@ -8,6 +7,7 @@ use Rattle.vectors.specs.Text.{Buffer, Wrote}
 use Rattle.vectors.specs.Number as number
 use Rattle.cases.specs.Case.{is-number}
 use Rattle.cases.specs.declared.Case.{Case}
+use Rattle.report.specs.Texts.{malformed-text}
 use Rattle.verdicts.specs.Texts.{vector-line}
 use Rattle.verdicts.specs.Shown.{Shown}
 
@@ -32,4 +32,4 @@ Answered true c s t =
     let N = c .first .value in
     let M = c .second .value in
     Shown vector-line (take (c .formula .count) (c .formula .kept)) N M (bytes-lent N M) (letters-lent N M) s t
-Answered false c s t = Wrote s (77 ∷ 65 ∷ 76 ∷ 70 ∷ 79 ∷ 82 ∷ 77 ∷ 69 ∷ 68 ∷ 10 ∷ []) t
+Answered false c s t = Wrote s malformed-text t

@@ -5,15 +5,17 @@ mod text;
 use cases::Case;
 use text::outcome;
 ghost use mathlib.Core.Path.{_≡_};
+ghost use mathlib.Core.List.{foldl};
 ghost use Prim.Native.Nat.{_≤_};
 ghost use lib.ListN.{length};
-ghost use Rattle.cases.specs.Case.{begun as Case·begun};
+ghost use Rattle.cases.specs.Case.{gathered, passed, begun as Case·begun};
 
 // Nothing says that the input ends, so the loop counts its turns down, from a number that no run uses up. The areas have what 1,024
 // nodes and 4,096 profiles take.
 fn main() {
     let mut workspace = area();
     let mut witness = [0u16; 5120];
+    let mut letters = [0u16; 1];
     let mut case = cases::new_case();
     let mut chunk = [0u8; 4096];
     let mut turns = u64::MAX;
@@ -22,11 +24,17 @@ fn main() {
         let got = libc::read(0, &mut chunk);
         if got <= 0 {
             // The last line may lack its end.
-            taken_all(case, &mut workspace, &mut witness, b"\n");
+            taken_all(case, &mut letters, &mut workspace, &mut witness, b"\n");
             return;
         }
         let n = io::count(got, &chunk);
-        case = taken_all(case, &mut workspace, &mut witness, &chunk[..n]);
+        case = taken_all(
+            case,
+            &mut letters,
+            &mut workspace,
+            &mut witness,
+            &chunk[..n],
+        );
     }
 }
 
@@ -37,16 +45,22 @@ fn area() -> [u8; 794624]
     [0; 794624]
 }
 
-// A case has no letters: what stands behind the second bar is passed over.
-fn taken_all(start: Case, workspace: &mut [u8], witness: &mut [u16], bytes: &[u8]) -> Case
+// The outcome goes by no letters: there is room for one, and what stands behind the second bar is passed over.
+fn taken_all(
+    start: Case,
+    letters: &mut [u16],
+    workspace: &mut [u8],
+    witness: &mut [u16],
+    bytes: &[u8],
+) -> Case
     requires { ⌜ 794624 ≤ length (now workspace) ⌝ }
     requires { ⌜ 5120 ≤ length (now witness) ⌝ }
+    ensures { λ r. ⌜ gathered (now (letters .exit)) r ≡ foldl passed (gathered (now (letters .entry)) start) (now (bytes .entry)) ⌝ }
 {
-    let mut letters = [0u16; 1];
     let mut case = start;
     let mut i = 0;
     while i < bytes.len() {
-        let next = cases::taken(case, &mut letters, bytes[i]);
+        let next = cases::taken(case, letters, bytes[i]);
         case = begun(next, workspace, witness);
         i += 1;
     }

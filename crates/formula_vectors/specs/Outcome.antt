@@ -7,7 +7,7 @@ use lib.Dec.{ltb, leb}
 use lib.ListN.{getD, take}
 use Rattle.vectors.specs.Text.{decimal, hex, Buffer, Wrote}
 use Rattle.vectors.specs.declared.number.Bytes.{Bytes}
-use Rattle.report.specs.Texts.{unread-text}
+use Rattle.report.specs.Texts.{malformed-text, unread-text}
 use Rattle.formula.specs.Reading.{reading}
 use Rattle.formula.specs.Rows.{reading-of}
 use Rattle.formula.specs.declared.Table.{Table}
@@ -73,4 +73,4 @@ pub record Says (bytes : List ℕ) (s t : Buffer) : Type 0 where
 -- The line of a case: of the formula's bytes, or `MALFORMED` where the digits are no bytes.
 abbrev pub Answered : Bool → Bytes → (s t : Buffer) → Type 0
 Answered true formula s t = Says (take (formula .count) (formula .kept)) s t
-Answered false formula s t = Wrote s (77 ∷ 65 ∷ 76 ∷ 70 ∷ 79 ∷ 82 ∷ 77 ∷ 69 ∷ 68 ∷ 10 ∷ []) t
+Answered false formula s t = Wrote s malformed-text t

@@ -19,6 +19,7 @@ use Rattle.lasso.proofs.Consistent.{length-labelling}
 use Rattle.vectors.specs.Text.{Buffer, Wrote}
 use Rattle.vectors.proofs.Writing.{then}
 use Rattle.cases.specs.declared.Case.{Case}
+use Rattle.report.specs.Texts.{malformed-text}
 use Rattle.lasso_vectors.specs.Outcome.{is-whole, answer-text, truth-text, truth-line, stem-in, outcome-line}
 
 -- there are n words, where any are told
@@ -120,6 +121,6 @@ module _ (c : Case) (letters : List ℕ) (room : ℕ) {s t : Buffer} where
       (subst (λ (l : List ℕ). Wrote s (truth-line (truth kept (lasso l stem) room)) t) q
       (subst (λ (l : List ℕ). Wrote s (truth-line (truth l (lasso part stem) room)) t) p w)))
 
-  pub malformed-line : is-whole c ≡ false → Wrote s (77 ∷ 65 ∷ 76 ∷ 70 ∷ 79 ∷ 82 ∷ 77 ∷ 69 ∷ 68 ∷ 10 ∷ []) t → Wrote s (outcome-line c letters room) t
+  pub malformed-line : is-whole c ≡ false → Wrote s malformed-text t → Wrote s (outcome-line c letters room) t
   unfolding truth
   malformed-line h w = simp h w

@@ -7,7 +7,7 @@ use lib.ListN.{length, take, drop}
 use Rattle.vectors.specs.Number as number
 use Rattle.cases.specs.Case.{is-number, no-number, is-given}
 use Rattle.cases.specs.declared.Case.{Case}
-use Rattle.report.specs.Texts.{refused-text, unread-text, words-text}
+use Rattle.report.specs.Texts.{refused-text, unread-text, malformed-text, words-text}
 use Rattle.lasso.specs.Truth.{Truth, truth}
 use Rattle.lasso.specs.Answer.{lasso}
 use Rattle.lasso.specs.declared.Truth as code
@@ -46,4 +46,4 @@ unfolding truth
 outcome-line c letters room =
     let stem = stem-in (length letters) (c .letters .count) (c .first .value) in
     let line = truth-line (truth (take (c .formula .count) (c .formula .kept)) (lasso (take (c .letters .count) (drop 0 letters)) stem) room) in
-    cond (is-whole c) line (77 ∷ 65 ∷ 76 ∷ 70 ∷ 79 ∷ 82 ∷ 77 ∷ 69 ∷ 68 ∷ 10 ∷ [])
+    cond (is-whole c) line malformed-text

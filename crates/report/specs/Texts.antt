@@ -16,6 +16,10 @@ refused-text code = (82 ∷ 69 ∷ 70 ∷ 85 ∷ 83 ∷ 69 ∷ 68 ∷ []) ++ num
 abbrev pub unread-text : Refusal → List ℕ
 unread-text why = refused-text (why .code) ++ (32 ∷ 97 ∷ 116 ∷ []) ++ number-text (why .at)
 
+-- The line for what is no case.
+abbrev pub malformed-text : List ℕ
+malformed-text = 77 ∷ 65 ∷ 76 ∷ 70 ∷ 79 ∷ 82 ∷ 77 ∷ 69 ∷ 68 ∷ 10 ∷ []
+
 -- The texts of a list's members, one after another.
 abbrev pub each : (ℕ → List ℕ) → List ℕ → List ℕ
 each text [] = []

@@ -15,7 +15,7 @@ lent room (Reading.refused code place) = Reading.refused code place
 lent room (Reading.accepted x) = cond (leb 144 room) (Reading.accepted x) (Reading.refused 255 0)
 
 -- "An accepted rule returns its entries": the first 144 bytes have them, by the decoding of formula, and "what is written leaves the rest
--- of its buffer unchanged"
+-- of its buffer unchanged". Of the 144 bytes those that no entry is decoded from mean nothing.
 pub record Listed (x : Entries) (before after : List ℕ) : Type 0 where
   pub operators : operators-of after 0 (length (x .operators)) ≡ x .operators
   pub ends : ends-of after 0 (length (x .operators)) ≡ x .ends

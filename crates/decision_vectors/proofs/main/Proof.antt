@@ -6,10 +6,10 @@ use Rattle.decision_vectors.proofs.main.Statement.{statement}
 use Rattle.decision_vectors.proofs.main.Tie as tie
 
 abbrev Inv-loop : tie.InvT-loop
-Inv-loop workspace₀ witness₀ case₀ chunk₀ turns₀ t8 workspace witness case chunk turns = (length chunk ≡ 4096) × (length workspace ≡ 794624) × (length witness ≡ 5120)
+Inv-loop workspace₀ witness₀ letters₀ case₀ chunk₀ turns₀ t8 workspace witness letters case chunk turns = (length chunk ≡ 4096) × (length workspace ≡ 794624) × (length witness ≡ 5120) × (length letters ≡ 1)
 
 abbrev μ-loop : tie.MeasureT-loop
-μ-loop workspace₀ witness₀ case₀ chunk₀ turns₀ t8 workspace witness case chunk turns = turns
+μ-loop workspace₀ witness₀ letters₀ case₀ chunk₀ turns₀ t8 workspace witness letters case chunk turns = turns
 
 area-requires : tie.Need-area-requires Inv-loop μ-loop
 area-requires c κs = search needs
@@ -38,6 +38,9 @@ slice-aggregate-taken-all-2 c = search needs
 slice-aggregate-taken-all-3 : tie.Need-slice-aggregate-taken-all-3 Inv-loop μ-loop
 slice-aggregate-taken-all-3 c = search needs
 
+slice-aggregate-taken-all-4 : tie.Need-slice-aggregate-taken-all-4 Inv-loop μ-loop
+slice-aggregate-taken-all-4 c = search needs
+
 taken-all-requires : tie.Need-taken-all-requires Inv-loop μ-loop
 taken-all-requires c κs = search needs
 
@@ -50,17 +53,20 @@ slice-aggregate-count c = search needs
 count-requires : tie.Need-count-requires Inv-loop μ-loop
 count-requires c κs = search needs
 
-slice-aggregate-taken-all-4 : tie.Need-slice-aggregate-taken-all-4 Inv-loop μ-loop
-slice-aggregate-taken-all-4 c = search needs
-
 slice-aggregate-taken-all-5 : tie.Need-slice-aggregate-taken-all-5 Inv-loop μ-loop
 slice-aggregate-taken-all-5 c = search needs
+
+slice-aggregate-taken-all-6 : tie.Need-slice-aggregate-taken-all-6 Inv-loop μ-loop
+slice-aggregate-taken-all-6 c = search needs
+
+slice-aggregate-taken-all-7 : tie.Need-slice-aggregate-taken-all-7 Inv-loop μ-loop
+slice-aggregate-taken-all-7 c = search needs
 
 array-share-prefix-chunk : tie.Need-array-share-prefix-chunk Inv-loop μ-loop
 array-share-prefix-chunk c = search needs
 
-slice-aggregate-taken-all-6 : tie.Need-slice-aggregate-taken-all-6 Inv-loop μ-loop
-slice-aggregate-taken-all-6 c = search needs
+slice-aggregate-taken-all-8 : tie.Need-slice-aggregate-taken-all-8 Inv-loop μ-loop
+slice-aggregate-taken-all-8 c = search needs
 
 taken-all-requires-2 : tie.Need-taken-all-requires-2 Inv-loop μ-loop
 taken-all-requires-2 c κs = search needs
@@ -89,14 +95,16 @@ main-spec =
     slice-aggregate-taken-all
     slice-aggregate-taken-all-2
     slice-aggregate-taken-all-3
+    slice-aggregate-taken-all-4
     taken-all-requires
     returns
     slice-aggregate-count
     count-requires
-    slice-aggregate-taken-all-4
     slice-aggregate-taken-all-5
-    array-share-prefix-chunk
     slice-aggregate-taken-all-6
+    slice-aggregate-taken-all-7
+    array-share-prefix-chunk
+    slice-aggregate-taken-all-8
     taken-all-requires-2
     loop-less
     loop-again
