@@ -1,7 +1,7 @@
 -- Records that stand by rising first node, as those of one transition do (`ones-rising`). A search by halves finds how many begin before a
 -- node: all before `low` do, none from `high` on does (`Halved`), and what the record between them says moves one of the two. Assumes
 -- nothing.
-use mathlib.Core.Path.{_≡_, refl, ap, subst, subst₂}
+use mathlib.Core.Path.{_≡_, refl, ap, subst}
 use mathlib.Core.List.{List}
 use Prim.Native.Nat.{ℕ, _+_, _≤_, _<_}
 use native.Mathlib.Omega.{arith}
