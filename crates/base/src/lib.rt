@@ -1,7 +1,7 @@
-// Bits of words, shared by the layers above.
+// Numbers and bits of words, shared by the layers above.
 ghost use mathlib.Core.Path.{_≡_};
 ghost use mathlib.Core.Bool.{cond};
-ghost use Prim.Native.Nat.{ℕ, _%_, _<_, _^_};
+ghost use Prim.Native.Nat.{ℕ, _%_, _≤_, _<_, _^_};
 ghost use lib.Dec.{eqb};
 ghost use Rattle.base.specs.Bits.{bit, Lowest, Without};
 
@@ -10,6 +10,13 @@ pub fn wide(x: u8) -> usize
     ensures { λ r. ⌜ r ≡ x ⌝ }
 {
     x as usize
+}
+
+// What a count of those that pass a test grows by.
+pub fn one_if(on: bool) -> usize
+    ensures { λ r. ⌜ (r ≡ cond on 1 0) × (r ≤ 1) ⌝ }
+{
+    if on { 1 } else { 0 }
 }
 
 pub fn has(word: u64, e: usize) -> bool

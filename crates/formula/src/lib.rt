@@ -1,6 +1,5 @@
 // Reading a formula: bytes into its table of subformulas, or a refusal.
 ghost use mathlib.Core.Path.{_≡_};
-ghost use mathlib.Core.Bool.{cond};
 ghost use mathlib.Core.List.{List};
 ghost use Prim.Native.Nat.{ℕ, _+_, _≤_, _<_};
 ghost use lib.ListN.{length};
@@ -83,12 +82,6 @@ fn within(op: u8, h: Head) -> bool
     true
 }
 
-fn one_if(on: bool) -> usize
-    ensures { λ r. ⌜ (r ≡ cond on 1 0) × (r ≤ 1) ⌝ }
-{
-    if on { 1 } else { 0 }
-}
-
 // Where reading stands behind the byte at h.
 fn passed(s: &[u8], h: Head) -> Head
     requires { ⌜ h .at < length (now s) ⌝ }
@@ -111,9 +104,9 @@ fn counted(op: u8, h: Head) -> Head
     Head {
         at: h.at,
         count: h.count + 1,
-        ors: h.ors + one_if(op == 6),
-        nexts: h.nexts + one_if(op == 8),
-        fixpoints: h.fixpoints + one_if(8 < op),
+        ors: h.ors + base::one_if(op == 6),
+        nexts: h.nexts + base::one_if(op == 8),
+        fixpoints: h.fixpoints + base::one_if(8 < op),
     }
 }
 

@@ -2,8 +2,7 @@
 use formula::Outcome;
 use formula::Reading;
 ghost use mathlib.Core.Path.{_≡_};
-ghost use mathlib.Core.Bool.{cond};
-ghost use Prim.Native.Nat.{_+_, _≤_, _<_, min};
+ghost use Prim.Native.Nat.{_≤_, _<_, min};
 ghost use Rattle.vectors.specs.Text.{buffer, Wrote};
 ghost use Rattle.formula_vectors.specs.Outcome.{is-around, operands-text, command-text, entry-text, entries-text};
 ghost use Rattle.formula_vectors.specs.Outcome.{marked as Outcome·marked, depth as Outcome·depth};
@@ -115,16 +114,10 @@ fn depth(rows: &[u8; 144], e: usize, binder: u8) -> u64
     let mut n = 0;
     let mut f = binder as usize + 1;
     while f < e {
-        n += one_if(is_around(rows, e, f));
+        n += base::one_if(is_around(rows, e, f)) as u64;
         f += 1;
     }
     n
-}
-
-fn one_if(on: bool) -> u64
-    ensures { λ r. ⌜ (r ≡ cond on 1 0) × (r ≤ 1) ⌝ }
-{
-    if on { 1 } else { 0 }
 }
 
 fn is_around(rows: &[u8; 144], e: usize, f: usize) -> bool

@@ -245,9 +245,6 @@ ranking-end rows count e next fix nexts fixes f h k r =
     }
 
 -- so that counts fit
-pub one-small : (b : Bool) (n : ℕ) → n ≡ cond b 1 0 → n ≤ 1
-one-small b n q = omega (arith, one-most b)
-
 pub ranking-small : {rows : List ℕ} {e : ℕ} {next fix : List ℕ} {nexts fixes : ℕ} → Ranking rows e next fix nexts fixes → (nexts ≤ e) × (fixes ≤ e)
 ranking-small {rows} {e} r =
     (omega (arith, r .nexts-are, before-most (next-at rows) e), omega (arith, r .fixes-are, before-most (fix-at rows) e))

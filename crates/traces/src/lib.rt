@@ -19,15 +19,6 @@ pub struct Ranks {
     pub fix: [u8; 48],
 }
 
-fn one_if(on: bool) -> usize
-    ensures { λ r. ⌜ r ≡ cond on 1 0 ⌝ }
-{
-    if on {
-        return 1;
-    }
-    0
-}
-
 pub fn ranked(rows: &[u8; 144], count: usize) -> Ranks
     requires { ⌜ Formed (now rows) count ⌝ }
     ensures { λ r. ⌜ Ranks-of (now (rows .entry)) count r ⌝ }
@@ -40,8 +31,8 @@ pub fn ranked(rows: &[u8; 144], count: usize) -> Ranks
     while e < count {
         next[e] = (nexts % 256) as u8;
         fix[e] = (fixes % 256) as u8;
-        nexts += one_if(rows[e] == 8);
-        fixes += one_if(8 < rows[e]);
+        nexts += base::one_if(rows[e] == 8);
+        fixes += base::one_if(8 < rows[e]);
         e += 1;
     }
     Ranks {

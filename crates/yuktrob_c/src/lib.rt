@@ -4,7 +4,6 @@ use formula::Outcome;
 use formula::Table;
 use lasso::Truth;
 ghost use mathlib.Core.Path.{_≡_};
-ghost use mathlib.Core.Bool.{cond};
 ghost use Prim.Native.Nat.{_≤_, _<_};
 ghost use lib.ListN.{length};
 ghost use Rattle.formula.specs.Reading.{Reading, reading};
@@ -25,12 +24,6 @@ fn number(code: u8, carried: usize) -> u64
     (base::wide(code) + 256 * carried) as u64
 }
 
-fn one_if(on: bool) -> usize
-    ensures { λ r. ⌜ (r ≡ cond on 1 0) × (r ≤ 1) ⌝ }
-{
-    if on { 1 } else { 0 }
-}
-
 fn truth_number(t: Truth) -> u64
     requires { ⌜ TruthFits t ⌝ }
     ensures { λ r. ⌜ r ≡ truth-number t ⌝ }
@@ -38,7 +31,7 @@ fn truth_number(t: Truth) -> u64
     match t {
         Truth::Unread(why) => number(why.code, why.at),
         Truth::Refused(code) => number(code, 0),
-        Truth::Told(on) => number(0, one_if(on)),
+        Truth::Told(on) => number(0, base::one_if(on)),
     }
 }
 

@@ -3,8 +3,7 @@ use Prim.Native.Nat.{ℕ, _-_, _≤_}
 use native.Mathlib.Omega.{arith}
 use borrow.Author.Needs.{needs}
 use lib.ListN.{replicate, length-replicate}
-use Rattle.traces.specs.Promise.{next-at, fix-at}
-use Rattle.traces.proofs.RankLaws.{one-small, ranking-small, Ranking, ranking-start, ranking-more, ranking-end}
+use Rattle.traces.proofs.RankLaws.{ranking-small, Ranking, ranking-start, ranking-more, ranking-end}
 use Rattle.traces.proofs.ranked.Statement.{statement}
 use Rattle.traces.proofs.ranked.Tie as tie
 
@@ -46,8 +45,7 @@ add-nexts c =
     omega (
       arith,
       ranking-small (loop .inv .1) .0,
-      one-small (next-at (start .args .rows .now) (loop .e)) (c .one-if .result)
-          (c .one-if .ensures),
+      c .one-if .ensures .1,
       start .pre .few,
     )
 
@@ -66,8 +64,7 @@ add-fixes c =
     omega (
       arith,
       ranking-small (loop .inv .1) .1,
-      one-small (fix-at (start .args .rows .now) (loop .e)) (c .one-if2 .result)
-          (c .one-if2 .ensures),
+      c .one-if2 .ensures .1,
       start .pre .few,
     )
 
@@ -84,7 +81,7 @@ loop-again c =
       omega arith,
       ranking-more (start .args .rows .now) (loop .e) (loop .next) (loop .fix) (loop .nexts) (loop .fixes)
           (c .before .before .one-if .result) (c .one-if2 .result)
-          (omega (arith, start .pre .few)) (c .before .before .one-if .ensures) (c .one-if2 .ensures) (loop .inv .1),
+          (omega (arith, start .pre .few)) (c .before .before .one-if .ensures .0) (c .one-if2 .ensures .0) (loop .inv .1),
     )
 
 returns : tie.Need-returns Inv-loop μ-loop
