@@ -9,90 +9,76 @@ use Prim.Native.Nat.{ℕ, zero, suc, _+_, _≤_, _<_}
 use native.Mathlib.Omega.{arith}
 use lib.ListN.{length, getD, length-map}
 use Rattle.base.specs.Lists.{repeat, tail, same-bit}
+use Rattle.base.specs.Sets.{Below, Inside, Toward}
 use Rattle.base.proofs.ListLaws.{repeat-stays, repeat-keeps}
 
--- one bit is true only where the other is
-pub data Below : Bool → Bool → Type 0 where
-  same : {b : Bool} → Below b b
-  more : Below false true
-
 pub below-true : {a b : Bool} → Below a b → a ≡ true → b ≡ true
-below-true same q = q
-below-true more q = refl
+below-true Below.same q = q
+below-true Below.more q = refl
 
 pub below-of : (a b : Bool) → (a ≡ true → b ≡ true) → Below a b
-below-of true true h = same
+below-of true true h = Below.same
 below-of true false h = absurd (false≢true (h refl))
-below-of false true h = more
-below-of false false h = same
+below-of false true h = Below.more
+below-of false false h = Below.same
 
 pub below-least : (b : Bool) → Below false b
-below-least true = more
-below-least false = same
+below-least true = Below.more
+below-least false = Below.same
 
 pub below-greatest : (b : Bool) → Below b true
-below-greatest true = same
-below-greatest false = more
+below-greatest true = Below.same
+below-greatest false = Below.more
 
 below-trans : {a b c : Bool} → Below a b → Below b c → Below a c
-below-trans same q = q
-below-trans more same = more
+below-trans Below.same q = q
+below-trans Below.more Below.same = Below.more
 
 below-both : {a b : Bool} → Below a b → Below b a → a ≡ b
-below-both same q = refl
-below-both more q = below-true q refl
-
--- a set inside another of as many elements
-pub data Inside : List Bool → List Bool → Type 0 where
-  none : Inside [] []
-  put : {a b : Bool} {s t : List Bool} → Below a b → Inside s t → Inside (a ∷ s) (b ∷ t)
+below-both Below.same q = refl
+below-both Below.more q = below-true q refl
 
 pub inside-at : {s t : List Bool} → Inside s t → (i : ℕ) → Below (getD s i false) (getD t i false)
-inside-at none i = same
-inside-at (put p h) zero = p
-inside-at (put p h) (suc i) = inside-at h i
+inside-at Inside.none i = Below.same
+inside-at (Inside.put p h) zero = p
+inside-at (Inside.put p h) (suc i) = inside-at h i
 
 pub inside-of : (s t : List Bool) → length s ≡ length t
     → ((i : ℕ) → i < length s → getD s i false ≡ true → getD t i false ≡ true) → Inside s t
-inside-of [] [] l f = none
+inside-of [] [] l f = Inside.none
 inside-of [] (b ∷ t) l f = absurd (omega arith)
 inside-of (a ∷ s) [] l f = absurd (omega arith)
-inside-of (a ∷ s) (b ∷ t) l f = put (below-of a b (f 0 (omega arith))) (inside-of s t (omega arith) (λ i h. f (suc i) (omega arith)))
+inside-of (a ∷ s) (b ∷ t) l f = Inside.put (below-of a b (f 0 (omega arith))) (inside-of s t (omega arith) (λ i h. f (suc i) (omega arith)))
 
 pub inside-length : {s t : List Bool} → Inside s t → length s ≡ length t
-inside-length none = refl
-inside-length (put p h) = ap suc (inside-length h)
+inside-length Inside.none = refl
+inside-length (Inside.put p h) = ap suc (inside-length h)
 
 pub inside-refl : (s : List Bool) → Inside s s
-inside-refl [] = none
-inside-refl (a ∷ s) = put same (inside-refl s)
+inside-refl [] = Inside.none
+inside-refl (a ∷ s) = Inside.put Below.same (inside-refl s)
 
 pub inside-trans : {s t u : List Bool} → Inside s t → Inside t u → Inside s u
-inside-trans none none = none
-inside-trans (put p g) (put q h) = put (below-trans p q) (inside-trans g h)
+inside-trans Inside.none Inside.none = Inside.none
+inside-trans (Inside.put p g) (Inside.put q h) = Inside.put (below-trans p q) (inside-trans g h)
 
 pub inside-both : {s t : List Bool} → Inside s t → Inside t s → s ≡ t
-inside-both none none = refl
-inside-both (put p g) (put q h) = cc (below-both p q, inside-both g h)
+inside-both Inside.none Inside.none = refl
+inside-both (Inside.put p g) (Inside.put q h) = cc (below-both p q, inside-both g h)
 
 pub inside-append : {s t u v : List Bool} → Inside s t → Inside u v → Inside (s ++ u) (t ++ v)
-inside-append none h = h
-inside-append (put p g) h = put p (inside-append g h)
+inside-append Inside.none h = h
+inside-append (Inside.put p g) h = Inside.put p (inside-append g h)
 
 pub inside-tail : {s t : List Bool} → Inside s t → Inside (tail s) (tail t)
-inside-tail none = none
-inside-tail (put p h) = h
+inside-tail Inside.none = Inside.none
+inside-tail (Inside.put p h) = h
 
 -- rounds that keep the order, from sets in order
 pub inside-repeat : (n : ℕ) (f g : List Bool → List Bool) → ((s t : List Bool) → Inside s t → Inside (f s) (g t))
     → {s t : List Bool} → Inside s t → Inside (repeat n f s) (repeat n g t)
 inside-repeat zero f g h r = r
 inside-repeat (suc n) f g h {s} {t} r = inside-repeat n f g h (h s t r)
-
--- from s to t elements only leave the value g: the set grows where g is false, and shrinks where it is true
-abbrev pub Toward : (g : Bool) → List Bool → List Bool → Type 0
-Toward false s t = Inside s t
-Toward true s t = Inside t s
 
 pub toward-refl : (g : Bool) (s : List Bool) → Toward g s s
 toward-refl true s = inside-refl s
@@ -140,9 +126,9 @@ waiting-le false s = omega (arith, waiting-sum s)
 
 -- a larger set is the same, or has fewer elements missing
 inside-or : {s t : List Bool} → Inside s t → (s ≡ t) ⊎ (waiting false t < waiting false s)
-inside-or none = inl refl
-inside-or (put (same {b = a}) h) = elim (inside-or h) [ inl e ↦ inl (ap (λ (s : List Bool). a ∷ s) e) | inr l ↦ inr (omega arith) ]
-inside-or (put more h) = elim (inside-or h) [ inl e ↦ inr (omega (arith, ap (waiting false) e)) | inr l ↦ inr (omega arith) ]
+inside-or Inside.none = inl refl
+inside-or (Inside.put (Below.same {b = a}) h) = elim (inside-or h) [ inl e ↦ inl (ap (λ (s : List Bool). a ∷ s) e) | inr l ↦ inr (omega arith) ]
+inside-or (Inside.put Below.more h) = elim (inside-or h) [ inl e ↦ inr (omega (arith, ap (waiting false) e)) | inr l ↦ inr (omega arith) ]
 
 -- a move changes nothing, or fewer elements are left to move
 pub toward-or : (g : Bool) (s t : List Bool) → Toward g s t → (s ≡ t) ⊎ (waiting g t < waiting g s)

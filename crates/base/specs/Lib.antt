@@ -1,3 +1,4 @@
 pub mod Lists
 pub mod Bits
 pub mod Search
+pub mod Sets

@@ -11,19 +11,18 @@ use lib.ListN.{length, List·getD-eq-default}
 use Rattle.formula.specs.Formula.{Leaf, Formula, size}
 use Rattle.formula.specs.Table.{Operator, Table, operator, table, ends-from}
 use Rattle.formula.specs.Reading.{Reading, parse}
-use Rattle.formula.proofs.Limits.{Ranged, fixpoints, nexts, how-many, table-fixpoints, table-nexts, parse-limited}
-use Rattle.formula.proofs.Limits as limits
-use Rattle.formula.proofs.Guarded.{Guarded, parse-guarded}
+use Rattle.formula.specs.Stands.{is-next, is-fix, Guarded, Ranged}
+use Rattle.formula.proofs.Limits.{fixpoints, nexts, how-many, table-fixpoints, table-nexts, parse-limited}
+use Rattle.formula.proofs.Guarded.{parse-guarded}
 use Rattle.formula.proofs.WellFormed.{end-in, Operands, Shaped, Single, each-shaped, table-size}
 use Rattle.tableau.specs.Saturation.{moves}
 use Rattle.tableau.specs.Nodes.{operands}
 use Rattle.tableau.proofs.TransitionLaws.{next-is}
-use Rattle.profile.specs.Traces.{is-fix}
 use Rattle.coded.proofs.RankLaws.{fixes-from}
 use Rattle.coded.proofs.TableLaws.{Formed}
 
 -- the fixpoints and the operands of next, counted
-fixes-count : (t : Table) (e : ℕ) → length (fixes-from e t) ≡ how-many limits.is-fix t
+fixes-count : (t : Table) (e : ℕ) → length (fixes-from e t) ≡ how-many is-fix t
 fixes-count [] e = refl
 fixes-count (Operator.leaf (Leaf.constant b) ∷ t) e = fixes-count t (suc e)
 fixes-count (Operator.leaf (Leaf.signal p j) ∷ t) e = fixes-count t (suc e)
@@ -32,7 +31,7 @@ fixes-count (Operator.pair o l r ∷ t) e = fixes-count t (suc e)
 fixes-count (Operator.next g ∷ t) e = fixes-count t (suc e)
 fixes-count (Operator.fix g l ∷ t) e = ap suc (fixes-count t (suc e))
 
-operands-count : (t : Table) → length (operands t) ≡ how-many limits.is-next t
+operands-count : (t : Table) → length (operands t) ≡ how-many is-next t
 operands-count [] = refl
 operands-count (Operator.leaf (Leaf.constant b) ∷ t) = operands-count t
 operands-count (Operator.leaf (Leaf.signal p j) ∷ t) = operands-count t

@@ -15,7 +15,8 @@ use lib.Seq.{getD-set-same, getD-set-other}
 use Rattle.base.proofs.BoolLaws.{or-cases, or-left, or-right}
 use Rattle.base.proofs.ListLaws.{repeat-keeps, getD-map}
 use Rattle.base.proofs.NumberLaws.{values-at, values-length}
-use Rattle.base.proofs.Inside.{Inside, waiting, waiting-le, toward-or}
+use Rattle.base.specs.Sets.{Inside}
+use Rattle.base.proofs.Inside.{waiting, waiting-le, toward-or}
 use Rattle.base.proofs.At.{At, at-lt, at-get, in-at}
 use Rattle.base.proofs.Pairs.{Pairs, total, total-less, total-most, comes-to-rest}
 use Rattle.formula.specs.Table.{Table, Operator, operator}

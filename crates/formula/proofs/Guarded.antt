@@ -3,21 +3,13 @@
 use mathlib.Core.Path.{_≡_}
 use mathlib.Core.Bool.{true, false}
 use mathlib.Core.List.{List, [], _∷_, map}
-use Prim.Native.Nat.{ℕ, _<_}
-use lib.Dec.{T}
-use lib.ListN.{length, getD, length-map}
+use Prim.Native.Nat.{ℕ}
+use lib.ListN.{length, length-map}
 use Rattle.formula.specs.Formula.{Formula}
 use Rattle.formula.specs.Reading.{Head, Scope, Reading, parse}
+use Rattle.formula.specs.Stands.{Guarded}
 use Rattle.formula.proofs.Closed.{Closed}
 use Rattle.formula.proofs.Derivation.{Reads, parse-reads}
-
--- inside the fixpoints of a scope, innermost first, each with whether a next stands between it and here
-abbrev pub Guarded : Scope → Formula → Type 0
-Guarded scope (Formula.leaf l) = Unit {0}
-Guarded scope (Formula.variable d) = (d < length scope) × T (getD scope d false)
-Guarded scope (Formula.pair o a b) = Guarded scope a × Guarded scope b
-Guarded scope (Formula.next a) = Guarded (map (λ _. true) scope) a
-Guarded scope (Formula.fix g a) = Guarded (false ∷ scope) a
 
 reads-guarded : (scope : Scope) {h k : Head} (f : Formula) → Reads scope h f k → Guarded scope f
 reads-guarded scope f (Reads.constant b) = tt

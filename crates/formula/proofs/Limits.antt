@@ -12,6 +12,7 @@ use Rattle.base.specs.Lists.{keep}
 use Rattle.formula.specs.Formula.{Leaf, Formula, size}
 use Rattle.formula.specs.Table.{Operator, Table, table-from, table}
 use Rattle.formula.specs.Reading.{Opcode, Head, Scope, within, counted, Reading, parse}
+use Rattle.formula.specs.Stands.{is-next, is-fix, Ranged}
 use Rattle.formula.proofs.Commands.{Sort, sort, or-command, next-command, fix-command, one-if, counted-is, behind}
 use Rattle.formula.proofs.Derivation.{Byte, Begins, Reads, parse-reads}
 
@@ -131,15 +132,6 @@ count-fixpoints : Counter (λ (h : Head). h .fixpoints) fix-command 7
 count-fixpoints =
     record { kept = λ h rest. refl; grows = λ op h. ap (λ (k : Head). k .fixpoints) (counted-is op h); stays = λ op h i w l. within-fits op h w .fixpoints l }
 
--- signals are numbered 0 to 15
-abbrev pub Ranged : Formula → Type 0
-Ranged (Formula.leaf (Leaf.constant b)) = Unit {0}
-Ranged (Formula.leaf (Leaf.signal present s)) = s ≤ 15
-Ranged (Formula.variable d) = Unit {0}
-Ranged (Formula.pair o a b) = Ranged a × Ranged b
-Ranged (Formula.next a) = Ranged a
-Ranged (Formula.fix g a) = Ranged a
-
 reads-ranged : {scope : Scope} {h k : Head} (f : Formula) → Reads scope h f k → Ranged f
 reads-ranged f (Reads.constant b) = tt
 reads-ranged f (Reads.signal b s i) = i
@@ -216,17 +208,27 @@ module _ (q : Operator → Bool) (test : Opcode → Bool) (same : (o : Operator)
 abbrev pub is-or : Operator → Bool
 is-or o = or-command (opcode-of o)
 
-abbrev pub is-next : Operator → Bool
-is-next o = next-command (opcode-of o)
+next-same : (o : Operator) → is-next o ≡ next-command (opcode-of o)
+next-same (Operator.leaf (Leaf.constant b)) = refl
+next-same (Operator.leaf (Leaf.signal present s)) = refl
+next-same (Operator.variable m) = refl
+next-same (Operator.pair o l r) = refl
+next-same (Operator.next g) = refl
+next-same (Operator.fix g b) = refl
 
-abbrev pub is-fix : Operator → Bool
-is-fix o = fix-command (opcode-of o)
+fix-same : (o : Operator) → is-fix o ≡ fix-command (opcode-of o)
+fix-same (Operator.leaf (Leaf.constant b)) = refl
+fix-same (Operator.leaf (Leaf.signal present s)) = refl
+fix-same (Operator.variable m) = refl
+fix-same (Operator.pair o l r) = refl
+fix-same (Operator.next g) = refl
+fix-same (Operator.fix g b) = refl
 
 pub table-ors : (f : Formula) → how-many is-or (table f) ≡ ors f
 table-ors = table-tally is-or or-command (λ o. refl)
 
 pub table-nexts : (f : Formula) → how-many is-next (table f) ≡ nexts f
-table-nexts = table-tally is-next next-command (λ o. refl)
+table-nexts = table-tally is-next next-command next-same
 
 pub table-fixpoints : (f : Formula) → how-many is-fix (table f) ≡ fixpoints f
-table-fixpoints = table-tally is-fix fix-command (λ o. refl)
+table-fixpoints = table-tally is-fix fix-command fix-same

@@ -18,9 +18,10 @@ use Rattle.formula.specs.Rows.{operator-of, operator-at, end-at, operato
 use Rattle.formula.specs.declared.Table.{Table}
 use Rattle.formula.specs.declared.Outcome.the-variants.{Accepted}
 use Rattle.formula.specs.declared.Reading as code
-use Rattle.formula.proofs.Limits.{Ranged, is-fix, parse-limited}
-use Rattle.formula.proofs.Guarded.{Guarded, parse-guarded}
-use Rattle.formula.proofs.WellFormed.{Shaped, Operands, Single, Pair, table-size, each-shaped, operator-in, end-in, nothing}
+use Rattle.formula.specs.Stands.{Ranged, is-fix, Guarded, nothing}
+use Rattle.formula.proofs.Limits.{parse-limited}
+use Rattle.formula.proofs.Guarded.{parse-guarded}
+use Rattle.formula.proofs.WellFormed.{Shaped, Operands, Single, Pair, table-size, each-shaped, operator-in, end-in}
 
 abbrev pub code-at : List ℕ → ℕ → ℕ
 code-at rows e = getD rows e 0

@@ -9,19 +9,16 @@ use Prim.Native.Nat.{ℕ, zero, suc, _+_, _≤_, _<_}
 use native.Mathlib.Nat.{add-zero}
 use native.Mathlib.Decide.{decLt}
 use native.Mathlib.Omega.{arith}
-use lib.Dec.{T}
 use lib.ListN.{length, getD, length-append, length-map, List·getD-append}
 use lib.Seq.{getD-append-add}
 use Rattle.formula.specs.Formula.{Leaf, Formula, size}
 use Rattle.formula.specs.Table.{Operator, Table, table-from, table, ends-from}
 use Rattle.formula.specs.Reading.{Scope, Reading, parse}
+use Rattle.formula.specs.Stands as specs
+use Rattle.formula.specs.Stands.{Sits, nothing, Guarded, Ranged}
 use Rattle.formula.proofs.Closed.{length-table}
-use Rattle.formula.proofs.Limits.{Ranged, size-some, is-next, is-fix, parse-limited}
-use Rattle.formula.proofs.Guarded.{Guarded, parse-guarded}
-
--- From number e on, s has the elements of a list. (d: what lists give behind their last element.)
-pub record Sits {A : Type 0} (d : A) (s : ℕ → A) (e : ℕ) (part : List A) : Type 0 where
-  pub at : (i : ℕ) → i < length part → s (e + i) ≡ getD part i d
+use Rattle.formula.proofs.Limits.{size-some, parse-limited}
+use Rattle.formula.proofs.Guarded.{parse-guarded}
 
 module _ {A : Type 0} {d : A} {s : ℕ → A} {e : ℕ} where
   pub sits-first : {c : A} {part : List A} → Sits d s e (c ∷ part) → s e ≡ c
@@ -49,9 +46,6 @@ length-ends e (Formula.next a) = omega (arith, length-ends (e + 1) a)
 length-ends e (Formula.fix g a) = omega (arith, length-ends (e + 1) a)
 
 -- what a table, and a list of ends, have at a number
-abbrev pub nothing : Operator
-nothing = Operator.leaf (Leaf.constant false)
-
 abbrev pub operator-in : Table → ℕ → Operator
 operator-in t e = getD t e nothing
 
@@ -60,30 +54,12 @@ end-in ends e = getD ends e 0
 
 -- The operators and ends of `count` numbers, from wherever they are known: a table, or the rows of memory that hold one.
 module _ (operator : ℕ → Operator) (end : ℕ → ℕ) (count : ℕ) where
-  -- a next between m and the numbers from lo to hi
-  pub record Between (m lo hi : ℕ) : Type 0 where
-    pub number : ℕ
-    pub behind : m < number
-    pub before : number < lo
-    pub around : hi ≤ end number
-    pub next : T (is-next (operator number))
+  -- the definitions, of these operators and ends
+  abbrev Binds : (m lo hi : ℕ) → (guarded : Bool) → Type 0
+  Binds = specs.Binds operator end count
 
-  -- m is a fixpoint around the numbers from lo to hi, and guarded says that a next stands between
-  pub record Binds (m lo hi : ℕ) (guarded : Bool) : Type 0 where
-    pub before : m < lo
-    pub around : hi ≤ end m
-    pub fixpoint : T (is-fix (operator m))
-    pub guard : T guarded → Between m lo hi
-
-  -- f stands at number e, inside the fixpoints `binders`
-  pub record Stands (e : ℕ) (scope : Scope) (binders : List ℕ) (f : Formula) : Type 0 where
-    pub operators : Sits nothing operator e (table-from e binders f)
-    pub bounds : Sits 0 end e (ends-from e f)
-    pub fits : e + size f ≤ count
-    pub guarded : Guarded scope f
-    pub ranged : Ranged f
-    pub scoped : length scope ≡ length binders
-    pub enclosed : (d : ℕ) → d < length binders → Binds (getD binders d 0) e (e + size f) (getD scope d false)
+  abbrev Stands : (e : ℕ) → Scope → (binders : List ℕ) → Formula → Type 0
+  Stands = specs.Stands operator end count
 
   ends-first : (e : ℕ) (f : Formula) → Sits 0 end e (ends-from e f) → end e ≡ e + size f
   ends-first e (Formula.leaf l) h = sits-first h

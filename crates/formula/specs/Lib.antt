@@ -1,6 +1,7 @@
 pub mod Formula
 pub mod Table
 pub mod Reading
+pub mod Stands
 pub mod Rows
 pub mod Holds
 pub mod Promise

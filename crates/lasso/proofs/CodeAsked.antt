@@ -18,9 +18,10 @@ use Rattle.formula.specs.declared.Refusal.{Refusal}
 use Rattle.formula.specs.declared.Outcome.{Outcome}
 use Rattle.formula.specs.declared.Outcome.the-variants.{Accepted, Refused as Unaccepted}
 use Rattle.formula.specs.declared.Reading as read
+use Rattle.formula.specs.Stands.{nothing}
 use Rattle.formula.proofs.Limits.{parse-limited}
 use Rattle.formula.proofs.Guarded.{parse-guarded}
-use Rattle.formula.proofs.WellFormed.{nothing, stands-whole}
+use Rattle.formula.proofs.WellFormed.{stands-whole}
 use Rattle.formula.proofs.RowLaws.{Held as Read, held-count, reading-held}
 use Rattle.lasso.specs.Lasso.{Lasso, labelling, meets}
 use Rattle.lasso.specs.Truth.{Truth, asked, after-reading, truth, written}

@@ -10,8 +10,9 @@ use lib.ListN.{length, getD, set, length-set}
 use lib.Seq.{getD-set-same, getD-set-other}
 use borrow.Author.Tests.{eqb-true, eqb-false, eq-eqb}
 use Rattle.base.specs.Bits.{bit}
+use Rattle.base.specs.Sets.{Toward}
 use Rattle.base.proofs.BitLaws.{changed}
-use Rattle.base.proofs.Inside.{Toward, toward-refl, toward-trans}
+use Rattle.base.proofs.Inside.{toward-refl, toward-trans}
 use Rattle.formula.specs.Rows.{operator-at, end-at}
 use Rattle.formula.proofs.WellFormed.{stands-body}
 use Rattle.lasso.specs.Lasso.{Lasso, Positions, joined}

@@ -8,9 +8,10 @@ use Prim.Native.Nat.{ℕ, suc, _+_, _-_, _≤_, _<_}
 use native.Mathlib.Omega.{arith}
 use lib.ListN.{length, getD, length-map}
 use Rattle.base.specs.Lists.{repeat}
+use Rattle.base.specs.Sets.{Toward}
 use Rattle.base.proofs.ListLaws.{getD-map, repeat-stays}
 use Rattle.base.proofs.NumberLaws.{values-cons}
-use Rattle.base.proofs.Inside.{Toward, toward-refl, toward-trans, toward-both, toward-start}
+use Rattle.base.proofs.Inside.{toward-refl, toward-trans, toward-both, toward-start}
 use Rattle.formula.specs.Formula.{Leaf as Atom, Formula, size}
 use Rattle.formula.specs.Table.{Operator}
 use Rattle.formula.specs.Reading.{Opcode, Scope}

@@ -8,8 +8,9 @@ use Prim.Native.Nat.{ℕ, zero, suc, _+_, _≤_, _<_}
 use native.Mathlib.Omega.{arith}
 use lib.ListN.{length, getD, length-map}
 use Rattle.base.specs.Bits.{bit}
+use Rattle.base.specs.Sets.{Toward}
 use Rattle.base.proofs.ListLaws.{getD-map}
-use Rattle.base.proofs.Inside.{Toward, toward-mono}
+use Rattle.base.proofs.Inside.{toward-mono}
 use Rattle.formula.specs.Formula.{Formula, size}
 use Rattle.formula.proofs.Closed.{Closed}
 use Rattle.lasso.specs.Lasso.{Lasso, Positions, leaf-at, before, holds, sets}

@@ -11,8 +11,9 @@ use Prim.Native.Nat.{ℕ, zero, suc, _+_, _<_}
 use native.Mathlib.Omega.{arith}
 use lib.ListN.{length, getD, length-map}
 use Rattle.base.specs.Lists.{repeat}
+use Rattle.base.specs.Sets.{Inside, Toward}
 use Rattle.base.proofs.ListLaws.{repeat-add, repeat-suc, repeat-stays, repeat-keeps}
-use Rattle.base.proofs.Inside.{Inside, inside-repeat, Toward, toward-refl, toward-mono, toward-start, constant-at, waiting-le, rests, passes-none}
+use Rattle.base.proofs.Inside.{inside-repeat, toward-refl, toward-mono, toward-start, constant-at, waiting-le, rests, passes-none}
 use Rattle.formula.specs.Formula.{Formula}
 use Rattle.formula.proofs.Closed.{Closed}
 use Rattle.lasso.specs.Lasso.{Lasso, Positions, holds}

@@ -8,7 +8,8 @@ use Prim.Native.Nat.{ℕ, zero, suc, _<_}
 use native.Mathlib.Omega.{arith}
 use lib.ListN.{length, getD, length-append, length-map}
 use Rattle.base.proofs.ListLaws.{repeat-keeps}
-use Rattle.base.proofs.Inside.{Below, below-least, below-greatest, Inside, inside-at, inside-refl, inside-append, inside-tail, inside-repeat}
+use Rattle.base.specs.Sets.{Below, Inside}
+use Rattle.base.proofs.Inside.{below-least, below-greatest, inside-at, inside-refl, inside-append, inside-tail, inside-repeat}
 use Rattle.formula.specs.Formula.{Formula}
 use Rattle.formula.proofs.Closed.{Closed}
 use Rattle.lasso.specs.Lasso.{Lasso, Positions, leaf-at, joined, combine, before, holds}

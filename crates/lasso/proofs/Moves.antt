@@ -5,7 +5,8 @@ use mathlib.Core.Bool.{Bool, true, false, not, true≢false}
 use Prim.Native.Nat.{ℕ, _<_}
 use native.Mathlib.Omega.{arith}
 use lib.ListN.{length, getD}
-use Rattle.base.proofs.Inside.{Below, below-true, below-of, below-least, below-greatest, inside-at, inside-of, Toward}
+use Rattle.base.specs.Sets.{Below, Toward}
+use Rattle.base.proofs.Inside.{below-true, below-of, below-least, below-greatest, inside-at, inside-of}
 use Rattle.lasso.specs.Lasso.{Positions, joined}
 use Rattle.lasso.proofs.Monotone.{below-joined}
 

@@ -7,12 +7,12 @@ use lib.Dec.{eqb, ltb}
 use lib.ListN.{length, getD, take, drop}
 use Rattle.base.specs.Lists.{numbers}
 use Rattle.base.specs.Bits.{bit}
-use Rattle.base.proofs.Inside.{Toward}
+use Rattle.base.specs.Sets.{Toward}
 use Rattle.formula.specs.Formula.{Formula, size}
 use Rattle.formula.specs.Table.{Operator}
 use Rattle.formula.specs.Reading.{Scope}
 use Rattle.formula.specs.Rows.{operator-at, end-at}
-use Rattle.formula.proofs.WellFormed.{Stands}
+use Rattle.formula.specs.Stands.{Stands}
 use Rattle.lasso.specs.Lasso.{Lasso, Positions, leaf-at, joined, sets, labelling, meets}
 use Rattle.lasso.specs.Truth.{asked, written}
 use Rattle.lasso.specs.Answer.{answer}

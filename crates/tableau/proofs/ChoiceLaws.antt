@@ -11,9 +11,10 @@ use lib.Dec.{T, eqb}
 use lib.ListN.{length}
 use lib.Pow.{pow-add}
 use Rattle.base.specs.Lists.{numbers}
+use Rattle.base.specs.Sets.{Inside}
 use Rattle.base.proofs.BoolLaws.{by-test, of-T, and-right}
 use Rattle.base.proofs.MemberLaws.{numbers-in}
-use Rattle.base.proofs.Inside.{Inside, inside-both}
+use Rattle.base.proofs.Inside.{inside-both}
 use Rattle.formula.specs.Table.{Operator, Table, operator}
 use Rattle.tableau.specs.Saturation.{Subset, has, moves, saturate}
 use Rattle.tableau.specs.Transition.{is-or, ors, choice-of, choices, Transition, transitions}

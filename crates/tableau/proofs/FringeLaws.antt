@@ -17,9 +17,10 @@ use lib.Pow.{pow-pos}
 use borrow.Author.Tests.{eqb-true, eqb-false, ne-eqb}
 use Rattle.base.specs.Lists.{member}
 use Rattle.base.specs.Bits.{bit, word, Lowest, Without}
+use Rattle.base.specs.Sets.{Inside}
 use Rattle.base.proofs.BoolLaws.{by-test, to-T, or-cases, or-left, or-right}
 use Rattle.base.proofs.BitLaws.{bit-or, bit-xor}
-use Rattle.base.proofs.Inside.{Inside, inside-length, inside-refl, inside-trans, inside-both}
+use Rattle.base.proofs.Inside.{inside-length, inside-refl, inside-trans, inside-both}
 use Rattle.base.proofs.LowestLaws.{taken-off}
 use Rattle.base.proofs.MemberLaws.{member-of}
 use Rattle.base.proofs.NumberLaws.{values-at}

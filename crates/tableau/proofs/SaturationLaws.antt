@@ -12,10 +12,11 @@ use native.Mathlib.Nat.{add-zero, zero-add, suc-add, add-suc}
 use lib.Dec.{T}
 use lib.ListN.{length, set}
 use Rattle.base.specs.Lists.{same-bit}
+use Rattle.base.specs.Sets.{Below, Inside}
 use Rattle.base.proofs.BoolLaws.{by-test, of-T, to-T, same-bit-sound, same-bit-refl}
 use Rattle.base.proofs.MemberLaws.{alike-sound, alike-refl}
 use Rattle.base.proofs.ListLaws.{repeat-keeps}
-use Rattle.base.proofs.Inside.{Below, below-greatest, Inside, inside-at, inside-of, inside-length, inside-refl, inside-trans, inside-both, waiting-le, rests}
+use Rattle.base.proofs.Inside.{below-greatest, inside-at, inside-of, inside-length, inside-refl, inside-trans, inside-both, waiting-le, rests}
 use Rattle.formula.specs.Table.{Operator, Table, operator}
 use Rattle.tableau.specs.Saturation.{Subset, has, same-subset, nothing, add, moves, sweep, saturate}
 

@@ -12,10 +12,11 @@ use lib.Bits.{bitOr, bitXor}
 use lib.Dec.{T, eqb}
 use lib.ListN.{length}
 use Rattle.base.specs.Bits.{bit, word, Lowest, Without}
+use Rattle.base.specs.Sets.{Inside}
 use Rattle.base.proofs.BoolLaws.{by-test, of-T, to-T}
 use Rattle.base.proofs.TestLaws.{not-of-T}
 use Rattle.base.proofs.WordLaws.{bit-zero, bit-suc, word-bit}
-use Rattle.base.proofs.Inside.{below-of, below-least, Inside, inside-length}
+use Rattle.base.proofs.Inside.{below-of, below-least, inside-length}
 use Rattle.formula.specs.Table.{Operator, Table, operator}
 use Rattle.tableau.specs.Saturation.{Subset, has, moves, saturate}
 use Rattle.tableau.specs.Transition.{is-or, ors, choice-of}

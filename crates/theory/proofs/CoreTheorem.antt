@@ -13,8 +13,7 @@ use lib.ListN.{length, getD, length-map}
 use Rattle.base.proofs.BoolLaws.{of-T, to-T, and-left, and-right}
 use Rattle.formula.specs.Formula.{Formula}
 use Rattle.formula.specs.Table.{Operator, Table, table}
-use Rattle.formula.proofs.Limits.{Ranged}
-use Rattle.formula.proofs.Guarded.{Guarded}
+use Rattle.formula.specs.Stands.{Ranged, Guarded}
 use Rattle.lasso.specs.Lasso.{Lasso, meets, holds as lasso-holds}
 use Rattle.tableau.specs.Saturation.{Subset, has, nothing}
 use Rattle.tableau.specs.Transition.{Transition}

@@ -15,7 +15,8 @@ use Rattle.base.proofs.ListLaws.{Each, each-left, each-right, each-of}
 use Rattle.formula.specs.Formula.{Formula, size}
 use Rattle.formula.specs.Table.{Operator}
 use Rattle.formula.specs.Reading.{Scope}
-use Rattle.formula.proofs.WellFormed.{sits-first, Stands, stands-left, stands-right, stands-next, stands-body}
+use Rattle.formula.specs.Stands.{Stands}
+use Rattle.formula.proofs.WellFormed.{sits-first, stands-left, stands-right, stands-next, stands-body}
 use Rattle.tableau.specs.Saturation.{moves}
 
 -- of each subformula, how many next operators stand around it

@@ -13,9 +13,9 @@ use borrow.Author.Tests.{eq-eqb, ne-eqb}
 use Rattle.formula.specs.Formula.{Leaf, Formula, size}
 use Rattle.formula.specs.Table.{Operator, Table, table, ends-from, operator}
 use Rattle.formula.specs.Reading.{Scope}
-use Rattle.formula.proofs.Limits.{Ranged, size-some, is-fix as formula-fix}
-use Rattle.formula.proofs.Guarded.{Guarded}
-use Rattle.formula.proofs.WellFormed.{sits-first, end-in, Stands, stands-left, stands-right, stands-next, stands-body, Single, Operands, Shaped, each-shaped, stands-whole, table-size}
+use Rattle.formula.specs.Stands.{Ranged, is-fix as formula-fix, Guarded, Stands}
+use Rattle.formula.proofs.Limits.{size-some}
+use Rattle.formula.proofs.WellFormed.{sits-first, end-in, stands-left, stands-right, stands-next, stands-body, Single, Operands, Shaped, each-shaped, stands-whole, table-size}
 use Rattle.lasso.specs.Lasso.{Lasso, Positions, leaf-at, holds as lasso-holds}
 use Rattle.tableau.specs.Saturation.{moves}
 use Rattle.tableau.specs.Transition.{next-of}

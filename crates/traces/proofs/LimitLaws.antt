@@ -7,7 +7,8 @@ use lib.ListN.{length}
 use Rattle.formula.specs.Formula.{Leaf}
 use Rattle.formula.specs.Table.{Operator, Table as Operators}
 use Rattle.formula.specs.declared.Table.{Table}
-use Rattle.formula.proofs.Limits.{how-many, is-next, is-fix, table-nexts, table-fixpoints, parse-limited}
+use Rattle.formula.specs.Stands.{is-next, is-fix}
+use Rattle.formula.proofs.Limits.{how-many, table-nexts, table-fixpoints, parse-limited}
 use Rattle.formula.proofs.RowLaws.{Held}
 use Rattle.tableau.specs.Nodes.{operands}
 use Rattle.tableau.specs.Promise.{table-of}
