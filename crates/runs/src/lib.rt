@@ -236,7 +236,7 @@ fn single(
             let t = traces::triples_of(rows, subformulas, r, choice, from);
             let ends = Ends {
                 first: first,
-                last: last,
+                last: last.0,
                 parent: 0,
                 letter: letter as usize,
             };

@@ -21,9 +21,9 @@ use Rattle.base.proofs.MemberLaws.{gather-of}
 use Rattle.base.proofs.WordLaws.{word-lt, word-set, word-none}
 use Rattle.formula.specs.Table.{Operator, Table}
 use Rattle.tableau.specs.Saturation.{Subset, same-subset, nothing, saturate}
-use Rattle.tableau.specs.Transition.{operators-in, within, possible, letter-of, next-of, ors, choice-of, Transition, transition-of, transitions}
+use Rattle.tableau.specs.Transition.{operators-in, within, possible, letter-of, next-of, ors, choice-of, Transition, transition-of, by-word, transitions}
 use Rattle.tableau.specs.Nodes.{root, edges, operands, nodes}
-use Rattle.tableau.specs.Promise.{table-of, Formed, Leads-nowhere, Stepped}
+use Rattle.tableau.specs.Promise.{table-of, Formed, Leads-nowhere, Stepped-by}
 use Rattle.tableau.specs.Area.{eight, put, store, Holds, reachable, Sized, with-one, with-all, leads, outs, Added, Followed, Expanded}
 use Rattle.tableau.specs.declared.Step.the-variants.{Leads}
 use Rattle.tableau.proofs.SaturationLaws.{add-inside}
@@ -139,7 +139,7 @@ module _ (t : Table) (v : Subset) (l : List Subset) where
   led-all =
       ap (with-all same-subset l)
       (sym (ap (map (λ (s : Transition). s .to)) (gather-map (λ w. transition-of t w (saturate t w v)) (choice-of t) (numbers 0 (2 ^ ors t)))
-      ∙ map-gather (λ (s : Transition). s .to) (λ (x : ℕ). transition-of t (choice-of t x) (saturate t (choice-of t x) v)) (numbers 0 (2 ^ ors t))))
+      ∙ map-gather (λ (s : Transition). s .to) (λ (x : ℕ). by-word t x v) (numbers 0 (2 ^ ors t))))
 
   led-full : {capacity known : ℕ} {a area : List ℕ} (n m : ℕ) → n ≤ m → Holds capacity known a area (led t v l n) → capacity < known
       → Holds capacity known a area (led t v l m)
@@ -165,22 +165,21 @@ follow-nowhere {known = known} {capacity} {area} n = record {
       subst⁻¹ (λ (xs : List Transition). Holds capacity known a area (with-all same-subset l (map (λ (y : Transition). y .to) xs))) (n .is v len e) hs;
 }
 
-module _ {rows : List ℕ} {count from choice known capacity : ℕ} {area : List ℕ} (x : ℕ) (c : choice ≡ word (choice-of (table-of rows count) x)) where
-  pub follow-some : {to p r : ℕ} {area′ : List ℕ} → Formed rows count → known ≤ capacity → Stepped rows count choice from (Leads to p)
-      → Added known capacity to area area′ r → Followed rows count from x known capacity area area′ r
-  follow-some {to} {p} {r} {area′} f h st ad = record { is = λ l v a hs sz e len. go l v a hs sz e len }
-    where
-      go : (l : List Subset) (v : Subset) (a : List ℕ) → Holds capacity known a area l → Sized count l → from ≡ word v → length v ≡ count
-          → Holds capacity r a area′ (with-all same-subset l (leads (table-of rows count) v x))
-      go l v a hs sz e len =
-          let t = table-of rows count in
-          let w = choice-of t x in
-          let z = a-step t w (saturate t w v) (st .is w v len c e) in
-          let y = transition-with t w (saturate t w v) .to in
-          let k : leads t v x ≡ y ∷ [] = ap (map (λ (y : Transition). y .to)) (z .exists) in
-          let long : length y ≡ count = of-table rows count (leads-sized t v x) y (subst⁻¹ (List·Memᴰ y) k (List·Memᴰ·head refl)) in
-          subst⁻¹ (λ (ys : List Subset). Holds capacity r a area′ (with-all same-subset l ys)) k
-          (holds-one hs h y (f .few) sz long (subst (λ (n : ℕ). Added known capacity n area area′ r) (z .to-is) ad))
+pub follow-some : {rows : List ℕ} {count from x known capacity to p r : ℕ} {area area′ : List ℕ} → Formed rows count → known ≤ capacity
+    → Stepped-by rows count x from (Leads to p) → Added known capacity to area area′ r → Followed rows count from x known capacity area area′ r
+follow-some {rows} {count} {from} {x} {known} {capacity} {r = r} {area} {area′} f h st ad = record { is = λ l v a hs sz e len. go l v a hs sz e len }
+  where
+    go : (l : List Subset) (v : Subset) (a : List ℕ) → Holds capacity known a area l → Sized count l → from ≡ word v → length v ≡ count
+        → Holds capacity r a area′ (with-all same-subset l (leads (table-of rows count) v x))
+    go l v a hs sz e len =
+        let t = table-of rows count in
+        let w = choice-of t x in
+        let z = a-step t w (saturate t w v) (st .is v len e) in
+        let y = transition-with t w (saturate t w v) .to in
+        let k : leads t v x ≡ y ∷ [] = ap (map (λ (y : Transition). y .to)) (z .exists) in
+        let long : length y ≡ count = of-table rows count (leads-sized t v x) y (subst⁻¹ (List·Memᴰ y) k (List·Memᴰ·head refl)) in
+        subst⁻¹ (λ (ys : List Subset). Holds capacity r a area′ (with-all same-subset l ys)) k
+        (holds-one hs h y (f .few) sz long (subst (λ (n : ℕ). Added known capacity n area area′ r) (z .to-is) ad))
 
 -- the loop over the choice words: the nodes that the first x of them lead to are in the area
 pub record Expanding (rows : List ℕ) (count from known capacity : ℕ) (area₀ : List ℕ) (all x : ℕ) (area : List ℕ) : Type 0 where

@@ -1,6 +1,6 @@
 -- The answer of `transition` is the definition's: what is required of a saturated set, as words, passes the code's three tests exactly
--- if the transition exists (`test-is`), and then has its letter and its node (`letter-is`, `to-is`). Back from an answer: what it says of
--- the definition's transition (`step-nowhere`, `a-step`). Assumes nothing.
+-- if the transition exists (`test-is`), and then has its letter and its node (`letter-is`, `to-is`). The same by a choice word
+-- (`stepped-none`, `stepped-choice`). Back from an answer: what it says of the definition's transition (`step-nowhere`, `a-step`). Assumes nothing.
 use mathlib.Core.Path.{_≡_, refl, sym, ap, subst⁻¹, _∙_}
 use mathlib.Core.Logic.{inl, inr}
 use mathlib.Core.Bool.{Bool, true, false, cond, not, _&&_}
@@ -20,7 +20,7 @@ use Rattle.formula.specs.Table.{Operator, Table}
 use Rattle.formula.specs.Rows.{operator-at}
 use Rattle.tableau.specs.Saturation.{Subset, nothing, add, saturate}
 use Rattle.tableau.specs.Transition.{operators-in, requires, next-of, possible, letter-of, choice-of, within, transition-of}
-use Rattle.tableau.specs.Promise.{table-of, Row, Formed, with-bits, Saturated, Leads-nowhere, Required, Required-by, step, Stepped}
+use Rattle.tableau.specs.Promise.{table-of, Row, Formed, with-bits, Saturated, Leads-nowhere, Required, Required-by, step, Stepped, Stepped-by}
 use Rattle.tableau.specs.declared.Requirement.{Requirement}
 use Rattle.tableau.specs.declared.Step.{Step}
 use Rattle.tableau.specs.declared.Step.the-variants.{Leads, Nothing}
@@ -128,14 +128,21 @@ no-step t w s = by (within w s && possible (operators-in t s))
     by true e = let z : _≡_ {A = ℕ} 0 1 = cc in absurd (omega arith)
     by false e = refl
 
-pub step-nowhere : {rows : List ℕ} {count choice node : ℕ} {r : Step} (x : ℕ) → choice ≡ word (choice-of (table-of rows count) x)
-    → Stepped rows count choice node r → r ≡ Nothing → Leads-nowhere rows count node x
-step-nowhere {rows} {count} x c st q = record {
-  is = λ v l n.
-      let t = table-of rows count in
-      let w = choice-of t x in
-      no-step t w (saturate t w v) (sym q ∙ st .is w v l c n);
-}
+module _ {rows : List ℕ} {count x node : ℕ} where
+  -- the answer for a choice word: none where it is known to lead nowhere, or that for its choice
+  pub stepped-none : Leads-nowhere rows count node x → Stepped-by rows count x node Nothing
+  stepped-none h = record { is = λ v l n. ap step (sym (h .is v l n)) }
+
+  pub stepped-choice : {choice : ℕ} {r : Step} → choice ≡ word (choice-of (table-of rows count) x) → Stepped rows count choice node r → Stepped-by rows count x node r
+  stepped-choice c st = record { is = λ v l n. st .is (choice-of (table-of rows count) x) v l c n }
+
+  pub step-nowhere : {r : Step} → Stepped-by rows count x node r → r ≡ Nothing → Leads-nowhere rows count node x
+  step-nowhere st q = record {
+    is = λ v l n.
+        let t = table-of rows count in
+        let w = choice-of t x in
+        no-step t w (saturate t w v) (sym q ∙ st .is v l n);
+  }
 
 pub record Found (t : Table) (w s : Subset) (to letter : ℕ) : Type 0 where
   pub exists : transition-of t w s ≡ transition-with t w s ∷ []

@@ -10,8 +10,8 @@ use Rattle.base.specs.Lists.{gather, any}
 use Rattle.base.specs.Bits.{word}
 use Rattle.base.specs.Search.{Item}
 use Rattle.formula.specs.Table.{Table}
-use Rattle.tableau.specs.Saturation.{Subset, same-subset, saturate}
-use Rattle.tableau.specs.Transition.{Transition, choice-of, transition-of, transitions}
+use Rattle.tableau.specs.Saturation.{Subset, same-subset}
+use Rattle.tableau.specs.Transition.{Transition, by-word, transitions}
 use Rattle.tableau.specs.Nodes.{nodes}
 use Rattle.tableau.specs.Promise.{table-of}
 
@@ -79,7 +79,7 @@ module _ {K : Type 0} (same : K → K → Bool) where
 
 -- the nodes that the transition of a choice word leads to: one or none
 abbrev pub leads : Table → Subset → ℕ → List Subset
-leads t v x = map (λ (s : Transition). s .to) (transition-of t (choice-of t x) (saturate t (choice-of t x) v))
+leads t v x = map (λ (s : Transition). s .to) (by-word t x v)
 
 -- those that all transitions of a node lead to
 abbrev pub outs : Table → Subset → List Subset

@@ -13,7 +13,7 @@ use Rattle.base.specs.Bits.{bit, word}
 use Rattle.formula.specs.Table.{Operator, Table}
 use Rattle.formula.specs.Rows.{operators-of}
 use Rattle.tableau.specs.Saturation.{Subset, has, saturate}
-use Rattle.tableau.specs.Transition.{operators-in, requires, is-false, next-of, ors, choice-of, Transition, transition-of}
+use Rattle.tableau.specs.Transition.{operators-in, requires, is-false, next-of, ors, choice-of, Transition, transition-of, by-word}
 use Rattle.tableau.specs.declared.Requirement.{Requirement}
 use Rattle.tableau.specs.declared.Step.{Step}
 use Rattle.tableau.specs.declared.Step.the-variants.{Leads, Nothing}
@@ -63,8 +63,7 @@ pub record Widest (rows : List ℕ) (count low high node r : ℕ) : Type 0 where
 
 -- The choice word x has no transition from the node.
 pub record Leads-nowhere (rows : List ℕ) (count node x : ℕ) : Type 0 where
-  pub is : (v : Subset) → length v ≡ count → node ≡ word v
-      → transition-of (table-of rows count) (choice-of (table-of rows count) x) (saturate (table-of rows count) (choice-of (table-of rows count) x) v) ≡ []
+  pub is : (v : Subset) → length v ≡ count → node ≡ word v → by-word (table-of rows count) x v ≡ []
 
 -- A choice word between low and high with a bit of r has no transition: it picks at an or that is not met.
 pub record Unmet-between (rows : List ℕ) (count low high node r : ℕ) : Type 0 where
@@ -109,3 +108,7 @@ step (x ∷ xs) = Leads (word (x .to)) (x .letter)
 pub record Stepped (rows : List ℕ) (count choice node : ℕ) (r : Step) : Type 0 where
   pub is : (w v : Subset) → length v ≡ count → choice ≡ word w → node ≡ word v
       → r ≡ step (transition-of (table-of rows count) w (saturate (table-of rows count) w v))
+
+-- The step r of a node under a choice word is the definition's.
+pub record Stepped-by (rows : List ℕ) (count x node : ℕ) (r : Step) : Type 0 where
+  pub is : (v : Subset) → length v ≡ count → node ≡ word v → r ≡ step (by-word (table-of rows count) x v)

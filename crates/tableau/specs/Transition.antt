@@ -95,6 +95,10 @@ transition-of t w s =
     let one = found ∷ [] in
     cond (within w s && possible os) one []
 
+-- the transition of a node under a choice word, if it exists
+abbrev pub by-word : Table → (choice-word : ℕ) → Subset → List Transition
+by-word t x v = transition-of t (choice-of t x) (saturate t (choice-of t x) v)
+
 -- the transitions of a node, by rising choice word
 unfoldable pub transitions : Table → Subset → List Transition
 unfolding possible letter-of

@@ -7,7 +7,7 @@ ghost use Rattle.base.specs.Bits.{bit, word};
 ghost use Rattle.formula.specs.Rows.{operator-at};
 ghost use Rattle.tableau.specs.Saturation.{moves};
 ghost use Rattle.tableau.specs.Transition.{ors, choice-of};
-ghost use Rattle.tableau.specs.Promise.{table-of, Formed, Placed, with-bits, Saturated, Requires-more, Required-by, Stepped, Widest, Unmet-between, is-unmet, Unmet};
+ghost use Rattle.tableau.specs.Promise.{table-of, Formed, Placed, with-bits, Saturated, Requires-more, Required-by, Stepped, Stepped-by, Widest, Unmet-between, is-unmet, Unmet};
 ghost use Rattle.tableau.specs.Area.{eight, put, words-at, index, zeros, Room, Holds, reachable, Added, Followed, Expanded};
 
 // The number of a node, kept apart from subformulas and positions.
@@ -254,6 +254,25 @@ pub fn transition(rows: &[u8; 144], count: usize, choice: u64, node: u64) -> Ste
     }
 }
 
+// The transition of a node under a choice word. Most words that pick at an or that they do not meet are known by `unmet`.
+pub fn by_word(
+    rows: &[u8; 144],
+    count: usize,
+    unmet: &[u64; 24],
+    choice_word: u64,
+    node: u64,
+) -> Step
+    requires { ⌜ Formed (now rows) count ⌝ }
+    requires { ⌜ Unmet (now rows) count node (now unmet) ⌝ }
+    ensures { λ r. ⌜ Stepped-by (now (rows .entry)) count «choice_word» node r ⌝ }
+{
+    if is_unmet(unmet, choice_word) {
+        return Step::Nothing;
+    }
+    let choice = choice_of(rows, count, choice_word);
+    transition(rows, count, choice, node)
+}
+
 // Eight bytes, the lowest first.
 fn get8(area: &[u8], at: usize) -> u64
     requires { ⌜ at + 8 ≤ length (now area) ⌝ }
@@ -298,18 +317,18 @@ pub fn node(area: &[u8], number: NodeNumber) -> u64
 }
 
 // The number of a node among the first `known`, or `known`.
-pub fn find(area: &[u8], known: usize, set: u64) -> usize
+pub fn find(area: &[u8], known: usize, set: u64) -> NodeNumber
     requires { ⌜ (known ≤ 1024) × (8 * known ≤ length (now area)) ⌝ }
-    ensures { λ r. ⌜ r ≡ index set (words-at (now (area .entry)) 0 known) ⌝ }
+    ensures { λ r. ⌜ r .0 ≡ index set (words-at (now (area .entry)) 0 known) ⌝ }
 {
     let mut i = 0;
     while i < known {
         if node(area, NodeNumber(i)) == set {
-            return i;
+            return NodeNumber(i);
         }
         i += 1;
     }
-    known
+    NodeNumber(known)
 }
 
 // How many nodes are known once `set` is one of them; capacity + 1 where there is no room for it.
@@ -318,7 +337,8 @@ fn add(area: &mut [u8], known: usize, capacity: usize, set: u64) -> usize
     ensures { λ r. ⌜ Added known capacity set (now (area .entry)) (now (area .exit)) r ⌝ }
     ensures { λ r. ⌜ (known ≤ r) × (r ≤ capacity + 1) ⌝ }
 {
-    if find(area, known, set) < known {
+    let found = find(area, known, set);
+    if found.0 < known {
         return known;
     }
     if known < capacity {
@@ -328,7 +348,7 @@ fn add(area: &mut [u8], known: usize, capacity: usize, set: u64) -> usize
     known + 1
 }
 
-// Adds the node that a choice word leads to. A word that picks at an or that it does not meet leads nowhere: most are passed over so.
+// Adds the node that the transition of a choice word leads to.
 fn follow(
     rows: &[u8; 144],
     count: usize,
@@ -345,11 +365,7 @@ fn follow(
     ensures { λ r. ⌜ Followed (now (rows .entry)) count from «choice_word» known capacity (now (area .entry)) (now (area .exit)) r ⌝ }
     ensures { λ r. ⌜ (known ≤ r) × (r ≤ capacity + 1) ⌝ }
 {
-    if is_unmet(unmet, choice_word) {
-        return known;
-    }
-    let choice = choice_of(rows, count, choice_word);
-    match transition(rows, count, choice, from) {
+    match by_word(rows, count, unmet, choice_word, from) {
         Step::Nothing => known,
         Step::Leads { to, letter: _ } => add(area, known, capacity, to),
     }

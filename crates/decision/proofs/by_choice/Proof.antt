@@ -1,7 +1,7 @@
 -- `decision::by_choice` tries the transition of one choice word, which is the definition's; a word that the test tells has none.
 use mathlib.Core.Path.{sym, _∙_}
 use Rattle.tableau.proofs.UnmetLaws.{unmet-nowhere}
-use Rattle.tableau.proofs.StepLaws.{step-nowhere}
+use Rattle.tableau.proofs.StepLaws.{stepped-choice, step-nowhere}
 use Rattle.decision.proofs.TryLaws.{tries-nowhere, tries-found, tries-other}
 use borrow.Author.Needs.{needs}
 use Rattle.decision.proofs.by_choice.Statement.{statement}
@@ -36,7 +36,7 @@ returns-2 c =
 returns-3 : tie.Need-returns-3
 returns-3 c =
     let a = c .before .before .before .before .before .before .args in
-    tries-nowhere (a .rows .now) (a .count) (a .choice-word) (a .number) (a .set) (step-nowhere (a .choice-word) (c .before .before .before .choice-of .ensures) (c .before .before .transition .ensures) (c .enum-told .given .1))
+    tries-nowhere (a .rows .now) (a .count) (a .choice-word) (a .number) (a .set) (step-nowhere (stepped-choice (c .before .before .before .choice-of .ensures) (c .before .before .transition .ensures)) (c .enum-told .given .1))
 
 returns-4 : tie.Need-returns-4
 returns-4 c =

@@ -4,7 +4,7 @@ use mathlib.Core.Path.{sym, subst, _∙_}
 use Prim.Native.Nat.{ℕ}
 use Rattle.tableau.specs.Promise.{Leads-nowhere, Stepped}
 use Rattle.tableau.proofs.UnmetLaws.{unmet-nowhere}
-use Rattle.tableau.proofs.StepLaws.{step-nowhere}
+use Rattle.tableau.proofs.StepLaws.{stepped-choice, step-nowhere}
 use Rattle.runs.proofs.SingleLaws.{index-small, single-nowhere, single-letter, single-some}
 use borrow.Author.Needs.{needs}
 use native.Mathlib.Omega.{arith}
@@ -45,7 +45,7 @@ same-length : tie.Need-same-length
 same-length c = search needs
 
 returns-2 : tie.Need-returns-2
-returns-2 c = let s = c .before .before .before .before .before .before .before .before .before in single-nowhere (s .pre .0) (s .args .number .0) (s .args .choice-word) (s .pre .1 .0 .0) (s .pre .1 .0 .1) (s .pre .1 .1 .1) (subst (λ (n : ℕ). Leads-nowhere (s .args .rows .now) (s .args .subformulas) n (s .args .choice-word)) (c .before .before .before .before .node .ensures) (step-nowhere (s .args .choice-word) (c .before .before .before .choice-of .ensures) (c .before .before .transition .ensures) (c .enum-told .given .1)))
+returns-2 c = let s = c .before .before .before .before .before .before .before .before .before in single-nowhere (s .pre .0) (s .args .number .0) (s .args .choice-word) (s .pre .1 .0 .0) (s .pre .1 .0 .1) (s .pre .1 .1 .1) (subst (λ (n : ℕ). Leads-nowhere (s .args .rows .now) (s .args .subformulas) n (s .args .choice-word)) (c .before .before .before .before .node .ensures) (step-nowhere (stepped-choice (c .before .before .before .choice-of .ensures) (c .before .before .transition .ensures)) (c .enum-told .given .1)))
 
 same-length-2 : tie.Need-same-length-2
 same-length-2 c = search needs
