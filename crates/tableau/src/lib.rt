@@ -1,4 +1,5 @@
 // The tableau of a formula: sets of subformulas as words, bit e for subformula e; transitions by choice words; nodes.
+use formula::Subformula;
 ghost use mathlib.Core.Path.{_≡_};
 ghost use mathlib.Core.List.{_++_};
 ghost use Prim.Native.Nat.{_+_, _*_, _≤_, _<_};
@@ -61,11 +62,12 @@ pub fn choice_of(rows: &[u8; 144], count: usize, choice_word: u64) -> u64
     choice
 }
 
-// The set with the subformulas to which the moves of subformula e go.
-fn moved(rows: &[u8; 144], choice: u64, e: usize, set: u64) -> u64
-    requires { ⌜ Placed (now rows) e ⌝ }
-    ensures { λ r. ⌜ r ≡ with-bits (moves (operator-at (now (rows .entry)) e) (bit choice e)) set ⌝ }
+// The set with the subformulas to which the moves of one go.
+fn moved(rows: &[u8; 144], choice: u64, s: Subformula, set: u64) -> u64
+    requires { ⌜ Placed (now rows) (s .0) ⌝ }
+    ensures { λ r. ⌜ r ≡ with-bits (moves (operator-at (now (rows .entry)) (s .0)) (bit choice (s .0))) set ⌝ }
 {
+    let e = s.0;
     let op = rows[e];
     let argument = base::wide(rows[48 + e]);
     if op == 5 {
@@ -96,7 +98,7 @@ pub fn saturated(rows: &[u8; 144], count: usize, choice: u64, node: u64) -> u64
     let mut fringe = base::low(node, count);
     while fringe != 0 {
         let e = base::lowest(fringe);
-        let grown = moved(rows, choice, e, set);
+        let grown = moved(rows, choice, Subformula(e), set);
         fringe = base::without(fringe, e) | (grown ^ set);
         set = grown;
     }
@@ -115,8 +117,8 @@ fn widest(rows: &[u8; 144], count: usize, low: u64, high: u64, node: u64) -> u64
     let mut fringe = base::low(node, count);
     while fringe != 0 {
         let e = base::lowest(fringe);
-        let half = moved(rows, lower, e, set);
-        let wider = moved(rows, upper, e, half);
+        let half = moved(rows, lower, Subformula(e), set);
+        let wider = moved(rows, upper, Subformula(e), half);
         fringe = base::without(fringe, e) | (wider ^ set);
         set = wider;
     }
@@ -182,11 +184,12 @@ pub fn is_unmet(unmet: &[u64; 24], choice_word: u64) -> bool
     false
 }
 
-// What subformula e requires beside the rest.
-fn with_required(rows: &[u8; 144], e: usize, q: Requirement) -> Requirement
-    requires { ⌜ Placed (now rows) e ⌝ }
-    ensures { λ r. ⌜ Requires-more (operator-at (now (rows .entry)) e) q r ⌝ }
+// What a subformula requires beside the rest.
+fn with_required(rows: &[u8; 144], s: Subformula, q: Requirement) -> Requirement
+    requires { ⌜ Placed (now rows) (s .0) ⌝ }
+    ensures { λ r. ⌜ Requires-more (operator-at (now (rows .entry)) (s .0)) q r ⌝ }
 {
+    let e = s.0;
     let op = rows[e];
     let argument = base::wide(rows[48 + e]);
     let present = if op == 3 {
@@ -226,7 +229,7 @@ fn required_by(rows: &[u8; 144], count: usize, set: u64) -> Requirement
     let mut rest = base::low(set, count);
     while rest != 0 {
         let e = base::lowest(rest);
-        all = with_required(rows, e, all);
+        all = with_required(rows, Subformula(e), all);
         rest = base::without(rest, e);
     }
     all
