@@ -1,5 +1,6 @@
 pub mod SaturationLaws
 pub mod TransitionLaws
+pub mod EmptyNode
 pub mod ChoiceLaws
 pub mod NodeLaws
 pub mod WordSets

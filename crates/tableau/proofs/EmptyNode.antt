@@ -1,0 +1,52 @@
+-- "The empty node is a node; it steps to itself with place 0000." Nothing is saturated to nothing, which requires nothing, so each transition of the empty
+-- node leads back to it with no signal (`empty-step`), and there is one, with no pick (`empty-steps`). Assumes nothing.
+use mathlib.Core.Path.{_≡_, refl, ap, subst, _∙_}
+use mathlib.Core.Bool.{Bool, true, false, cond}
+use mathlib.Core.List.{[], _∷_, List·Memᴰ, Memᴰ·map}
+use Prim.Native.Nat.{_+_, _/_, _%_, _^_}
+use native.Mathlib.Omega.{arith}
+use lib.Dec.{T, eqb}
+use lib.Pow.{pow-pos}
+use Rattle.base.proofs.MemberLaws.{numbers-in}
+use Rattle.base.proofs.Inside.{inside-refl}
+use Rattle.formula.specs.Table.{Table}
+use Rattle.tableau.specs.Saturation.{Subset, has, nothing, saturate}
+use Rattle.tableau.specs.Transition.{operators-in, letter-of, is-or, ors, choice-of, choices, Transition, transitions}
+use Rattle.tableau.proofs.SaturationLaws.{inside-has, subset-ext, nothing-has, saturate-length, saturate-least}
+use Rattle.tableau.proofs.TransitionLaws.{transition-with, transition-is, transition-in}
+
+none-in : (t : Table) → operators-in t (nothing t) ≡ []
+none-in [] = refl
+none-in (o ∷ t) = none-in t
+
+none-picked : (t : Table) → choice-of t 0 ≡ nothing t
+none-picked [] = refl
+none-picked (o ∷ t) = by (is-or o) (none-picked t)
+  where
+    by : (b : Bool) → choice-of t 0 ≡ nothing t → cond b (eqb (0 % 2) 1 ∷ choice-of t (0 / 2)) (false ∷ choice-of t 0) ≡ false ∷ nothing t
+    by true h = ap (λ (w : Subset). false ∷ w) h
+    by false h = ap (λ (w : Subset). false ∷ w) h
+
+module _ (t : Table) where
+  saturated-nothing : (w : Subset) → saturate t w (nothing t) ≡ nothing t
+  saturated-nothing w =
+      subset-ext (saturate t w (nothing t)) (nothing t) (saturate-length t w (nothing t))
+      (λ e h. inside-has (saturate-least t w (inside-refl (nothing t)) (λ i m h r l. absurd (nothing-has t i h))) e h) (λ e h. absurd (nothing-has t e h))
+
+  -- the transition of the empty node with a choice
+  back : (w : Subset) → transition-with t w (saturate t w (nothing t)) ≡ record { choice = w; letter = 0; to = nothing t }
+  unfolding letter-of
+  back w = ap (transition-with t w) (saturated-nothing w) ∙ rw (none-in t)
+
+  pub empty-step : (x : Transition) → List·Memᴰ x (transitions t (nothing t)) → (x .to ≡ nothing t) × (x .letter ≡ 0)
+  empty-step x m =
+      let e = transition-is t (nothing t) x m ∙ back (x .choice) in
+      (ap (λ (y : Transition). y .to) e, ap (λ (y : Transition). y .letter) e)
+
+  pub empty-steps : List·Memᴰ (record { choice = nothing t; letter = 0; to = nothing t }) (transitions t (nothing t))
+  empty-steps =
+      subst (λ (x : Transition). List·Memᴰ x (transitions t (nothing t))) (back (nothing t))
+      (transition-in t (nothing t) (nothing t)
+      (subst (λ (w : Subset). List·Memᴰ w (choices t)) (none-picked t) (Memᴰ·map (choice-of t) (numbers-in 0 (2 ^ ors t) 0 (omega arith) (omega (arith, pow-pos (ors t))))))
+      (λ e h. absurd (nothing-has t e h)) 0
+      (λ e h. absurd (nothing-has t e (subst (λ (s : Subset). T (has s e)) (saturated-nothing (nothing t)) h))))
