@@ -137,31 +137,11 @@ fn write_stem(
     }
 }
 
-// 1 + the number of the profile that profile p goes on from, or 0.
-fn parent(area: &[u8], shelf: Shelf, p: usize) -> usize
-    requires { ⌜ Lent shelf (length (now area)) ⌝ }
-    requires { ⌜ p < shelf .capacity ⌝ }
-    ensures { λ r. ⌜ r ≡ record-of shelf (now (area .entry)) p .parent ⌝ }
-{
-    let at = shelf.base + 192 * p;
-    runs::get2(area, at + 148)
-}
-
 fn narrow(x: usize) -> u16
     requires { ⌜ x < 65536 ⌝ }
     ensures { λ r. ⌜ r ≡ x ⌝ }
 {
     x as u16
-}
-
-// The last letter of profile p.
-fn last_letter(area: &[u8], shelf: Shelf, p: usize) -> u16
-    requires { ⌜ Lent shelf (length (now area)) ⌝ }
-    requires { ⌜ p < shelf .capacity ⌝ }
-    ensures { λ r. ⌜ r ≡ record-of shelf (now (area .entry)) p .label ⌝ }
-{
-    let at = shelf.base + 192 * p;
-    narrow(runs::get2(area, at + 150))
 }
 
 // How many transitions profile p has.
@@ -174,7 +154,8 @@ fn length_of(area: &[u8], shelf: Shelf, p: usize) -> usize
     let mut at = p + 1;
     while 0 < at {
         n += 1;
-        at = parent(area, shelf, at - 1);
+        let e = runs::ends_of(area, shelf, at - 1);
+        at = e.parent;
     }
     n
 }
@@ -190,8 +171,9 @@ fn write_cycle(area: &[u8], shelf: Shelf, p: usize, letters: &mut [u16], from: u
     let mut left = n;
     while 0 < at {
         left -= 1;
-        letters[from + left] = last_letter(area, shelf, at - 1);
-        at = parent(area, shelf, at - 1);
+        let e = runs::ends_of(area, shelf, at - 1);
+        letters[from + left] = narrow(e.letter);
+        at = e.parent;
     }
 }
 
@@ -201,11 +183,11 @@ fn is_accepting(area: &[u8], shelf: Shelf, p: usize, mask: u8) -> bool
     requires { ⌜ p < shelf .capacity ⌝ }
     ensures { λ r. ⌜ r ≡ accepts (bit mask) (shelf .n) (record-of shelf (now (area .entry)) p) ⌝ }
 {
-    let at = shelf.base + 192 * p;
-    if runs::get2(area, at + 144) != runs::get2(area, at + 146) {
+    let e = runs::ends_of(area, shelf, p);
+    if e.first != e.last {
         return false;
     }
-    !triples::is_rejecting(area, at, mask, shelf.n)
+    !triples::is_rejecting(area, runs::place(shelf, p), mask, shelf.n)
 }
 
 // The number of the first such profile, or `count`.
@@ -241,9 +223,8 @@ fn witnessed(
     ensures { λ r. ⌜ Answers (table-of (now (rows .entry)) count) (concluded (table-of (now (rows .entry)) count)) (now (letters .entry)) (now (letters .exit)) r ⌝ }
 {
     let cycle = length_of(area, shelf, p);
-    let at = shelf.base + 192 * p;
-    let first = runs::get2(area, at + 144);
-    let stem = write_stem(rows, count, area, NodeNumber(first), letters);
+    let e = runs::ends_of(area, shelf, p);
+    let stem = write_stem(rows, count, area, NodeNumber(e.first), letters);
     write_cycle(area, shelf, p, letters, stem, cycle);
     Verdict::Satisfiable {
         stem: stem,

@@ -1,5 +1,6 @@
 -- The bytes of a record: what is put is what is read (`put-two`), the five stores of a record make the profile that is meant (`written`),
--- a record stays while bytes elsewhere change (`record-kept`), and the tests that compare a record with a profile. Assumes nothing.
+-- a record stays while bytes elsewhere change (`record-kept`), what is read of a record is its own (`ends-are`,
+-- `carried-at`), and the tests that compare a record with a profile. Assumes nothing.
 use mathlib.Core.Path.{_≡_, refl, sym, ap, subst⁻¹, _∙_}
 use mathlib.Core.Bool.{Bool, false, _&&_}
 use mathlib.Core.List.{List}
@@ -12,11 +13,12 @@ use lib.ListN.{length, getD, set, length-set}
 use lib.Seq.{getD-set-same, getD-set-other}
 use Rattle.base.specs.Bits.{bit}
 use Rattle.coded.specs.Triples.{Triples, same-triples}
-use Rattle.coded.specs.Runs.{same-profile}
+use Rattle.coded.specs.Runs.{Profile, same-profile}
 use Rattle.coded.proofs.TriplesLaws.{those-same}
 use Rattle.triples.specs.Promise.{bytes, bytes-from, bits, triples-in, triples-at}
 use Rattle.runs.specs.declared.Ends.{Ends}
-use Rattle.runs.specs.Stored.{two, profile-of, found-of, found-at, Changed}
+use Rattle.runs.specs.declared.Shelf.{Shelf}
+use Rattle.runs.specs.Stored.{two, profile-of, found-of, found-at, place, record-of, Ends-of, Changed}
 
 -- bytes that change, and those that do not
 pub changed-none : (from to : ℕ) (a : List ℕ) → Changed from to a a
@@ -66,20 +68,20 @@ module _ {from to : ℕ} {a b : List ℕ} (c : Changed from to a b) where
       λ i. found-of (record { first = p i; last = q i; parent = r i; letter = s i }) (t i)
 
 -- two bytes are put
-module _ (a : List ℕ) (at x : ℕ) (h : at + 2 ≤ length a) where
+module _ (a : List ℕ) {at to : ℕ} (x : ℕ) (e : at ≡ to) (h : to + 2 ≤ length a) where
   abbrev put : List ℕ
   put = set (set a at (x % 256)) (at + 1) (x / 256 % 256)
 
-  pub put-two : x < 65536 → two put at ≡ x
+  pub put-two : x < 65536 → two put to ≡ x
   put-two l =
       let low : getD put at 0 ≡ x % 256 =
       getD-set-other (set a at (x % 256)) (at + 1) at (x / 256 % 256) 0 (λ e. omega arith) ∙ getD-set-same a at (x % 256) 0 (omega arith) in
       let high : getD put (at + 1) 0 ≡ x / 256 % 256 =
       getD-set-same (set a at (x % 256)) (at + 1) (x / 256 % 256) 0 (omega (arith, length-set a at (x % 256))) in
-      omega arith
+      ap (λ (i : ℕ). two put i) (sym e) ∙ omega arith
 
-  pub put-changed : Changed at (at + 2) a put
-  put-changed = changed-set (changed-set (changed-none at (at + 2) a) at (x % 256) (omega arith) (omega arith)) (at + 1) (x / 256 % 256) (omega arith) (omega arith)
+  pub put-changed : Changed to (to + 2) a put
+  put-changed = changed-set (changed-set (changed-none to (to + 2) a) at (x % 256) (omega arith) (omega arith)) (at + 1) (x / 256 % 256) (omega arith) (omega arith)
 
 -- one byte of the triples more
 pub store-more : (a t : List ℕ) (at i : ℕ) → at + i < length a → ((j : ℕ) → j < i → getD a (at + j) 0 ≡ getD t j 0)
@@ -91,7 +93,7 @@ store-more a t at i h r j l = go (ℕ-discrete j i)
     go (no q) = getD-set-other a (at + i) (at + j) (getD t i 0) 0 (λ e. q (omega arith)) ∙ r j (omega arith)
 
 -- a record is written: its triples make a0 of a, and then each put the next area
-module _ {a a0 a1 a2 a3 a4 : List ℕ} (t : List ℕ) (at : ℕ) (e : Ends) (c0 : Changed at (at + 144) a a0) (c1 : Changed (at + 144) (at + 144 + 2) a0 a1)
+module _ {a a0 a1 a2 a3 a4 : List ℕ} (t : List ℕ) (at : ℕ) (e : Ends) {start : ℕ} (there : start ≡ at) (c0 : Changed start (start + 144) a a0) (c1 : Changed (at + 144) (at + 144 + 2) a0 a1)
     (c2 : Changed (at + 146) (at + 146 + 2) a1 a2) (c3 : Changed (at + 148) (at + 148 + 2) a2 a3) (c4 : Changed (at + 150) (at + 150 + 2) a3 a4)
   where
     pub written-changed : Changed at (at + 152) a a4
@@ -99,7 +101,7 @@ module _ {a a0 a1 a2 a3 a4 : List ℕ} (t : List ℕ) (at : ℕ) (e : Ends) (c0 
         changed-then (changed-then (changed-then (changed-then (changed-wide c0 (omega arith) (omega arith)) (omega arith) (omega arith) c1) (omega arith) (omega arith) c2)
         (omega arith) (omega arith) c3) (omega arith) (omega arith) c4
 
-    pub written : ((i : ℕ) → i < 144 → getD a0 (at + i) 0 ≡ getD t i 0)
+    pub written : ((i : ℕ) → i < 144 → getD a0 (start + i) 0 ≡ getD t i 0)
         → two a1 (at + 144) ≡ e .first → two a2 (at + 146) ≡ e .last → two a3 (at + 148) ≡ e .parent → two a4 (at + 150) ≡ e .letter
         → (n : ℕ) → n ≤ 12 → found-at n a4 at ≡ found-of e (triples-in n t)
     unfolding found-at
@@ -114,21 +116,34 @@ module _ {a a0 a1 a2 a3 a4 : List ℕ} (t : List ℕ) (at : ℕ) (e : Ends) (c0 
       where
         byte : (i : ℕ) → i < 144 → getD a4 (at + i) 0 ≡ getD t i 0
         byte i l =
-            c4 .below (at + i) (omega arith) ∙ c3 .below (at + i) (omega arith) ∙ c2 .below (at + i) (omega arith) ∙ c1 .below (at + i) (omega arith) ∙ s i l
+            c4 .below (at + i) (omega arith) ∙ c3 .below (at + i) (omega arith) ∙ c2 .below (at + i) (omega arith) ∙ c1 .below (at + i) (omega arith)
+            ∙ ap (λ (k : ℕ). getD a0 (k + i) 0) (sym there) ∙ s i l
+
+-- what is read of a record
+module _ (s : Shelf) (b : List ℕ) (p : ℕ) where
+  abbrev Reads : (offset r : ℕ) → Type 0
+  Reads offset r = (r ≡ two b (place s p + offset)) × (r < 65536)
+
+  pub ends-are : {first last parent letter : ℕ} → Reads 144 first → Reads 146 last → Reads 148 parent → Reads 150 letter
+      → Ends-of (record-of s b p) (record { first = first; last = last; parent = parent; letter = letter })
+  unfolding found-at
+  ends-are f l q k =
+      record { first = f .0; last = l .0; parent = q .0; letter = k .0; small = record { first = f .1; last = l .1; parent = q .1; letter = k .1 } }
+
+  pub carried-at : {at : ℕ} → at ≡ place s p → triples-at (s .n) b at ≡ record-of s b p .at .carried
+  unfolding found-at
+  carried-at e = ap (triples-at (s .n) b) e
 
 -- is it this profile?
-module _ (n : ℕ) (b : List ℕ) (at : ℕ) (e : Ends) (s : Triples) where
+module _ (x : Profile) (e : Ends) (s : Triples) where
   abbrev Same : Bool → Type 0
-  Same r = r ≡ same-profile (found-at n b at .at) (profile-of e s)
+  Same r = r ≡ same-profile x (profile-of e s)
 
-  pub other-first : (two b (at + 144) ≡ e .first → ⊥) → Same false
-  unfolding found-at
-  other-first d = sym (ap (λ (t : Bool). t && eqb (two b (at + 146)) (e .last) && same-triples (triples-at n b at) s) (ne-eqb (two b (at + 144)) (e .first) d))
+  pub other-first : (x .first ≡ e .first → ⊥) → Same false
+  other-first d = sym (ap (λ (t : Bool). t && eqb (x .last) (e .last) && same-triples (x .carried) s) (ne-eqb (x .first) (e .first) d))
 
-  pub other-last : two b (at + 144) ≡ e .first → (two b (at + 146) ≡ e .last → ⊥) → Same false
-  unfolding found-at
-  other-last f d = sym (simp (eq-eqb (two b (at + 144)) (e .first) f, ne-eqb (two b (at + 146)) (e .last) d))
+  pub other-last : x .first ≡ e .first → (x .last ≡ e .last → ⊥) → Same false
+  other-last f d = sym (simp (eq-eqb (x .first) (e .first) f, ne-eqb (x .last) (e .last) d))
 
-  pub same-ends : two b (at + 144) ≡ e .first → two b (at + 146) ≡ e .last → Same (same-triples (triples-at n b at) s)
-  unfolding found-at
-  same-ends f l = sym (simp (eq-eqb (two b (at + 144)) (e .first) f, eq-eqb (two b (at + 146)) (e .last) l))
+  pub same-ends : x .first ≡ e .first → x .last ≡ e .last → Same (same-triples (x .carried) s)
+  same-ends f l = sym (simp (eq-eqb (x .first) (e .first) f, eq-eqb (x .last) (e .last) l))

@@ -1,7 +1,7 @@
 -- Records that stand by rising first node, as those of one transition do (`ones-rising`). A search by halves finds how many begin before a
 -- node: all before `low` do, none from `high` on does (`Halved`), and what the record between them says moves one of the two. Assumes
 -- nothing.
-use mathlib.Core.Path.{_≡_, refl, ap, subst}
+use mathlib.Core.Path.{_≡_, ap, subst}
 use mathlib.Core.List.{List}
 use Prim.Native.Nat.{ℕ, _+_, _≤_, _<_}
 use native.Mathlib.Omega.{arith}
@@ -11,13 +11,8 @@ use Rattle.tableau.specs.Saturation.{Subset}
 use Rattle.coded.specs.Runs.{Found, ones}
 use Rattle.coded.proofs.RiseLaws.{ones-rise}
 use Rattle.runs.specs.declared.Shelf.{Shelf}
-use Rattle.runs.specs.Stored.{two, found-at, place, record-of, stored, first-of, Rising, Parted, Grown}
+use Rattle.runs.specs.Stored.{record-of, stored, first-of, Rising, Parted, Grown}
 use Rattle.runs.proofs.GrowLaws.{stored-length, stored-at}
-
--- the bytes of a record's first node
-pub first-is : (s : Shelf) (b : List ℕ) (p : ℕ) → two b (place s p + 144) ≡ first-of s b p
-unfolding found-at
-first-is s b p = refl
 
 pub rising-kept : (s : Shelf) (a b : List ℕ) {k : ℕ} → ((p : ℕ) → p < k → record-of s b p ≡ record-of s a p) → Rising s a k → Rising s b k
 rising-kept s a b e r p q l h = omega (arith, r p q l h, ap (λ (x : Found). x .at .first) (e p (omega arith)), ap (λ (x : Found). x .at .first) (e q h))
@@ -43,20 +38,20 @@ halved-start s b k node =
 
 module _ {s : Shelf} {b : List ℕ} {k node low high : ℕ} (v : Halved s b k node low high) where
   module _ (rise : Rising s b k) (m : ℕ) (l : low ≤ m) (h : m < high) where
-    pub halved-up : two b (place s m + 144) < node → Halved s b k node (m + 1) high
+    pub halved-up : first-of s b m < node → Halved s b k node (m + 1) high
     halved-up e = record {
       order = omega arith;
       among = v .among;
-      before = λ p q. omega (arith, rise p m (omega arith) (omega (arith, v .among)), first-is s b m);
+      before = λ p q. omega (arith, rise p m (omega arith) (omega (arith, v .among)));
       behind = v .behind;
     }
 
-    pub halved-down : node ≤ two b (place s m + 144) → Halved s b k node low m
+    pub halved-down : node ≤ first-of s b m → Halved s b k node low m
     halved-down e = record {
       order = l;
       among = omega (arith, v .among);
       before = v .before;
-      behind = λ p q r. omega (arith, rise m p q r, first-is s b m);
+      behind = λ p q r. omega (arith, rise m p q r);
     }
 
   pub halved-done : high ≤ low → Parted s b k node low

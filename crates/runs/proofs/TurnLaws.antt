@@ -11,62 +11,62 @@ use borrow.Author.Tests.{ne-eqb, eq-eqb}
 use lib.ListN.{length, getD}
 use Rattle.base.specs.Lists.{numbers}
 use Rattle.base.proofs.AppendLaws.{gather-map}
-use Rattle.coded.specs.Triples.{join}
+use Rattle.coded.specs.Triples.{Triples, join}
 use Rattle.coded.specs.Spread.{adds, spread}
 use Rattle.coded.specs.Runs.{Found, same-profile, follow, longer, profiles-from}
-use Rattle.triples.specs.Promise.{triples-in, triples-at}
+use Rattle.triples.specs.Promise.{triples-in}
 use Rattle.triples.proofs.CellLaws.{triples-copied}
 use Rattle.runs.specs.declared.Ends.{Ends}
 use Rattle.runs.specs.declared.Shelf.{Shelf}
-use Rattle.runs.specs.Stored.{two, found-of, found-at, place, record-of, stored, first-of, Chained, Grown, Added}
+use Rattle.runs.specs.Stored.{found-of, place, record-of, stored, first-of, Ends-of, Chained, Grown, Added}
+use Rattle.runs.proofs.RecordLaws.{carried-at}
 use Rattle.runs.proofs.GrowLaws.{stored-length, stored-at, stored-kept, grown-still, grown-longer, grown-then, with-first, turn-more, turn-stop, turn-past}
 use Rattle.coded.proofs.SpreadLaws.{spread-length, spread-done, spread-step}
 
 pub grown-same : {s : Shelf} {count r : ℕ} {a b : List ℕ} {xs ys : List Found} → xs ≡ ys → Grown s count a r b xs → Grown s count a r b ys
 grown-same {s} {count} {r} {a} {b} e g = subst (Grown s count a r b) e g
 
--- the record at y after the record at x
-module _ (n p : ℕ) (a : List ℕ) (x y : ℕ) where
+-- the record y after the record x
+module _ (n p : ℕ) (x y : Found) where
   abbrev both : Found
   both =
-      found-of (record { first = two a (x + 144); last = two a (y + 146); parent = suc p; letter = two a (y + 150) })
-      (join n (triples-at n a x) (triples-at n a y))
+      found-of (record { first = x .at .first; last = y .at .last; parent = suc p; letter = y .label }) (join n (x .at .carried) (y .at .carried))
 
-  apart : (two a (x + 146) ≡ two a (y + 144) → ⊥) → [] ≡ follow n p (found-at n a x) (found-at n a y)
-  unfolding join found-at
-  apart d = sym (ap (λ (t : Bool). cond t (both ∷ []) []) (ne-eqb (two a (x + 146)) (two a (y + 144)) d))
+  apart : (x .at .last ≡ y .at .first → ⊥) → [] ≡ follow n p x y
+  unfolding join
+  apart d = sym (ap (λ (t : Bool). cond t (both ∷ []) []) (ne-eqb (x .at .last) (y .at .first) d))
 
-  meets : two a (x + 146) ≡ two a (y + 144) → both ∷ [] ≡ follow n p (found-at n a x) (found-at n a y)
-  unfolding join found-at
-  meets e = sym (ap (λ (t : Bool). cond t (both ∷ []) []) (eq-eqb (two a (x + 146)) (two a (y + 144)) e))
+  meets : x .at .last ≡ y .at .first → both ∷ [] ≡ follow n p x y
+  unfolding join
+  meets e = sym (ap (λ (t : Bool). cond t (both ∷ []) []) (eq-eqb (x .at .last) (y .at .first) e))
 
-  joins : (e : Ends) (u v t : List ℕ) → n ≤ 12 → two a (x + 146) ≡ two a (y + 144)
-      → ((i : ℕ) → i < 144 → getD u i 0 ≡ getD a (x + i) 0) → ((i : ℕ) → i < 144 → getD v i 0 ≡ getD a (y + i) 0)
-      → triples-in n t ≡ join n (triples-in n u) (triples-in n v)
-      → e .first ≡ two a (x + 144) → e .last ≡ two a (y + 146) → e .parent ≡ p + 1 → e .letter ≡ two a (y + 150)
-      → found-of e (triples-in n t) ∷ [] ≡ follow n p (found-at n a x) (found-at n a y)
-  joins e u v t h m cu cv j first last parent letter =
-      let du = triples-copied n a u x h cu in
-      let dv = triples-copied n a v y h cv in
-      let carried : triples-in n t ≡ join n (triples-at n a x) (triples-at n a y) = j ∙ (λ i. join n (du i) (dv i)) in
-      let from : e .parent ≡ suc p = parent ∙ add-one p in
-      ap (λ (z : Found). z ∷ []) (λ i. found-of (record { first = first i; last = last i; parent = from i; letter = letter i }) (carried i)) ∙ meets m
+  joins : {a b : Ends} {carried : Triples} → Ends-of x a → Ends-of y b → a .last ≡ b .first → carried ≡ join n (x .at .carried) (y .at .carried)
+      → found-of (record { first = a .first; last = b .last; parent = p + 1; letter = b .letter }) carried ∷ [] ≡ follow n p x y
+  joins d e m j =
+      let from = add-one p in
+      ap (λ (z : Found). z ∷ []) (λ i. found-of (record { first = d .first i; last = e .last i; parent = from i; letter = e .letter i }) (j i))
+      ∙ meets (sym (d .last) ∙ m ∙ e .first)
 
 -- profile p followed by profile q: nothing to add, or one profile
 module _ (s : Shelf) (count : ℕ) (a : List ℕ) (p q : ℕ) where
   abbrev After : (r : ℕ) → List ℕ → Type 0
   After r b = Added s count a r b (follow (s .n) p (record-of s a p) (record-of s a q))
 
-  pub longer-none : count ≤ s .capacity → Chained s a count → (two a (place s p + 146) ≡ two a (place s q + 144) → ⊥) → After count a
-  longer-none h c d = grown-same (ap (adds same-profile (stored s a count)) (apart (s .n) p a (place s p) (place s q) d)) (grown-still s count a h c)
+  module _ {d e : Ends} (ds : Ends-of (record-of s a p) d) (es : Ends-of (record-of s a q) e) where
+    pub longer-none : count ≤ s .capacity → Chained s a count → (d .last ≡ e .first → ⊥) → After count a
+    longer-none h c n =
+        grown-same (ap (adds same-profile (stored s a count)) (apart (s .n) p (record-of s a p) (record-of s a q) (λ m. n (ds .last ∙ m ∙ sym (es .first)))))
+        (grown-still s count a h c)
 
-  pub longer-one : {r : ℕ} {b : List ℕ} (e : Ends) (u v t : List ℕ) → s .n ≤ 12 → two a (place s p + 146) ≡ two a (place s q + 144)
-      → ((i : ℕ) → i < 144 → getD u i 0 ≡ getD a (place s p + i) 0) → ((i : ℕ) → i < 144 → getD v i 0 ≡ getD a (place s q + i) 0)
-      → triples-in (s .n) t ≡ join (s .n) (triples-in (s .n) u) (triples-in (s .n) v)
-      → e .first ≡ two a (place s p + 144) → e .last ≡ two a (place s q + 146) → e .parent ≡ p + 1 → e .letter ≡ two a (place s q + 150)
-      → Added s count a r b (found-of e (triples-in (s .n) t) ∷ []) → After r b
-  longer-one e u v t h m cu cv j first last parent letter g =
-      grown-same (ap (adds same-profile (stored s a count)) (joins (s .n) p a (place s p) (place s q) e u v t h m cu cv j first last parent letter)) g
+    pub longer-one : {r x y : ℕ} {b : List ℕ} (u v t : List ℕ) → s .n ≤ 12 → d .last ≡ e .first → x ≡ place s p → y ≡ place s q
+        → ((i : ℕ) → i < 144 → getD u i 0 ≡ getD a (x + i) 0) → ((i : ℕ) → i < 144 → getD v i 0 ≡ getD a (y + i) 0)
+        → triples-in (s .n) t ≡ join (s .n) (triples-in (s .n) u) (triples-in (s .n) v)
+        → Added s count a r b (found-of (record { first = d .first; last = e .last; parent = p + 1; letter = e .letter }) (triples-in (s .n) t) ∷ [])
+        → After r b
+    longer-one {x = x} {y = y} u v t h m ex ey cu cv j g =
+        let du = triples-copied (s .n) a u x h cu ∙ carried-at s a p ex in
+        let dv = triples-copied (s .n) a v y h cv ∙ carried-at s a q ey in
+        grown-same (ap (adds same-profile (stored s a count)) (joins (s .n) p (record-of s a p) (record-of s a q) ds es m (j ∙ (λ i. join (s .n) (du i) (dv i))))) g
 
 -- profile p followed by the first of those of one transition
 module _ (s : Shelf) (count p : ℕ) (a : List ℕ) where
@@ -79,13 +79,12 @@ module _ (s : Shelf) (count p : ℕ) (a : List ℕ) where
 
   -- those that do not begin where profile p ends add nothing
   abbrev Elsewhere : (q r : ℕ) → Type 0
-  Elsewhere q r = (j : ℕ) → q ≤ j → j < r → two a (place s p + 146) ≡ first-of s a j → ⊥
+  Elsewhere q r = (j : ℕ) → q ≤ j → j < r → record-of s a p .at .last ≡ first-of s a j → ⊥
 
   past : (q r : ℕ) → q ≤ r → Elsewhere q r → extended q ≡ extended r
-  unfolding found-at
   past q r l d =
       turn-past (stored s a count) (λ q. follow (s .n) p (record-of s a p) (record-of s a q)) 0 q r l
-      (λ j m n. ap (λ (i : ℕ). follow (s .n) p (record-of s a p) (record-of s a i)) (zero-add j) ∙ sym (apart (s .n) p a (place s p) (place s j) (d j m n)))
+      (λ j m n. ap (λ (i : ℕ). follow (s .n) p (record-of s a p) (record-of s a i)) (zero-add j) ∙ sym (apart (s .n) p (record-of s a p) (record-of s a j) (d j m n)))
 
   pub extend-start : (q : ℕ) → count ≤ s .capacity → Chained s a count → Elsewhere 0 q → Grown s count a count a (extended q)
   extend-start q h c d = grown-same (past 0 q (omega arith) d) (grown-still s count a h c)

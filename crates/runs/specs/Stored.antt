@@ -28,6 +28,7 @@ profile-of e s = record { first = e .first; last = e .last; carried = s }
 abbrev pub found-of : Ends → Triples → Found
 found-of e s = record { at = profile-of e s; parent = e .parent; label = e .letter }
 
+-- the ends of the record at a byte
 abbrev pub ends-at : List ℕ → (at : ℕ) → Ends
 ends-at b at = record { first = two b (at + 144); last = two b (at + 146); parent = two b (at + 148); letter = two b (at + 150) }
 
@@ -35,6 +36,7 @@ ends-at b at = record { first = two b (at + 144); last = two b (at + 146); paren
 unfoldable pub found-at : ℕ → List ℕ → (at : ℕ) → Found
 found-at n b at = found-of (ends-at b at) (triples-at n b at)
 
+-- where record p of a shelf begins
 abbrev pub place : Shelf → ℕ → ℕ
 place s p = s .base + 192 * p
 
@@ -66,6 +68,14 @@ pub record Small (e : Ends) : Type 0 where
   pub last : e .last < 65536
   pub parent : e .parent < 65536
   pub letter : e .letter < 65536
+
+-- e are the ends of a record, which fit into its bytes
+pub record Ends-of (x : Found) (e : Ends) : Type 0 where
+  pub first : e .first ≡ x .at .first
+  pub last : e .last ≡ x .at .last
+  pub parent : e .parent ≡ x .parent
+  pub letter : e .letter ≡ x .label
+  pub small : Small e
 
 -- The shelf is within an area of that length, behind at most 1,024 nodes.
 pub record Lent (s : Shelf) (len : ℕ) : Type 0 where

@@ -8,7 +8,7 @@ ghost use Rattle.coded.specs.Runs.{same-profile, follow, longer, profiles-from,
 ghost use Rattle.tableau.specs.Promise.{table-of, Unmet};
 ghost use Rattle.tableau.specs.Area.{eight};
 ghost use Rattle.triples.specs.Promise.{triples-in};
-ghost use Rattle.runs.specs.Stored.{two, profile-of, found-of, found-at, place, record-of, stored, Rising, Parted, Small, Lent, Changed, bits-of, row-of, mixed, mixed-row, bucket-of, bucket-at, Latest, Chained, Grown, Added};
+ghost use Rattle.runs.specs.Stored.{two, profile-of, found-of, place, record-of, stored, Rising, Parted, Small, Ends-of, Lent, Changed, bits-of, row-of, mixed, mixed-row, bucket-of, bucket-at, Latest, Chained, Grown, Added};
 ghost use Rattle.runs.specs.Singles.{node-in, nodes-in, singles-by, Given};
 use tableau::NodeNumber;
 use tableau::Step;
@@ -35,18 +35,44 @@ fn wide2(low: u8, high: u8) -> usize
     base::wide(low) + base::wide(high) * 256
 }
 
-pub fn get2(area: &[u8], at: usize) -> usize
-    requires { ⌜ at + 2 ≤ length (now area) ⌝ }
-    ensures { λ r. ⌜ (r ≡ two (now (area .entry)) at) × (r < 65536) ⌝ }
+// Where record p begins.
+pub fn place(shelf: Shelf, p: usize) -> usize
+    requires { ⌜ (shelf .base ≤ 8192) × (p ≤ 4096) ⌝ }
+    ensures { λ r. ⌜ r ≡ place shelf p ⌝ }
 {
+    shelf.base + 192 * p
+}
+
+// The number at an offset of record p.
+fn get2(area: &[u8], shelf: Shelf, p: usize, offset: usize) -> usize
+    requires { ⌜ (shelf .base ≤ 8192) × ((p ≤ 4096) × (place shelf p + offset + 2 ≤ length (now area))) ⌝ }
+    ensures { λ r. ⌜ (r ≡ two (now (area .entry)) (place shelf p + offset)) × (r < 65536) ⌝ }
+{
+    let at = place(shelf, p) + offset;
     wide2(area[at], area[at + 1])
 }
 
-fn put2(area: &mut [u8], at: usize, x: usize)
-    requires { ⌜ (at + 2 ≤ length (now area)) × (x < 65536) ⌝ }
-    ensures { λ r. ⌜ two (now (area .exit)) at ≡ x ⌝ }
-    ensures { λ r. ⌜ Changed at (at + 2) (now (area .entry)) (now (area .exit)) ⌝ }
+// The ends of record p.
+pub fn ends_of(area: &[u8], shelf: Shelf, p: usize) -> Ends
+    requires { ⌜ Lent shelf (length (now area)) ⌝ }
+    requires { ⌜ p < shelf .capacity ⌝ }
+    ensures { λ r. ⌜ Ends-of (record-of shelf (now (area .entry)) p) r ⌝ }
 {
+    Ends {
+        first: get2(area, shelf, p, 144),
+        last: get2(area, shelf, p, 146),
+        parent: get2(area, shelf, p, 148),
+        letter: get2(area, shelf, p, 150),
+    }
+}
+
+fn put2(area: &mut [u8], shelf: Shelf, p: usize, offset: usize, x: usize)
+    requires { ⌜ (shelf .base ≤ 8192) × ((p ≤ 4096) × (place shelf p + offset + 2 ≤ length (now area))) ⌝ }
+    requires { ⌜ x < 65536 ⌝ }
+    ensures { λ r. ⌜ two (now (area .exit)) (place shelf p + offset) ≡ x ⌝ }
+    ensures { λ r. ⌜ Changed (place shelf p + offset) (place shelf p + offset + 2) (now (area .entry)) (now (area .exit)) ⌝ }
+{
+    let at = place(shelf, p) + offset;
     area[at] = (x % 256) as u8;
     area[at + 1] = (x / 256 % 256) as u8;
 }
@@ -63,30 +89,34 @@ fn store(area: &mut [u8], at: usize, t: &[u8; 144])
     }
 }
 
-fn write(area: &mut [u8], at: usize, ends: Ends, t: &[u8; 144])
-    requires { ⌜ at + 192 ≤ length (now area) ⌝ }
-    requires { ⌜ Small ends ⌝ }
-    ensures { λ r. ⌜ ((n : ℕ) → n ≤ 12 → found-at n (now (area .exit)) at ≡ found-of ends (triples-in n (now (t .entry)))) ⌝ }
-    ensures { λ r. ⌜ Changed at (at + 152) (now (area .entry)) (now (area .exit)) ⌝ }
+// Writes record p.
+fn write(area: &mut [u8], shelf: Shelf, p: usize, ends: Ends, t: &[u8; 144])
+    requires { ⌜ Lent shelf (length (now area)) ⌝ }
+    requires { ⌜ (p < shelf .capacity) × Small ends ⌝ }
+    ensures { λ r. ⌜ record-of shelf (now (area .exit)) p ≡ found-of ends (triples-in (shelf .n) (now (t .entry))) ⌝ }
+    ensures { λ r. ⌜ Changed (place shelf p) (place shelf p + 152) (now (area .entry)) (now (area .exit)) ⌝ }
 {
-    store(area, at, t);
-    put2(area, at + 144, ends.first);
-    put2(area, at + 146, ends.last);
-    put2(area, at + 148, ends.parent);
-    put2(area, at + 150, ends.letter);
+    store(area, place(shelf, p), t);
+    put2(area, shelf, p, 144, ends.first);
+    put2(area, shelf, p, 146, ends.last);
+    put2(area, shelf, p, 148, ends.parent);
+    put2(area, shelf, p, 150, ends.letter);
 }
 
-fn same_profile(area: &[u8], at: usize, ends: Ends, t: &[u8; 144], n: usize) -> bool
-    requires { ⌜ (n ≤ 12) × (at + 192 ≤ length (now area)) ⌝ }
-    ensures { λ r. ⌜ r ≡ same-profile (found-at n (now (area .entry)) at .at) (profile-of ends (triples-in n (now (t .entry)))) ⌝ }
+// Whether record p is this profile.
+fn same_profile(area: &[u8], shelf: Shelf, p: usize, ends: Ends, t: &[u8; 144]) -> bool
+    requires { ⌜ Lent shelf (length (now area)) ⌝ }
+    requires { ⌜ p < shelf .capacity ⌝ }
+    ensures { λ r. ⌜ r ≡ same-profile (record-of shelf (now (area .entry)) p .at) (profile-of ends (triples-in (shelf .n) (now (t .entry)))) ⌝ }
 {
-    if get2(area, at + 144) != ends.first {
+    let e = ends_of(area, shelf, p);
+    if e.first != ends.first {
         return false;
     }
-    if get2(area, at + 146) != ends.last {
+    if e.last != ends.last {
         return false;
     }
-    triples::same_triples(area, at, t, n)
+    triples::same_triples(area, place(shelf, p), t, shelf.n)
 }
 
 // One byte more into a row's sum, modulo 2^32.
@@ -136,14 +166,14 @@ fn head(area: &[u8], shelf: Shelf, count: usize, k: usize) -> usize
     requires { ⌜ Chained shelf (now area) count ⌝ }
     ensures { λ r. ⌜ Latest (bucket-at shelf (now (area .entry))) k count r ⌝ }
 {
-    let v = get2(area, shelf.base + 192 * k + 156);
+    let v = get2(area, shelf, k, 156);
     if v == 0 {
         return 0;
     }
     if count < v {
         return 0;
     }
-    if get2(area, shelf.base + 192 * (v - 1) + 152) != k {
+    if get2(area, shelf, v - 1, 152) != k {
         return 0;
     }
     v
@@ -159,11 +189,10 @@ fn known(area: &[u8], shelf: Shelf, count: usize, k: usize, ends: Ends, t: &[u8;
 {
     let mut v = head(area, shelf, count, k);
     while 0 < v {
-        let at = shelf.base + 192 * (v - 1);
-        if same_profile(area, at, ends, t, shelf.n) {
+        if same_profile(area, shelf, v - 1, ends, t) {
             return true;
         }
-        v = get2(area, at + 154);
+        v = get2(area, shelf, v - 1, 154);
     }
     false
 }
@@ -179,9 +208,9 @@ fn chain(area: &mut [u8], shelf: Shelf, count: usize, k: usize)
     ensures { λ r. ⌜ Changed (shelf .base) (place shelf (shelf .capacity)) (now (area .entry)) (now (area .exit)) ⌝ }
 {
     let v = head(area, shelf, count, k);
-    put2(area, shelf.base + 192 * count + 152, k);
-    put2(area, shelf.base + 192 * count + 154, v);
-    put2(area, shelf.base + 192 * k + 156, count + 1);
+    put2(area, shelf, count, 152, k);
+    put2(area, shelf, count, 154, v);
+    put2(area, shelf, k, 156, count + 1);
 }
 
 // How many profiles there are once this one is; capacity + 1 where there is no room for it.
@@ -197,7 +226,7 @@ fn add(area: &mut [u8], shelf: Shelf, count: usize, ends: Ends, t: &[u8; 144]) -
         return count;
     }
     if count < shelf.capacity {
-        write(area, shelf.base + 192 * count, ends, t);
+        write(area, shelf, count, ends, t);
         chain(area, shelf, count, k);
         return count + 1;
     }
@@ -317,19 +346,19 @@ fn longer(area: &mut [u8], shelf: Shelf, p: usize, q: usize, count: usize) -> us
     requires { ⌜ Chained shelf (now area) count ⌝ }
     ensures { λ r. ⌜ Added shelf count (now (area .entry)) r (now (area .exit)) (follow (shelf .n) p (record-of shelf (now (area .entry)) p) (record-of shelf (now (area .entry)) q)) ⌝ }
 {
-    let a = shelf.base + 192 * p;
-    let b = shelf.base + 192 * q;
-    if get2(area, a + 146) != get2(area, b + 144) {
+    let a = ends_of(area, shelf, p);
+    let b = ends_of(area, shelf, q);
+    if a.last != b.first {
         return count;
     }
-    let x = triples::copied(area, a);
-    let y = triples::copied(area, b);
+    let x = triples::copied(area, place(shelf, p));
+    let y = triples::copied(area, place(shelf, q));
     let t = triples::joined(&x, &y, shelf.n);
     let ends = Ends {
-        first: get2(area, a + 144),
-        last: get2(area, b + 146),
+        first: a.first,
+        last: b.last,
         parent: p + 1,
-        letter: get2(area, b + 150),
+        letter: b.letter,
     };
     add(area, shelf, count, ends, &t)
 }
@@ -345,7 +374,8 @@ fn begin_before(area: &[u8], shelf: Shelf, ones: usize, node: usize) -> usize
     let mut high = ones;
     while low < high {
         let middle = (low + high) / 2;
-        if get2(area, shelf.base + 192 * middle + 144) < node {
+        let e = ends_of(area, shelf, middle);
+        if e.first < node {
             low = middle + 1;
         } else {
             high = middle;
@@ -362,10 +392,10 @@ fn extend(area: &mut [u8], shelf: Shelf, p: usize, ones: usize, count: usize) ->
     requires { ⌜ Rising shelf (now area) ones ⌝ }
     ensures { λ r. ⌜ Added shelf count (now (area .entry)) r (now (area .exit)) (longer (shelf .n) (stored shelf (now (area .entry)) ones) p (record-of shelf (now (area .entry)) p)) ⌝ }
 {
-    let node = get2(area, shelf.base + 192 * p + 146);
-    let end = begin_before(area, shelf, ones, node + 1);
+    let e = ends_of(area, shelf, p);
+    let end = begin_before(area, shelf, ones, e.last + 1);
     let mut all = count;
-    let mut q = begin_before(area, shelf, ones, node);
+    let mut q = begin_before(area, shelf, ones, e.last);
     while q < end {
         if shelf.capacity < all {
             return all;

@@ -24,17 +24,17 @@ add-n c =
     let u = c .before .before .before in
     record { fits = omega (arith, counted-room (record-of (u .args .shelf) (u .args .area .now)) (u .pre .1 .1) (c .before .loop .inv), u .pre .1 .0, u .pre .0 .few) }
 
-sub-parent : tie.Need-sub-parent Inv-loop μ-loop
-sub-parent c = search needs
+sub-ends-of : tie.Need-sub-ends-of Inv-loop μ-loop
+sub-ends-of c = search needs
 
-parent-requires : tie.Need-parent-requires Inv-loop μ-loop
-parent-requires c κs = let u = c .before .before .before in (u .pre .0, omega (arith, c .before .loop .inv .low, u .pre .1 .0))
+ends-of-requires : tie.Need-ends-of-requires Inv-loop μ-loop
+ends-of-requires c κs = let u = c .before .before .before in (u .pre .0, omega (arith, c .before .loop .inv .low, u .pre .1 .0))
 
 loop-less : tie.Need-loop-less Inv-loop μ-loop
-loop-less c = let u = c .before .before .before .before in counted-less (record-of (u .args .shelf) (u .args .area .now)) (u .pre .1 .1) (c .before .before .loop .inv) (omega arith) (c .parent .ensures)
+loop-less c = let u = c .before .before .before .before in counted-less (record-of (u .args .shelf) (u .args .area .now)) (u .pre .1 .1) (c .before .before .loop .inv) (omega arith) (c .ends-of .ensures .parent)
 
 loop-again : tie.Need-loop-again Inv-loop μ-loop
-loop-again c = let u = c .before .before .before .before in counted-next (record-of (u .args .shelf) (u .args .area .now)) (u .pre .1 .1) (c .before .before .loop .inv) (omega arith) (c .parent .ensures)
+loop-again c = let u = c .before .before .before .before in counted-next (record-of (u .args .shelf) (u .args .area .now)) (u .pre .1 .1) (c .before .before .loop .inv) (omega arith) (c .ends-of .ensures .parent)
 
 returns : tie.Need-returns Inv-loop μ-loop
 returns c = let u = c .before .before .before in counted-end (record-of (u .args .shelf) (u .args .area .now)) (u .pre .1 .1) (c .before .loop .inv) (omega arith)
@@ -48,8 +48,8 @@ length-of-spec =
     add-at
     loop-holds
     add-n
-    sub-parent
-    parent-requires
+    sub-ends-of
+    ends-of-requires
     loop-less
     loop-again
     returns)

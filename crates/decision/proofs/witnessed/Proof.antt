@@ -2,7 +2,6 @@
 -- first accepting profile.
 use native.Mathlib.Omega.{arith}
 use borrow.Author.Needs.{needs}
-use Rattle.runs.specs.Stored.{found-at}
 use Rattle.decision.proofs.ConcludeLaws.{profiled-linked, first-node, cycle-fits, witness-answers}
 use Rattle.decision.proofs.witnessed.Statement.{statement}
 use Rattle.decision.proofs.witnessed.Tie as tie
@@ -12,37 +11,27 @@ length-of-requires c κs =
     let u = c .before .before in
     (u .pre .0 .lent, (omega (arith, u .pre .0 .few, u .pre .1 .0 .0), profiled-linked (u .pre .0) (u .args .p) (u .pre .1 .0 .0)))
 
-mul-at : tie.Need-mul-at
-mul-at c = search needs
-
-add-at : tie.Need-add-at
-add-at c = search needs
-
-add-get2 : tie.Need-add-get2
-add-get2 c = search needs
-
-get2-requires : tie.Need-get2-requires
-get2-requires c κs = search needs
+ends-of-requires : tie.Need-ends-of-requires
+ends-of-requires c κs = let u = c .before .before .before in (u .pre .0 .lent, omega (arith, u .pre .0 .few, u .pre .1 .0 .0))
 
 write-stem-requires : tie.Need-write-stem-requires
-unfolding found-at
 write-stem-requires c κs =
-    let u = c .before .before .before .before .before .before in (
+    let u = c .before .before .before .before .before in (
       u .pre .0 .standing,
-      (omega (arith, c .before .get2 .ensures .0, first-node (u .pre .0) (u .args .p) (u .pre .1 .0 .0)), omega (arith, u .pre .0 .nodes-are, u .pre .1 .1)),
+      (omega (arith, c .before .ends-of .ensures .first, first-node (u .pre .0) (u .args .p) (u .pre .1 .0 .0)), omega (arith, u .pre .0 .nodes-are, u .pre .1 .1)),
     )
 
 write-cycle-requires : tie.Need-write-cycle-requires
-unfolding found-at
 write-cycle-requires c κs =
-    let u = c .before .before .before .before .before .before .before .before .before .before in (
+    let u = c .before .before .before .before .before .before .before .before .before in
+    let n = c .before .before .before .before .before .before .length-of .ensures in (
       u .pre .0 .lent,
       (
         (omega (arith, u .pre .0 .few, u .pre .1 .0 .0), profiled-linked (u .pre .0) (u .args .p) (u .pre .1 .0 .0)),
         (
-          c .before .before .before .before .before .before .before .length-of .ensures,
+          n,
           cycle-fits (u .pre .0) (u .args .p) (u .pre .1 .0 .0) (u .pre .1 .1)
-              (omega (arith, c .before .before .before .before .before .get2 .ensures .0, first-node (u .pre .0) (u .args .p) (u .pre .1 .0 .0))) (c .before .before .before .write-stem .ensures) (c .before .before .before .before .before .before .before .length-of .ensures),
+              (omega (arith, c .before .before .before .before .before .ends-of .ensures .first, first-node (u .pre .0) (u .args .p) (u .pre .1 .0 .0))) (c .before .before .before .write-stem .ensures) n,
         ),
       ),
     )
@@ -51,10 +40,9 @@ same-length : tie.Need-same-length
 same-length c = search needs
 
 returns : tie.Need-returns
-unfolding found-at
 returns c =
-    let u = c .before .before .before .before .before .before .before .before .before .before .before .before .before in
-    witness-answers (u .pre .0) (u .args .p) (u .pre .1 .0 .0) (u .pre .1 .0 .1) (u .pre .1 .1) (c .before .before .before .before .before .before .before .before .get2 .ensures .0) (c .before .before .before .before .before .before .write-stem .ensures) (c .before .before .before .before .before .before .before .before .before .before .length-of .ensures)
+    let u = c .before .before .before .before .before .before .before .before .before .before .before .before in
+    witness-answers (u .pre .0) (u .args .p) (u .pre .1 .0 .0) (u .pre .1 .0 .1) (u .pre .1 .1) (c .before .before .before .before .before .before .before .before .ends-of .ensures .first) (c .before .before .before .before .before .before .write-stem .ensures) (c .before .before .before .before .before .before .before .before .before .length-of .ensures)
     (c .before .before .write-cycle .ensures)
 
 pub witnessed-spec : {M : Type 1} → statement M
@@ -62,10 +50,7 @@ witnessed-spec =
     tie.close
     (tie.spec
     length-of-requires
-    mul-at
-    add-at
-    add-get2
-    get2-requires
+    ends-of-requires
     write-stem-requires
     write-cycle-requires
     same-length

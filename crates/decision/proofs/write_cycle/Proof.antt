@@ -1,5 +1,6 @@
 -- `decision::write_cycle` writes the letters from the last to the first. The invariant: those up to the profile where it stands are to be
 -- written, and the others are.
+use mathlib.Core.Path.{_∙_}
 use native.Mathlib.Omega.{arith}
 use borrow.Author.Needs.{needs}
 use Rattle.runs.specs.Stored.{record-of}
@@ -36,32 +37,29 @@ turn c =
 sub-left : tie.Need-sub-left Inv-loop μ-loop
 sub-left c = omega (arith, turn-some (turn c))
 
-sub-last-letter : tie.Need-sub-last-letter Inv-loop μ-loop
-sub-last-letter c = search needs
+sub-ends-of : tie.Need-sub-ends-of Inv-loop μ-loop
+sub-ends-of c = search needs
 
-last-letter-requires : tie.Need-last-letter-requires Inv-loop μ-loop
-last-letter-requires c κs = let u = c .before .before .before .before in (u .pre .0, omega (arith, c .before .loop .inv .low, u .pre .1 .0 .0))
+ends-of-requires : tie.Need-ends-of-requires Inv-loop μ-loop
+ends-of-requires c κs = let u = c .before .before .before .before in (u .pre .0, omega (arith, c .before .loop .inv .low, u .pre .1 .0 .0))
+
+narrow-requires : tie.Need-narrow-requires Inv-loop μ-loop
+narrow-requires c κs = c .ends-of .ensures .small .letter
 
 add-letters : tie.Need-add-letters Inv-loop μ-loop
-add-letters c = record { fits = omega (arith, turn-index (turn (c .before))) }
+add-letters c = record { fits = omega (arith, turn-index (turn (c .before .before))) }
 
 mul-letters : tie.Need-mul-letters Inv-loop μ-loop
-mul-letters c = record { fits = omega (arith, turn-index (turn (c .before)), turn (c .before) .back .written .same-length) }
+mul-letters c = let t = turn (c .before .before) in record { fits = omega (arith, turn-index t, t .back .written .same-length) }
 
 slice-write-letters : tie.Need-slice-write-letters Inv-loop μ-loop
-slice-write-letters c = turn-index (turn (c .before))
-
-sub-parent : tie.Need-sub-parent Inv-loop μ-loop
-sub-parent c = search needs
-
-parent-requires : tie.Need-parent-requires Inv-loop μ-loop
-parent-requires c κs = let u = c .before .before .before .before .before in (u .pre .0, omega (arith, c .before .before .loop .inv .low, u .pre .1 .0 .0))
+slice-write-letters c = turn-index (turn (c .before .before))
 
 loop-less : tie.Need-loop-less Inv-loop μ-loop
-loop-less c = turn-less (turn (c .before .before)) (c .parent .ensures)
+loop-less c = turn-less (turn (c .before .before)) (c .before .ends-of .ensures .parent)
 
 loop-again : tie.Need-loop-again Inv-loop μ-loop
-loop-again c = turn-next (turn (c .before .before)) (c .parent .ensures) (c .before .last-letter .ensures)
+loop-again c = let e = c .before .ends-of .ensures in turn-next (turn (c .before .before)) (e .parent) (c .narrow .ensures ∙ e .letter)
 
 same-length : tie.Need-same-length Inv-loop μ-loop
 same-length c = search needs
@@ -78,13 +76,12 @@ write-cycle-spec =
     add-at
     loop-holds
     sub-left
-    sub-last-letter
-    last-letter-requires
+    sub-ends-of
+    ends-of-requires
+    narrow-requires
     add-letters
     mul-letters
     slice-write-letters
-    sub-parent
-    parent-requires
     loop-less
     loop-again
     same-length

@@ -22,17 +22,11 @@ same-length c = search needs
 returns : tie.Need-returns
 returns c = let s = c .before .before .before .before .before in grown-known (s .args .shelf) (s .args .count) (s .args .area .now) (s .pre .1 .0) (s .pre .1 .1 .1) (found-of (s .args .ends) (triples-in (s .args .shelf .n) (s .args .t .now))) (sym (c .if1 .taken) ∙ c .before .known .ensures)
 
-mul-write : tie.Need-mul-write
-mul-write c = search needs
-
-add-write : tie.Need-add-write
-add-write c = search needs
-
 write-requires : tie.Need-write-requires
 write-requires c κs = search needs
 
 chain-requires : tie.Need-chain-requires
-chain-requires c κs = let s = c .before .before .before .before .before .before .before .before .before .before .before .before .before in let w = c .before .before .before .write .ensures in let k = c .before .before .before .before .before .before .before .before .before .before .before .bucket .ensures in (subst⁻¹ (Lent (s .args .shelf)) (w .1 .same-length) (s .pre .0), ((c .before .before .before .before .before .before .if2 .taken, k .1), (chained-kept (s .pre .0 .next) (w .1) (s .pre .1 .1 .1), k .0 ∙ ap (λ (y : Found). bucket-of (s .args .shelf) (y .at)) (sym (w .0 (s .args .shelf .n) (s .pre .0 .next))))))
+chain-requires c κs = let s = c .before .before .before .before .before .before .before .before .before .before .before .before in let w = c .before .before .before .write .ensures in let k = c .before .before .before .before .before .before .before .before .before .before .bucket .ensures in (subst⁻¹ (Lent (s .args .shelf)) (w .1 .same-length) (s .pre .0), ((c .before .before .before .before .before .if2 .taken, k .1), (chained-kept (s .pre .0 .next) (w .1) (s .pre .1 .1 .1), k .0 ∙ ap (λ (y : Found). bucket-of (s .args .shelf) (y .at)) (sym (w .0)))))
 
 add-result : tie.Need-add-result
 add-result c = search needs
@@ -41,7 +35,7 @@ same-length-2 : tie.Need-same-length-2
 same-length-2 c = search needs
 
 returns-2 : tie.Need-returns-2
-returns-2 c = let s = c .before .before .before .before .before .before .before .before .before .before .before .before .before .before .before .before in let w = c .before .before .before .before .before .before .write .ensures in let d = c .before .before .chain .ensures in grown-new (s .args .shelf) (s .args .count) (s .args .area .now) (s .pre .1 .0) (s .pre .1 .1 .1) (found-of (s .args .ends) (triples-in (s .args .shelf .n) (s .args .t .now))) (s .pre .0 .next) (sym (c .before .before .before .before .before .before .before .before .before .before .before .if1 .left) ∙ c .before .before .before .before .before .before .before .before .before .before .before .before .known .ensures) (c .before .before .before .before .before .before .before .before .before .if2 .taken) (w .0 (s .args .shelf .n) (s .pre .0 .next)) (w .1) (d .0) (d .1 .0) (d .1 .1)
+returns-2 c = let s = c .before .before .before .before .before .before .before .before .before .before .before .before .before .before .before in let w = c .before .before .before .before .before .before .write .ensures in let d = c .before .before .chain .ensures in grown-new (s .args .shelf) (s .args .count) (s .args .area .now) (s .pre .1 .0) (s .pre .1 .1 .1) (found-of (s .args .ends) (triples-in (s .args .shelf .n) (s .args .t .now))) (s .pre .0 .next) (sym (c .before .before .before .before .before .before .before .before .before .before .if1 .left) ∙ c .before .before .before .before .before .before .before .before .before .before .before .known .ensures) (c .before .before .before .before .before .before .before .before .if2 .taken) (w .0) (w .1) (d .0) (d .1 .0) (d .1 .1)
 
 add-result-2 : tie.Need-add-result-2
 add-result-2 c = search needs
@@ -60,8 +54,6 @@ add-spec =
     known-requires
     same-length
     returns
-    mul-write
-    add-write
     write-requires
     chain-requires
     add-result

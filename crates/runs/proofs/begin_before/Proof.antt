@@ -16,34 +16,25 @@ loop-holds : tie.Need-loop-holds Inv-loop μ-loop
 loop-holds c = halved-start _ _ _ _
 
 add-middle : tie.Need-add-middle Inv-loop μ-loop
-add-middle c = omega (arith, c .before .loop .inv .among, c .before .before .before .pre .0 .few, c .before .before .before .pre .0 .low, c .before .before .before .pre .0 .enough)
+add-middle c = omega (arith, c .before .loop .inv .among, c .before .before .before .pre .0 .few)
 
-mul-get2 : tie.Need-mul-get2 Inv-loop μ-loop
-mul-get2 c = omega (arith, c .before .loop .inv .among, c .before .before .before .pre .0 .few, c .before .before .before .pre .0 .low, c .before .before .before .pre .0 .enough)
-
-add-get2 : tie.Need-add-get2 Inv-loop μ-loop
-add-get2 c = omega (arith, c .before .before .loop .inv .among, c .before .before .before .before .pre .0 .few, c .before .before .before .before .pre .0 .low, c .before .before .before .before .pre .0 .enough)
-
-add-get2-2 : tie.Need-add-get2-2 Inv-loop μ-loop
-add-get2-2 c = omega (arith, c .before .before .loop .inv .among, c .before .before .before .before .pre .0 .few, c .before .before .before .before .pre .0 .low, c .before .before .before .before .pre .0 .enough)
-
-get2-requires : tie.Need-get2-requires Inv-loop μ-loop
-get2-requires c κs = omega (arith, c .before .before .loop .inv .among, c .before .before .before .before .pre .0 .few, c .before .before .before .before .pre .0 .low, c .before .before .before .before .pre .0 .enough)
+ends-of-requires : tie.Need-ends-of-requires Inv-loop μ-loop
+ends-of-requires c κs = (c .before .before .before .pre .0, omega (arith, c .before .loop .inv .among, c .before .before .before .pre .1 .0))
 
 add-low : tie.Need-add-low Inv-loop μ-loop
-add-low c = omega (arith, c .before .before .before .before .loop .inv .among, c .before .before .before .before .before .before .pre .0 .few, c .before .before .before .before .before .before .pre .0 .low, c .before .before .before .before .before .before .pre .0 .enough)
+add-low c = omega (arith, c .before .before .before .before .loop .inv .among, c .before .before .before .before .before .before .pre .0 .few)
 
 loop-less : tie.Need-loop-less Inv-loop μ-loop
 loop-less c = search needs
 
 loop-again : tie.Need-loop-again Inv-loop μ-loop
-loop-again c = halved-up (c .before .before .before .before .loop .inv) (c .before .before .before .before .before .before .pre .1 .1) _ (omega arith) (omega arith) (omega (arith, c .before .get2 .ensures .0))
+loop-again c = halved-up (c .before .before .before .before .loop .inv) (c .before .before .before .before .before .before .pre .1 .1) _ (omega arith) (omega arith) (omega (arith, c .before .before .ends-of .ensures .first))
 
 loop-less-2 : tie.Need-loop-less-2 Inv-loop μ-loop
 loop-less-2 c = search needs
 
 loop-again-2 : tie.Need-loop-again-2 Inv-loop μ-loop
-loop-again-2 c = halved-down (c .before .before .before .before .loop .inv) (c .before .before .before .before .before .before .pre .1 .1) _ (omega arith) (omega arith) (omega (arith, c .before .get2 .ensures .0))
+loop-again-2 c = halved-down (c .before .before .before .before .loop .inv) (c .before .before .before .before .before .before .pre .1 .1) _ (omega arith) (omega arith) (omega (arith, c .before .before .ends-of .ensures .first))
 
 returns : tie.Need-returns Inv-loop μ-loop
 returns c = halved-done (c .before .loop .inv) (c .loop-test .left)
@@ -56,10 +47,7 @@ begin-before-spec =
     μ-loop
     loop-holds
     add-middle
-    mul-get2
-    add-get2
-    add-get2-2
-    get2-requires
+    ends-of-requires
     add-low
     loop-less
     loop-again

@@ -7,41 +7,14 @@ use Rattle.runs.proofs.chain.Tie as tie
 head-requires : tie.Need-head-requires
 head-requires c κs = search needs
 
-mul-put2 : tie.Need-mul-put2
-mul-put2 c = search needs
-
-add-put2 : tie.Need-add-put2
-add-put2 c = search needs
-
-add-put2-2 : tie.Need-add-put2-2
-add-put2-2 c = search needs
-
 put2-requires : tie.Need-put2-requires
 put2-requires c κs = search needs
-
-mul-put2-2 : tie.Need-mul-put2-2
-mul-put2-2 c = search needs
-
-add-put2-3 : tie.Need-add-put2-3
-add-put2-3 c = search needs
-
-add-put2-4 : tie.Need-add-put2-4
-add-put2-4 c = search needs
 
 put2-requires-2 : tie.Need-put2-requires-2
 put2-requires-2 c κs = search needs
 
-mul-put2-3 : tie.Need-mul-put2-3
-mul-put2-3 c = search needs
-
-add-put2-5 : tie.Need-add-put2-5
-add-put2-5 c = search needs
-
-add-put2-6 : tie.Need-add-put2-6
-add-put2-6 c = search needs
-
-add-put2-7 : tie.Need-add-put2-7
-add-put2-7 c = search needs
+add-put2 : tie.Need-add-put2
+add-put2 c = search needs
 
 put2-requires-3 : tie.Need-put2-requires-3
 put2-requires-3 c κs = search needs
@@ -50,25 +23,16 @@ same-length : tie.Need-same-length
 same-length c = search needs
 
 returns : tie.Need-returns
-returns c = let s = c .before .before .before .before .before .before .before .before .before .before .before .before .before .before .before .before .before .before in let b = c .before .before .before .before .before .before .before .before .before .before .before .before .put2 .ensures in let l = c .before .before .before .before .before .before .before .put22 .ensures in let h = c .before .before .put23 .ensures in (chained-more (s .args .shelf) (s .args .count) (s .args .k) (b .1) (l .1) (h .1) (b .0) (l .0) (h .0) (s .pre .0 .next) (s .pre .1 .1 .0) (c .before .before .before .before .before .before .before .before .before .before .before .before .before .before .before .head .ensures) (s .pre .1 .1 .1), (linked-records (s .args .shelf) (s .args .count) (s .args .k) (b .1) (l .1) (h .1) (s .pre .0 .next), linked-changed (s .args .shelf) (s .args .count) (s .args .k) (b .1) (l .1) (h .1) (s .pre .1 .0 .0) (s .pre .1 .0 .1)))
+returns c = let s = c .before .before .before .before .before .before .before .before .before .before .before .before .before .before .before in let b = c .before .before .before .before .before .before .before .before .before .before .put2 .ensures in let l = c .before .before .before .before .before .before .put22 .ensures in let h = c .before .before .put23 .ensures in (chained-more (s .args .shelf) (s .args .count) (s .args .k) (b .1) (l .1) (h .1) (b .0) (l .0) (h .0) (s .pre .0 .next) (s .pre .1 .1 .0) (c .before .before .before .before .before .before .before .before .before .before .before .before .head .ensures) (s .pre .1 .1 .1), (linked-records (s .args .shelf) (s .args .count) (s .args .k) (b .1) (l .1) (h .1) (s .pre .0 .next), linked-changed (s .args .shelf) (s .args .count) (s .args .k) (b .1) (l .1) (h .1) (s .pre .1 .0 .0) (s .pre .1 .0 .1)))
 
 pub chain-spec : {M : Type 1} → statement M
 chain-spec =
     tie.close
     (tie.spec
     head-requires
-    mul-put2
-    add-put2
-    add-put2-2
     put2-requires
-    mul-put2-2
-    add-put2-3
-    add-put2-4
     put2-requires-2
-    mul-put2-3
-    add-put2-5
-    add-put2-6
-    add-put2-7
+    add-put2
     put2-requires-3
     same-length
     returns)

@@ -10,25 +10,16 @@ use Rattle.runs.proofs.extend.Statement.{statement}
 use Rattle.runs.proofs.extend.Tie as tie
 
 abbrev Inv-loop : tie.InvT-loop
-Inv-loop area₀ shelf p ones count node end all₀ q₀ area all q = (q ≤ ones) × Grown shelf count area₀ all area (extended shelf count p area₀ q)
+Inv-loop area₀ shelf p ones count end all₀ q₀ area all q = (q ≤ ones) × Grown shelf count area₀ all area (extended shelf count p area₀ q)
 
 abbrev μ-loop : tie.MeasureT-loop
-μ-loop area₀ shelf p ones count node end all₀ q₀ area all q = end - q
+μ-loop area₀ shelf p ones count end all₀ q₀ area all q = end - q
 
-mul-get2 : tie.Need-mul-get2 Inv-loop μ-loop
-mul-get2 c = search needs
-
-add-get2 : tie.Need-add-get2 Inv-loop μ-loop
-add-get2 c = search needs
-
-add-get2-2 : tie.Need-add-get2-2 Inv-loop μ-loop
-add-get2-2 c = search needs
-
-get2-requires : tie.Need-get2-requires Inv-loop μ-loop
-get2-requires c κs = search needs
+ends-of-requires : tie.Need-ends-of-requires Inv-loop μ-loop
+ends-of-requires c κs = search needs
 
 add-begin-before : tie.Need-add-begin-before Inv-loop μ-loop
-add-begin-before c = search needs
+add-begin-before c = omega (arith, c .before .before .ends-of .ensures .small .last)
 
 begin-before-requires : tie.Need-begin-before-requires Inv-loop μ-loop
 begin-before-requires c κs = let s = c .before .before .before .before .before in (s .pre .0, (omega arith, s .pre .1 .1 .1))
@@ -37,7 +28,7 @@ begin-before-requires-2 : tie.Need-begin-before-requires-2 Inv-loop μ-loop
 begin-before-requires-2 c κs = let s = c .before .before .before .before .before .before .before in (s .pre .0, (omega arith, s .pre .1 .1 .1))
 
 loop-holds : tie.Need-loop-holds Inv-loop μ-loop
-loop-holds c = let s = c .before .before .before .before .before .before .before .before in (c .begin-before2 .ensures .among, extend-start _ _ _ _ _ (omega arith) (s .pre .1 .1 .0) (λ j l h e. omega (arith, c .begin-before2 .ensures .before j h, c .before .before .before .before .get2 .ensures .0)))
+loop-holds c = let s = c .before .before .before .before .before .before .before .before in (c .begin-before2 .ensures .among, extend-start _ _ _ _ _ (omega arith) (s .pre .1 .1 .0) (λ j l h e. omega (arith, c .begin-before2 .ensures .before j h, c .before .before .before .before .before .ends-of .ensures .last)))
 
 same-length : tie.Need-same-length Inv-loop μ-loop
 same-length c = c .before .before .before .loop .inv .1 .elsewhere .same-length
@@ -61,7 +52,7 @@ same-length-2 : tie.Need-same-length-2 Inv-loop μ-loop
 same-length-2 c = c .before .loop .inv .1 .elsewhere .same-length
 
 returns-2 : tie.Need-returns-2 Inv-loop μ-loop
-returns-2 c = let s = c .before .before .before .before .before .before .before .before .before .before in let l = c .before .loop in extend-done (s .args .shelf) (s .args .count) (s .args .p) (s .args .area .now) (l .q) (s .args .ones) (l .inv .0) (λ j m h e. omega (arith, c .before .before .before .before .begin-before .ensures .behind j (omega (arith, c .loop-test .left)) h, c .before .before .before .before .before .before .get2 .ensures .0)) (l .inv .1)
+returns-2 c = let s = c .before .before .before .before .before .before .before .before .before .before in let l = c .before .loop in extend-done (s .args .shelf) (s .args .count) (s .args .p) (s .args .area .now) (l .q) (s .args .ones) (l .inv .0) (λ j m h e. omega (arith, c .before .before .before .before .begin-before .ensures .behind j (omega (arith, c .loop-test .left)) h, c .before .before .before .before .before .before .before .ends-of .ensures .last)) (l .inv .1)
 
 pub extend-spec : {M : Type 1} → statement M
 extend-spec =
@@ -69,10 +60,7 @@ extend-spec =
     (tie.spec
     Inv-loop
     μ-loop
-    mul-get2
-    add-get2
-    add-get2-2
-    get2-requires
+    ends-of-requires
     add-begin-before
     begin-before-requires
     begin-before-requires-2

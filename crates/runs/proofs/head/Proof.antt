@@ -6,59 +6,35 @@ use native.Mathlib.Omega.{arith}
 use Rattle.runs.proofs.head.Statement.{statement}
 use Rattle.runs.proofs.head.Tie as tie
 
-mul-get2 : tie.Need-mul-get2
-mul-get2 c = search needs
-
-add-get2 : tie.Need-add-get2
-add-get2 c = search needs
-
-add-get2-2 : tie.Need-add-get2-2
-add-get2-2 c = search needs
-
 get2-requires : tie.Need-get2-requires
 get2-requires c κs = search needs
 
 returns : tie.Need-returns
-returns c = let s = c .before .before .before .before in head-none (s .pre .1 .1) (s .args .k) (c .before .get2 .ensures .0) (λ l m e. omega arith)
+returns c = let s = c .before .before .before in head-none (s .pre .1 .1) (s .args .k) (c .before .get2 .ensures .0) (λ l m e. omega arith)
 
 returns-2 : tie.Need-returns-2
-returns-2 c = let s = c .before .before .before .before .before in head-none (s .pre .1 .1) (s .args .k) (c .before .before .get2 .ensures .0) (λ l m e. omega arith)
+returns-2 c = let s = c .before .before .before .before in head-none (s .pre .1 .1) (s .args .k) (c .before .before .get2 .ensures .0) (λ l m e. omega arith)
 
 sub-get2 : tie.Need-sub-get2
 sub-get2 c = search needs
-
-mul-get2-2 : tie.Need-mul-get2-2
-mul-get2-2 c = search needs
-
-add-get2-3 : tie.Need-add-get2-3
-add-get2-3 c = search needs
-
-add-get2-4 : tie.Need-add-get2-4
-add-get2-4 c = search needs
 
 get2-requires-2 : tie.Need-get2-requires-2
 get2-requires-2 c κs = search needs
 
 returns-3 : tie.Need-returns-3
-returns-3 c = let s = c .before .before .before .before .before .before .before .before in head-none (s .pre .1 .1) (s .args .k) (c .before .before .before .before .before .get2 .ensures .0) (λ l m e. c .if3 .taken (c .before .get22 .ensures .0 ∙ e))
+returns-3 c = let s = c .before .before .before .before .before .before in head-none (s .pre .1 .1) (s .args .k) (c .before .before .before .before .get2 .ensures .0) (λ l m e. c .if3 .taken (c .before .get22 .ensures .0 ∙ e))
 
 returns-4 : tie.Need-returns-4
-returns-4 c = let s = c .before .before .before .before .before .before .before .before in head-is (s .pre .1 .1) (s .args .k) (c .before .before .before .before .before .get2 .ensures .0) (omega arith) (omega arith) (sym (c .before .get22 .ensures .0) ∙ c .if3 .left)
+returns-4 c = let s = c .before .before .before .before .before .before in head-is (s .pre .1 .1) (s .args .k) (c .before .before .before .before .get2 .ensures .0) (omega arith) (omega arith) (sym (c .before .get22 .ensures .0) ∙ c .if3 .left)
 
 pub head-spec : {M : Type 1} → statement M
 head-spec =
     tie.close
     (tie.spec
-    mul-get2
-    add-get2
-    add-get2-2
     get2-requires
     returns
     returns-2
     sub-get2
-    mul-get2-2
-    add-get2-3
-    add-get2-4
     get2-requires-2
     returns-3
     returns-4)

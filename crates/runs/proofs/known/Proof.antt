@@ -23,32 +23,26 @@ head-requires c κs = search needs
 loop-holds : tie.Need-loop-holds Inv-loop μ-loop
 loop-holds c = let s = c .before .before in passed-start (s .pre .1 .1 .0) _ (s .pre .1 .1 .1) (c .head .ensures)
 
-sub-at : tie.Need-sub-at Inv-loop μ-loop
-sub-at c = search needs
-
-mul-at : tie.Need-mul-at Inv-loop μ-loop
-mul-at c = search needs
-
-add-at : tie.Need-add-at Inv-loop μ-loop
-add-at c = search needs
+sub-same-profile : tie.Need-sub-same-profile Inv-loop μ-loop
+sub-same-profile c = search needs
 
 same-profile-requires : tie.Need-same-profile-requires Inv-loop μ-loop
 same-profile-requires c κs = search needs
 
 returns : tie.Need-returns Inv-loop μ-loop
-returns c = let s = c .before .before .before .before .before .before .before in sym (seen-found (s .args .shelf) (s .args .area .now) _ (s .args .count) (c .before .before .before .before .loop .v - 1) (omega arith) (sym (c .before .same-profile .ensures) ∙ c .if1 .taken))
+returns c = let s = c .before .before .before .before .before .before in sym (seen-found (s .args .shelf) (s .args .area .now) _ (s .args .count) (c .before .before .before .loop .v - 1) (omega arith) (sym (c .before .same-profile .ensures) ∙ c .if1 .taken))
 
-add-get2 : tie.Need-add-get2 Inv-loop μ-loop
-add-get2 c = search needs
+sub-get2 : tie.Need-sub-get2 Inv-loop μ-loop
+sub-get2 c = search needs
 
 get2-requires : tie.Need-get2-requires Inv-loop μ-loop
 get2-requires c κs = search needs
 
 loop-less : tie.Need-loop-less Inv-loop μ-loop
-loop-less c = passed-less (c .before .before .before .before .before .before .before .before .pre .1 .1 .0) _ (c .before .before .before .before .before .loop .inv) (c .before .before .before .before .loop-test .taken) (c .get2 .ensures .0)
+loop-less c = passed-less (c .before .before .before .before .before .before .before .pre .1 .1 .0) _ (c .before .before .before .before .loop .inv) (c .before .before .before .loop-test .taken) (c .get2 .ensures .0)
 
 loop-again : tie.Need-loop-again Inv-loop μ-loop
-loop-again c = passed-more (c .before .before .before .before .before .before .before .before .pre .1 .1 .0) _ (c .before .before .before .before .before .loop .inv) (c .before .before .before .before .loop-test .taken) (c .get2 .ensures .0) (sym (c .before .before .same-profile .ensures) ∙ c .before .if1 .left)
+loop-again c = passed-more (c .before .before .before .before .before .before .before .pre .1 .1 .0) _ (c .before .before .before .before .loop .inv) (c .before .before .before .loop-test .taken) (c .get2 .ensures .0) (sym (c .before .before .same-profile .ensures) ∙ c .before .if1 .left)
 
 returns-2 : tie.Need-returns-2 Inv-loop μ-loop
 returns-2 c = sym (passed-all (c .before .before .before .before .pre .1 .1 .0) _ (c .before .loop .inv) (c .loop-test .left))
@@ -61,12 +55,10 @@ known-spec =
     μ-loop
     head-requires
     loop-holds
-    sub-at
-    mul-at
-    add-at
+    sub-same-profile
     same-profile-requires
     returns
-    add-get2
+    sub-get2
     get2-requires
     loop-less
     loop-again

@@ -1,0 +1,30 @@
+-- `runs::ends_of` reads the four numbers of a record.
+use Rattle.runs.proofs.RecordLaws.{ends-are}
+use borrow.Author.Needs.{needs}
+use Rattle.runs.proofs.ends_of.Statement.{statement}
+use Rattle.runs.proofs.ends_of.Tie as tie
+
+get2-requires : tie.Need-get2-requires
+get2-requires c κs = search needs
+
+get2-requires-2 : tie.Need-get2-requires-2
+get2-requires-2 c κs = search needs
+
+get2-requires-3 : tie.Need-get2-requires-3
+get2-requires-3 c κs = search needs
+
+get2-requires-4 : tie.Need-get2-requires-4
+get2-requires-4 c κs = search needs
+
+returns : tie.Need-returns
+returns c = let s = c .before .before .before .before .before in ends-are (s .args .shelf) (s .args .area .now) (s .args .p) (c .before .before .before .get2 .ensures) (c .before .before .get22 .ensures) (c .before .get23 .ensures) (c .get24 .ensures)
+
+pub ends-of-spec : {M : Type 1} → statement M
+ends-of-spec =
+    tie.close
+    (tie.spec
+    get2-requires
+    get2-requires-2
+    get2-requires-3
+    get2-requires-4
+    returns)
