@@ -1,5 +1,5 @@
 -- Words in a byte area: what is put is what is read (`eight-stored`, `words-stored`), one word more (`put-store`), the search for a word
--- (`find-here`, `find-past`, `find-none`), and adding a word that may be known (`add-known`, `add-new`, `add-full`). A number below 2^64 is the
+-- (`find-here`, `find-past`, `find-none`, `found-member`), and adding a word that may be known (`add-known`, `add-new`, `add-full`). A number below 2^64 is the
 -- sum of its eight bytes; past eight bytes, the rest of an area is an area. Assumes nothing.
 use mathlib.Core.Path.{_≡_, refl, sym, ap, _∙_}
 use mathlib.Core.Bool.{Bool, true, false, cond, _||_}
@@ -10,7 +10,7 @@ use native.Mathlib.Numerals.{add-one, add-two, add-three, add-four, add-five, ad
 use lib.Dec.{eqb, ltb, leb·suc-suc}
 use lib.ListN.{length, getD, set, take, drop, length-append, length-replicate, replicate-append-replicate}
 use lib.Seq.{sets-eq, take-at, drop-drop, take-all, drop-append-add, set-at, drop-cons}
-use borrow.Author.Tests.{lt-ltb, le-ltb, eq-eqb, ne-eqb}
+use borrow.Author.Tests.{lt-ltb, eq-eqb, ne-eqb}
 use Rattle.base.specs.Lists.{member, gather}
 use Rattle.base.proofs.AppendLaws.{gather-append}
 use Rattle.tableau.specs.Area.{bytes8, eight, put, store, words-at, index, zeros, with-one, Added}
@@ -49,7 +49,7 @@ module _ (x : ℕ) where
   low7 : x < 2 ^ 64 → x % 0x100000000000000 + x / 0x100000000000000 % 256 * 0x100000000000000 ≡ x
   low7 h = omega arith
 
-eight-first : (x : ℕ) (a : List ℕ) → x < 2 ^ 64 → eight (bytes8 x ++ a) (8 * 0) ≡ x
+pub eight-first : (x : ℕ) (a : List ℕ) → x < 2 ^ 64 → eight (bytes8 x ++ a) (8 * 0) ≡ x
 eight-first x a h = rw (low1 x, low2 x, low3 x, low4 x, low5 x, low6 x) (low7 x h)
 
 -- past the first eight bytes
@@ -114,6 +114,10 @@ module _ (a : List ℕ) (known i x : ℕ) where
   pub find-none : known ≤ i → index x (words-at a i (known - i)) ≡ 0
   find-none h = ap (λ (n : ℕ). index x (words-at a i n)) {x = known - i} {y = 0} (omega arith)
 
+words-length : (a : List ℕ) (i n : ℕ) → length (words-at a i n) ≡ n
+words-length a i zero = refl
+words-length a i (suc n) = ap suc (words-length a (suc i) n)
+
 index-less : (x : ℕ) (ys : List ℕ) → ltb (index x ys) (length ys) ≡ member x ys
 index-less x [] = refl
 index-less x (y ∷ ys) = by (eqb x y) (index-less x ys)
@@ -122,24 +126,29 @@ index-less x (y ∷ ys) = by (eqb x y) (index-less x ys)
     by true p = lt-ltb 0 (suc (length ys)) (omega arith)
     by false p = leb·suc-suc (suc (index x ys)) (length ys) ∙ p
 
--- a word more, by where it was found among those known
-module _ {area : List ℕ} {known found : ℕ} (x capacity : ℕ) (fits : known ≤ capacity) (f : found ≡ index x (words-at area 0 known)) where
+-- where a word was found tells whether it is among those known
+pub found-member : (a : List ℕ) (known x : ℕ) {found : ℕ} → found ≡ index x (words-at a 0 known) → ltb found known ≡ member x (words-at a 0 known)
+found-member a known x {found} f =
+    ap (ltb found) (sym (words-length a 0 known)) ∙ ap (λ (n : ℕ). ltb n (length (words-at a 0 known))) f ∙ index-less x (words-at a 0 known)
+
+-- a word more, by whether it is among those known
+module _ {area : List ℕ} {known : ℕ} (x capacity : ℕ) (fits : known ≤ capacity) where
   module _ (ws a : List ℕ) (k : known ≡ length ws) (small : Small ws) (s : area ≡ store ws a) where
-    found-is : found ≡ index x ws
-    found-is = f ∙ rw (k, s, words-stored ws (drop (8 * length ws) a) small)
+    words-are : words-at area 0 known ≡ ws
+    words-are = rw (k, s, words-stored ws (drop (8 * length ws) a) small)
 
-    known-is : found < known → with-one eqb ws x ≡ ws
-    known-is h = rw (sym (index-less x ws) ∙ lt-ltb (index x ws) (length ws) (omega (arith, found-is)))
+    known-is : member x (words-at area 0 known) ≡ true → with-one eqb ws x ≡ ws
+    known-is h = rw (ap (member x) (sym words-are) ∙ h)
 
-    new-is : known ≤ found → with-one eqb ws x ≡ ws ++ (x ∷ [])
-    new-is h = rw (sym (index-less x ws) ∙ le-ltb (index x ws) (length ws) (omega (arith, found-is)))
+    new-is : member x (words-at area 0 known) ≡ false → with-one eqb ws x ≡ ws ++ (x ∷ [])
+    new-is h = rw (ap (member x) (sym words-are) ∙ h)
 
-  pub add-known : found < known → Added known capacity x area area known
+  pub add-known : member x (words-at area 0 known) ≡ true → Added known capacity x area area known
   add-known h = record {
     is = λ ws a k small s. rw (known-is ws a k small s h) (k, s ∙ ap (λ (l : List ℕ). store l a) (sym (take-all capacity ws (omega arith))));
   }
 
-  pub add-new : known ≤ found → known < capacity → {area′ : List ℕ} → area′ ≡ put area (8 * known) x → Added known capacity x area area′ (known + 1)
+  pub add-new : member x (words-at area 0 known) ≡ false → known < capacity → {area′ : List ℕ} → area′ ≡ put area (8 * known) x → Added known capacity x area area′ (known + 1)
   add-new h l {area′} e = record {
     is = λ ws a k small s.
         let n : known + 1 ≡ length (ws ++ (x ∷ [])) = omega (arith, length-append ws (x ∷ [])) in
@@ -147,7 +156,7 @@ module _ {area : List ℕ} {known found : ℕ} (x capacity : ℕ) (fits : known 
         (n, e ∙ rw (s, k, put-store ws a x) (ap (λ (l : List ℕ). store l a) (sym (take-all capacity (ws ++ (x ∷ [])) (omega arith)))));
   }
 
-  pub add-full : known ≤ found → capacity ≤ known → Added known capacity x area area (known + 1)
+  pub add-full : member x (words-at area 0 known) ≡ false → capacity ≤ known → Added known capacity x area area (known + 1)
   add-full h l = record {
     is = λ ws a k small s.
         let n : known + 1 ≡ length (ws ++ (x ∷ [])) = omega (arith, length-append ws (x ∷ [])) in

@@ -15,3 +15,4 @@ pub mod AreaLaws
 pub mod NodeLoop
 pub mod FormedLaws
 pub mod NodeReads
+pub mod SlotLaws

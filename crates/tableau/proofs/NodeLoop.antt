@@ -24,7 +24,7 @@ use Rattle.tableau.specs.Saturation.{Subset, same-subset, nothing, satur
 use Rattle.tableau.specs.Transition.{operators-in, within, possible, letter-of, next-of, ors, choice-of, Transition, transition-of, by-word, transitions}
 use Rattle.tableau.specs.Nodes.{root, edges, operands, nodes}
 use Rattle.tableau.specs.Promise.{table-of, Formed, Leads-nowhere, Stepped-by}
-use Rattle.tableau.specs.Area.{eight, put, store, Holds, reachable, Sized, with-one, with-all, leads, outs, Added, Followed, Expanded}
+use Rattle.tableau.specs.Area.{eight, store, Holds, reachable, Sized, with-one, with-all, leads, outs, Added, Followed, Expanded}
 use Rattle.tableau.specs.declared.Step.the-variants.{Leads}
 use Rattle.tableau.proofs.SaturationLaws.{add-inside}
 use Rattle.tableau.proofs.TransitionLaws.{transition-with}
@@ -239,19 +239,18 @@ pub record Finding (rows : List ℕ) (count capacity known i : ℕ) (a area : Li
 root-word : (t : Table) → 0 < length t → word (root t) ≡ 1
 root-word t h = word-set (nothing t) 0 (omega (arith, length-map t (λ (o : Operator). false))) ∙ ap (λ (x : ℕ). bitOr x 1) (word-none t)
 
-pub find-start : (rows : List ℕ) (count capacity : ℕ) {a area : List ℕ} → Formed rows count → 0 < capacity → area ≡ put a 0 1
-    → Finding rows count capacity 1 0 a area
-find-start rows count capacity {a} {area} f h e =
+pub find-start : {rows : List ℕ} {count capacity known : ℕ} {a area : List ℕ} → Formed rows count → Added 0 capacity 1 a area known
+    → Finding rows count capacity known 0 a area
+find-start {rows} {count} {capacity} {known} {a} f ad =
     let t = table-of rows count in
+    let z = ad .is [] a refl (λ y m. absurd (List·Memᴰ·not-nil m)) refl in
     record {
       known-nodes = root t ∷ [];
       searching = searching-start same-subset (edges t) (limit t) (starts t);
       sized = λ u m. ap length (List·Memᴰ·eq-of-singleton m) ∙ root-length t;
       holds = record {
-        known-is = omega arith;
-        area-is = e
-            ∙ ap (λ (x : ℕ). store (x ∷ []) a) (sym (root-word t (omega (arith, table-length rows count, f .some))))
-            ∙ ap (λ (ws : List ℕ). store ws a) (sym (take-all capacity (word (root t) ∷ []) (omega arith)));
+        known-is = omega (arith, z .0);
+        area-is = z .1 ∙ ap (λ (x : ℕ). store (take capacity (x ∷ [])) a) (sym (root-word t (omega (arith, table-length rows count, f .some))));
       };
     }
 

@@ -77,6 +77,15 @@ module _ {K : Type 0} (same : K → K → Bool) where
   with-all known [] = known
   with-all known (y ∷ ys) = with-all (with-one known y) ys
 
+-- the slot of a word
+abbrev pub slot-of : ℕ → ℕ
+slot-of x = x % 2029
+
+-- There are 2,048 slots, and that of each of the area's first words has a mark: it is not 0.
+pub record Marked (known : ℕ) (area slots : List ℕ) : Type 0 where
+  pub long : 2048 ≤ length slots
+  pub is : (i : ℕ) → i < known → 0 < getD slots (slot-of (eight area (8 * i))) 0
+
 -- the nodes that the transition of a choice word leads to: one or none
 abbrev pub leads : Table → Subset → ℕ → List Subset
 leads t v x = map (λ (s : Transition). s .to) (by-word t x v)

@@ -5,11 +5,12 @@ ghost use mathlib.Core.List.{_++_};
 ghost use Prim.Native.Nat.{_+_, _*_, _≤_, _<_};
 ghost use lib.ListN.{length, drop};
 ghost use Rattle.base.specs.Bits.{bit, word};
+ghost use Rattle.base.specs.Lists.{member};
 ghost use Rattle.formula.specs.Rows.{operator-at};
 ghost use Rattle.tableau.specs.Saturation.{moves};
 ghost use Rattle.tableau.specs.Transition.{ors, choice-of};
 ghost use Rattle.tableau.specs.Promise.{table-of, Formed, Placed, with-bits, Saturated, Requires-more, Required-by, Stepped, Stepped-by, Widest, Unmet-between, is-unmet, Unmet};
-ghost use Rattle.tableau.specs.Area.{eight, put, words-at, index, zeros, Room, Holds, reachable, Added, Followed, Expanded};
+ghost use Rattle.tableau.specs.Area.{eight, put, words-at, index, zeros, Room, Holds, reachable, slot-of, Marked, Added, Followed, Expanded};
 
 // The number of a node, kept apart from subformulas and positions.
 pub struct NodeNumber(pub usize);
@@ -334,18 +335,55 @@ pub fn find(area: &[u8], known: usize, set: u64) -> NodeNumber
     NodeNumber(known)
 }
 
+// The slot of a set; every bit of the set counts in the remainder by a prime. The mark that a slot has is 1 + the number of the last known
+// node with this slot, or 0 if there is none: it tells at once that most new sets are new, and where most known ones are.
+fn slot(set: u64) -> usize
+    ensures { λ r. ⌜ r ≡ slot-of set ⌝ }
+{
+    (set % 2029) as usize
+}
+
+fn wide16(x: u16) -> usize
+    ensures { λ r. ⌜ r ≡ x ⌝ }
+{
+    x as usize
+}
+
+// Whether a set is one of the first `known` nodes. Without a mark it is not; else the marked node is tried first.
+fn is_known(area: &[u8], slots: &[u16; 2048], known: usize, set: u64) -> bool
+    requires { ⌜ (known ≤ 1024) × (8 * known ≤ length (now area)) ⌝ }
+    requires { ⌜ Marked known (now area) (now slots) ⌝ }
+    ensures { λ r. ⌜ r ≡ member set (words-at (now (area .entry)) 0 known) ⌝ }
+{
+    let k = slot(set);
+    let mark = wide16(slots[k]);
+    if mark == 0 {
+        return false;
+    }
+    if mark <= known {
+        if node(area, NodeNumber(mark - 1)) == set {
+            return true;
+        }
+    }
+    let found = find(area, known, set);
+    found.0 < known
+}
+
 // How many nodes are known once `set` is one of them; capacity + 1 where there is no room for it.
-fn add(area: &mut [u8], known: usize, capacity: usize, set: u64) -> usize
+fn add(area: &mut [u8], slots: &mut [u16; 2048], known: usize, capacity: usize, set: u64) -> usize
     requires { ⌜ Room known capacity (length (now area)) ⌝ }
+    requires { ⌜ Marked known (now area) (now slots) ⌝ }
     ensures { λ r. ⌜ Added known capacity set (now (area .entry)) (now (area .exit)) r ⌝ }
     ensures { λ r. ⌜ (known ≤ r) × (r ≤ capacity + 1) ⌝ }
+    ensures { λ r. ⌜ (r ≤ capacity → Marked r (now (area .exit)) (now (slots .exit))) ⌝ }
 {
-    let found = find(area, known, set);
-    if found.0 < known {
+    if is_known(area, slots, known, set) {
         return known;
     }
     if known < capacity {
         put8(area, 8 * known, set);
+        let k = slot(set);
+        slots[k] = (known + 1) as u16;
         return known + 1;
     }
     known + 1
@@ -356,6 +394,7 @@ fn follow(
     rows: &[u8; 144],
     count: usize,
     area: &mut [u8],
+    slots: &mut [u16; 2048],
     from: u64,
     unmet: &[u64; 24],
     choice_word: u64,
@@ -364,13 +403,15 @@ fn follow(
 ) -> usize
     requires { ⌜ Formed (now rows) count ⌝ }
     requires { ⌜ Room known capacity (length (now area)) ⌝ }
+    requires { ⌜ Marked known (now area) (now slots) ⌝ }
     requires { ⌜ Unmet (now rows) count from (now unmet) ⌝ }
     ensures { λ r. ⌜ Followed (now (rows .entry)) count from «choice_word» known capacity (now (area .entry)) (now (area .exit)) r ⌝ }
     ensures { λ r. ⌜ (known ≤ r) × (r ≤ capacity + 1) ⌝ }
+    ensures { λ r. ⌜ (r ≤ capacity → Marked r (now (area .exit)) (now (slots .exit))) ⌝ }
 {
     match by_word(rows, count, unmet, choice_word, from) {
         Step::Nothing => known,
-        Step::Leads { to, letter: _ } => add(area, known, capacity, to),
+        Step::Leads { to, letter: _ } => add(area, slots, known, capacity, to),
     }
 }
 
@@ -379,6 +420,7 @@ fn expand(
     rows: &[u8; 144],
     count: usize,
     area: &mut [u8],
+    slots: &mut [u16; 2048],
     number: NodeNumber,
     known: usize,
     capacity: usize,
@@ -386,8 +428,10 @@ fn expand(
     requires { ⌜ Formed (now rows) count ⌝ }
     requires { ⌜ number .0 < known ⌝ }
     requires { ⌜ Room known capacity (length (now area)) ⌝ }
+    requires { ⌜ Marked known (now area) (now slots) ⌝ }
     ensures { λ r. ⌜ Expanded (now (rows .entry)) count (number .0) known capacity (now (area .entry)) (now (area .exit)) r ⌝ }
     ensures { λ r. ⌜ (known ≤ r) × (r ≤ capacity + 1) ⌝ }
+    ensures { λ r. ⌜ (r ≤ capacity → Marked r (now (area .exit)) (now (slots .exit))) ⌝ }
 {
     let from = node(area, number);
     let unmet = unmet(rows, count, from);
@@ -398,7 +442,7 @@ fn expand(
         if capacity < all {
             return all;
         }
-        all = follow(rows, count, area, from, &unmet, word, all, capacity);
+        all = follow(rows, count, area, slots, from, &unmet, word, all, capacity);
         word += 1;
     }
     all
@@ -410,14 +454,22 @@ pub fn nodes(rows: &[u8; 144], count: usize, area: &mut [u8], capacity: usize) -
     requires { ⌜ Room 1 capacity (length (now area)) ⌝ }
     ensures { λ r. ⌜ Holds capacity r (now (area .entry)) (now (area .exit)) (reachable (table-of (now (rows .entry)) count)) ⌝ }
 {
-    put8(area, 0, 1);
-    let mut known = 1;
+    let mut slots = [0u16; 2048];
+    let mut known = add(area, &mut slots, 0, capacity, 1);
     let mut i = 0;
     while i < known {
         if capacity < known {
             return known;
         }
-        known = expand(rows, count, area, NodeNumber(i), known, capacity);
+        known = expand(
+            rows,
+            count,
+            area,
+            &mut slots,
+            NodeNumber(i),
+            known,
+            capacity,
+        );
         i += 1;
     }
     known

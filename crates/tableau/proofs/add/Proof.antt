@@ -1,24 +1,41 @@
--- `tableau::add` puts a word at the end of those known, unless it is there or there is no room.
+-- `tableau::add` puts a word at the end of those known and marks it, unless it is there or there is no room.
+use mathlib.Core.Path.{sym, _∙_}
 use Rattle.tableau.proofs.AreaLaws.{add-known, add-new, add-full}
+use Rattle.tableau.proofs.SlotLaws.{marked-more}
 use borrow.Author.Needs.{needs}
 use native.Mathlib.Omega.{arith}
 use Rattle.tableau.proofs.add.Statement.{statement}
 use Rattle.tableau.proofs.add.Tie as tie
 
-find-requires : tie.Need-find-requires
-find-requires c κs = search needs
+is-known-requires : tie.Need-is-known-requires
+is-known-requires c κs = search needs
 
 same-length : tie.Need-same-length
 same-length c = search needs
 
 returns : tie.Need-returns
-returns c = (add-known _ _ (c .before .before .before .before .before .pre .fits) (c .before .before .find .ensures) (c .if1 .taken), (omega arith, omega arith))
+returns c = let s = c .before .before .before .before .before in (add-known _ _ (s .pre .0 .fits) (sym (c .before .is-known .ensures) ∙ c .if1 .taken), ((omega arith, omega arith), λ h. s .pre .1))
 
 mul-put8 : tie.Need-mul-put8
 mul-put8 c = search needs
 
 put8-requires : tie.Need-put8-requires
 put8-requires c κs = search needs
+
+slot-requires : tie.Need-slot-requires
+slot-requires c κs = search needs
+
+add-slots : tie.Need-add-slots
+add-slots c = search needs
+
+cast-slots : tie.Need-cast-slots
+cast-slots c = search needs
+
+mul-slots : tie.Need-mul-slots
+mul-slots c = omega (arith, c .slot .ensures)
+
+element-write-slots : tie.Need-element-write-slots
+element-write-slots c = omega (arith, c .slot .ensures)
 
 add-result : tie.Need-add-result
 add-result c = search needs
@@ -27,7 +44,14 @@ same-length-2 : tie.Need-same-length-2
 same-length-2 c = search needs
 
 returns-2 : tie.Need-returns-2
-returns-2 c = (add-new _ _ (c .before .before .before .before .before .before .before .before .before .before .pre .fits) (c .before .before .before .before .before .before .before .find .ensures) (c .before .before .before .before .before .if1 .left) (c .before .before .before .before .if2 .taken) (c .before .before .put8 .ensures), (omega arith, omega arith))
+returns-2 c =
+    let s = c .before .before .before .before .before .before .before .before .before .before .before in (
+      add-new _ _ (s .pre .0 .fits) (sym (c .before .before .before .before .before .before .before .is-known .ensures) ∙ c .before .before .before .before .before .before .if1 .left) (c .before .before .before .before .before .if2 .taken) (c .before .before .before .put8 .ensures),
+      (
+        (omega arith, omega arith),
+        λ h. marked-more _ _ (s .pre .1) (omega arith) (omega arith) (c .slot .ensures) (omega arith) (c .before .before .before .put8 .ensures),
+      ),
+    )
 
 add-result-2 : tie.Need-add-result-2
 add-result-2 c = search needs
@@ -36,17 +60,22 @@ same-length-3 : tie.Need-same-length-3
 same-length-3 c = search needs
 
 returns-3 : tie.Need-returns-3
-returns-3 c = (add-full _ _ (c .before .before .before .before .before .before .pre .fits) (c .before .before .before .find .ensures) (c .before .if1 .left) (c .if2 .left), (omega arith, omega arith))
+returns-3 c = (add-full _ _ (c .before .before .before .before .before .before .pre .0 .fits) (sym (c .before .before .is-known .ensures) ∙ c .before .if1 .left) (c .if2 .left), ((omega arith, omega arith), λ h. absurd (omega arith)))
 
 pub add-spec : {M : Type 1} → statement M
 add-spec =
     tie.close
     (tie.spec
-    find-requires
+    is-known-requires
     same-length
     returns
     mul-put8
     put8-requires
+    slot-requires
+    add-slots
+    cast-slots
+    mul-slots
+    element-write-slots
     add-result
     same-length-2
     returns-2

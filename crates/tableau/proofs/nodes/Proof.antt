@@ -1,9 +1,10 @@
 -- `tableau::nodes` is the breadth-first search over the area: after i turns, the area holds what the search has found by then. Past the
 -- capacity it may stop.
 use mathlib.Core.List.{List}
-use lib.ListN.{length}
-use Rattle.tableau.specs.Area.{put}
+use lib.ListN.{length, length-replicate}
+use Rattle.tableau.specs.Area.{Marked, Added}
 use Rattle.tableau.proofs.NodeLoop.{Finding, find-start, find-turn, find-end, find-full}
+use Rattle.tableau.proofs.SlotLaws.{marked-none}
 use borrow.Author.Needs.{needs}
 use native.Mathlib.Omega.{arith}
 use Prim.Native.Nat.{ℕ, _+_, _-_, _≤_}
@@ -12,25 +13,25 @@ use Rattle.tableau.proofs.nodes.Statement.{statement}
 use Rattle.tableau.proofs.nodes.Tie as tie
 
 abbrev Inv-loop : tie.InvT-loop
-Inv-loop rows count area₀ capacity known₀ i₀ area known i = (i ≤ known) × ((i ≤ capacity) × ((known ≤ capacity + 1) × ((length area ≡ length area₀) × ((a : List ℕ) → area₀ ≡ put a 0 1 → Finding rows count capacity known i a area))))
+Inv-loop rows count area₀ capacity slots₀ known₀ i₀ area slots known i = (i ≤ known) × ((i ≤ capacity) × ((known ≤ capacity + 1) × ((length area ≡ length area₀) × ((known ≤ capacity → Marked known area slots) × ((a : List ℕ) → Added 0 capacity 1 a area₀ known₀ → Finding rows count capacity known i a area)))))
 
 abbrev μ-loop : tie.MeasureT-loop
-μ-loop rows count area₀ capacity known₀ i₀ area known i = (capacity + 1) - i
+μ-loop rows count area₀ capacity slots₀ known₀ i₀ area slots known i = (capacity + 1) - i
 
-put8-requires : tie.Need-put8-requires Inv-loop μ-loop
-put8-requires c κs = search needs
+add-requires : tie.Need-add-requires Inv-loop μ-loop
+add-requires c κs = (search needs, marked-none _ _ (omega (arith, length-replicate {A = ℕ} 2048 0)))
 
 loop-holds : tie.Need-loop-holds Inv-loop μ-loop
-loop-holds c = (omega arith, (omega arith, (omega arith, (refl, λ a e. find-start _ _ _ (c .before .before .before .before .before .pre .0) (omega arith) e))))
+loop-holds c = (omega arith, (omega arith, (omega (arith, c .before .before .add .ensures .1 .0), (refl, (c .before .before .add .ensures .1 .1, λ a e. find-start (c .before .before .before .before .before .before .pre .0) e)))))
 
 same-length : tie.Need-same-length Inv-loop μ-loop
 same-length c = search needs
 
 returns : tie.Need-returns Inv-loop μ-loop
-returns c = find-full (c .before .before .loop .inv .1 .1 .1 .1 (c .before .before .before .before .before .before .before .before .args .area .now) (c .before .before .before .before .before .put8 .ensures)) (c .if1 .taken)
+returns c = find-full (c .before .before .loop .inv .1 .1 .1 .1 .1 (c .before .before .before .before .before .before .before .before .before .args .area .now) (c .before .before .before .before .before .add .ensures .0)) (c .if1 .taken)
 
 expand-requires : tie.Need-expand-requires Inv-loop μ-loop
-expand-requires c κs = (c .before .before .before .before .before .before .before .before .before .pre .0, (c .before .before .loop-test .taken, search needs))
+expand-requires c κs = (c .before .before .before .before .before .before .before .before .before .before .before .pre .0, (c .before .before .before .loop-test .taken, (search needs, c .before .before .before .before .loop .inv .1 .1 .1 .1 .0 (c .before .before .if1 .left))))
 
 add-i : tie.Need-add-i Inv-loop μ-loop
 add-i c = search needs
@@ -39,13 +40,13 @@ loop-less : tie.Need-loop-less Inv-loop μ-loop
 loop-less c = search needs
 
 loop-again : tie.Need-loop-again Inv-loop μ-loop
-loop-again c = (omega (arith, c .before .before .expand .ensures .1), (omega arith, (omega (arith, c .before .before .expand .ensures .1), (search needs, λ a e. find-turn (c .before .before .before .before .before .before .loop .inv .1 .1 .1 .1 a e) (c .before .before .before .before .before .loop-test .taken) (c .before .before .expand .ensures .0)))))
+loop-again c = (omega (arith, c .before .before .expand .ensures .1 .0), (omega arith, (omega (arith, c .before .before .expand .ensures .1 .0), (search needs, (c .before .before .expand .ensures .1 .1, λ a e. find-turn (c .before .before .before .before .before .before .before .loop .inv .1 .1 .1 .1 .1 a e) (c .before .before .before .before .before .before .loop-test .taken) (c .before .before .expand .ensures .0))))))
 
 same-length-2 : tie.Need-same-length-2 Inv-loop μ-loop
 same-length-2 c = search needs
 
 returns-2 : tie.Need-returns-2 Inv-loop μ-loop
-returns-2 c = find-end (c .before .loop .inv .1 .1 .1 .1 (c .before .before .before .before .before .before .before .args .area .now) (c .before .before .before .before .put8 .ensures)) (c .loop-test .left) (c .before .loop .inv .1 .0)
+returns-2 c = find-end (c .before .loop .inv .1 .1 .1 .1 .1 (c .before .before .before .before .before .before .before .before .args .area .now) (c .before .before .before .before .add .ensures .0)) (c .loop-test .left) (c .before .loop .inv .1 .0)
 
 pub nodes-spec : {M : Type 1} → statement M
 nodes-spec =
@@ -53,7 +54,7 @@ nodes-spec =
     (tie.spec
     Inv-loop
     μ-loop
-    put8-requires
+    add-requires
     loop-holds
     same-length
     returns
