@@ -13,7 +13,7 @@ use Rattle.tableau.specs.Saturation.{Subset}
 use Rattle.tableau.specs.Transition.{Transition, transitions}
 use Rattle.coded.specs.Spread.{seen, add, adds}
 use Rattle.coded.specs.Marks.{triples}
-use Rattle.coded.specs.Runs.{Found, same-profile, number-of, ones-of, ones-from, ones}
+use Rattle.coded.specs.Runs.{Found, same-profile, single-of, ones-of, ones-from, ones}
 use Rattle.coded.proofs.SpreadLaws.{adds-append}
 
 -- items by rising first node, none above k
@@ -57,7 +57,7 @@ rise-from : (t : Table) (ns : List Subset) (i : ℕ) (vs : List Subset) (xs : Li
 unfolding triples transitions
 rise-from t ns i [] xs r = (i, r)
 rise-from t ns i (v ∷ vs) xs r =
-    let here = rise-adds (λ (s : Transition). record { at = record { first = i; last = number-of ns (s .to); carried = triples t v (s .choice) }; parent = 0; label = s .letter }) (λ s. refl) xs (transitions t v) r in
+    let here = rise-adds (single-of t ns i v) (λ s. refl) xs (transitions t v) r in
     let (k, rest) = rise-from t ns (suc i) vs (adds same-profile xs (ones-of t ns i v)) (rise-up here) in
     (k, subst (Rise k) (sym (adds-append same-profile xs (ones-of t ns i v) (ones-from t ns (suc i) vs))) rest)
 

@@ -28,7 +28,7 @@ use Rattle.profile.proofs.ProfileLaws.{profile-sound, profile-refl, few}
 use Rattle.coded.specs.Spread.{adds, spread}
 use Rattle.coded.specs.Triples.{same-triples, join}
 use Rattle.coded.specs.Marks.{triples}
-use Rattle.coded.specs.Runs.{Profile, same-profile, Found, follow, longer, number-of, ones-from, ones, profiles-from, profiles}
+use Rattle.coded.specs.Runs.{Profile, same-profile, Found, follow, longer, number-of, single-of, ones-from, ones, profiles-from, profiles}
 use Rattle.coded.proofs.NodeNumbers.{sets, tail-sets, one-number, node-sets, root-first, leads-in, others, other-visits, same-numbers}
 use Rattle.coded.proofs.TriplesLaws.{same-triples-sound, same-triples-refl}
 use Rattle.coded.proofs.CarryLaws.{Carries, carries-set, carries-table, carries-join}
@@ -131,7 +131,7 @@ module _ (t : Table) where
 
   -- the run of one transition s from node v, number j
   abbrev one : ℕ → Subset → Transition → Found
-  one j v s = record { at = record { first = j; last = number-of (node-sets t) (s .to); carried = triples t v (s .choice) }; parent = 0; label = s .letter }
+  one = single-of t (node-sets t)
 
   module _ (formed : Formed t) (apart : (v : Subset) (s : Transition) → List·Memᴰ s (transitions t v) → s .to ≡ root t → ⊥) where
     one-profile : (a : Profile) (b c : literal.Profile) → Codes a b → Codes a c → b ≡ c

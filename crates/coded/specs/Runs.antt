@@ -47,11 +47,14 @@ abbrev pub number-of : List Subset → Subset → ℕ
 number-of [] v = 0
 number-of (u ∷ us) v = let r = suc (number-of us v) in cond (same-subset u v) 0 r
 
+-- the profile of a transition of node i, which is the set v
+abbrev pub single-of : Table → List Subset → (i : ℕ) → Subset → Transition → Found
+single-of t ns i v s = record { at = record { first = i; last = number-of ns (s .to); carried = triples t v (s .choice) }; parent = 0; label = s .letter }
+
 -- the runs of one transition from node i
 abbrev pub ones-of : Table → List Subset → ℕ → Subset → List Found
 unfolding triples transitions
-ones-of t ns i v =
-    map (λ (s : Transition). record { at = record { first = i; last = number-of ns (s .to); carried = triples t v (s .choice) }; parent = 0; label = s .letter }) (transitions t v)
+ones-of t ns i v = map (single-of t ns i v) (transitions t v)
 
 abbrev pub ones-from : Table → List Subset → ℕ → List Subset → List Found
 unfolding triples transitions

@@ -34,13 +34,13 @@ use Rattle.tableau.proofs.NodeLoop.{at-sized}
 use Rattle.tableau.proofs.NodeReads.{Kept, kept-at, eight-same, words-same}
 use Rattle.coded.specs.Spread.{add, adds}
 use Rattle.coded.specs.Marks.{triples}
-use Rattle.coded.specs.Runs.{Found as Item, same-profile, number-of, ones-of, ones-from, ones}
+use Rattle.coded.specs.Runs.{Found as Item, same-profile, number-of, single-of, ones-of, ones-from, ones}
 use Rattle.triples.specs.Promise.{triples-in}
 use Rattle.traces.specs.Promise.{Triples-of}
 use Rattle.traces.specs.declared.Ranks.{Ranks}
 use Rattle.runs.specs.declared.Shelf.{Shelf}
 use Rattle.runs.specs.Stored.{found-of, stored, Lent, Changed, Chained, Grown, Added}
-use Rattle.runs.specs.Singles.{subset-of, node-in, nodes-in, single-of, singles-by, Given}
+use Rattle.runs.specs.Singles.{subset-of, node-in, nodes-in, singles-by, Given}
 use Rattle.runs.proofs.GrowLaws.{grown-still, with-first, turn-more, turn-stop}
 use Rattle.runs.proofs.BucketLaws.{chained-none}
 use Rattle.runs.proofs.TurnLaws.{grown-same}

@@ -8,10 +8,9 @@ use Rattle.base.specs.Bits.{bit}
 use Rattle.base.specs.Lists.{numbers}
 use Rattle.formula.specs.Table.{Table}
 use Rattle.tableau.specs.Saturation.{Subset, saturate}
-use Rattle.tableau.specs.Transition.{Transition, choice-of, transition-of}
+use Rattle.tableau.specs.Transition.{choice-of, transition-of}
 use Rattle.tableau.specs.Area.{eight, words-at}
-use Rattle.coded.specs.Marks.{triples}
-use Rattle.coded.specs.Runs.{Found, number-of}
+use Rattle.coded.specs.Runs.{Found, single-of}
 use Rattle.traces.specs.Promise.{Limited, Ranks-of}
 use Rattle.traces.specs.declared.Ranks.{Ranks}
 use Rattle.runs.specs.declared.Shelf.{Shelf}
@@ -28,11 +27,7 @@ node-in count area i = subset-of count (eight area (8 * i))
 abbrev pub nodes-in : (count : ℕ) → List ℕ → (nodes : ℕ) → List Subset
 nodes-in count area nodes = map (subset-of count) (words-at area 0 nodes)
 
--- the profile of a transition of node i, which is the set v
-abbrev pub single-of : Table → List Subset → (i : ℕ) → Subset → Transition → Found
-single-of t vs i v s = record { at = record { first = i; last = number-of vs (s .to); carried = triples t v (s .choice) }; parent = 0; label = s .letter }
-
--- of the transition with a choice word, if it exists
+-- the profile of the transition of node i, which is the set v, with a choice word, if it exists
 abbrev pub singles-by : Table → List Subset → (i : ℕ) → Subset → (choice-word : ℕ) → List Found
 singles-by t vs i v x = map (single-of t vs i v) (transition-of t (choice-of t x) (saturate t (choice-of t x) v))
 
