@@ -16,17 +16,18 @@ use Rattle.base.proofs.Inside.{inside-length}
 use Rattle.base.proofs.WordLaws.{word-inj}
 use Rattle.formula.specs.Table.{Operator, Table}
 use Rattle.tableau.specs.Saturation.{Subset, nothing, saturate}
-use Rattle.tableau.specs.Transition.{operators-in, within, possible, letter-of, next-of, ors, choice-of, choices, Transition, transition-of, transitions}
-use Rattle.tableau.specs.Promise.{table-of, Leads-nowhere, step, Stepped}
+use Rattle.tableau.specs.Transition.{operators-in, within, possible, letter-of, next-of, ors, choice-of, choices, Transition, transition-of, by-word, transitions}
+use Rattle.tableau.specs.Promise.{table-of, step, Stepped-by}
 use Rattle.tableau.specs.Area.{eight}
 use Rattle.tableau.specs.declared.NodeNumber.{NodeNumber}
 use Rattle.tableau.specs.declared.Step.{Step}
-use Rattle.tableau.specs.declared.Step.the-variants.{Leads}
+use Rattle.tableau.specs.declared.Step.the-variants.{Leads, Nothing}
 use Rattle.tableau.proofs.SaturationLaws.{add-inside}
 use Rattle.tableau.proofs.TransitionLaws.{transition-with}
+use Rattle.tableau.proofs.StepLaws.{step-nowhere}
 use Rattle.tableau.proofs.LoopLaws.{table-length}
 use Rattle.decision.specs.Promise.{node-count}
-use Rattle.decision.specs.Stem.{node-at, Standing, Tried, Tries, by-choice, Nearer, Comes}
+use Rattle.decision.specs.Stem.{node-at, Standing, Tried, Tries, Nearer, Comes}
 use Rattle.decision.specs.declared.Came.{Came}
 use Rattle.decision.specs.declared.Came.the-variants.{From, Nowhere}
 use Rattle.decision.proofs.StemLaws.{None-to, some-before, first-nearer, node-length}
@@ -47,7 +48,8 @@ one-other true x from u to p n e =
     Tried.none (λ s m q. n (a ∙ ap (λ (y : Transition). word (y .to)) (sym (List·Memᴰ·eq-of-singleton m)) ∙ ap word q))
 one-other false x from u to p n e = Tried.none (λ s m q. List·Memᴰ·not-nil m)
 
-module _ (rows : List ℕ) (count x : ℕ) where
+-- the answer under the choice word x
+module _ {rows : List ℕ} {count x from : ℕ} (number : NodeNumber) (set : ℕ) {r : Step} (st : Stepped-by rows count x from r) where
   abbrev t : Table
   t = table-of rows count
 
@@ -57,32 +59,29 @@ module _ (rows : List ℕ) (count x : ℕ) where
   abbrev os : Subset → List Operator
   os v = operators-in t (saturate t w v)
 
-  pub tries-nowhere : {from : ℕ} (number : NodeNumber) (set : ℕ) → Leads-nowhere rows count from x → Tries (by-choice t x) count number from set Nowhere
-  tries-nowhere number set n = record {
-    is = λ v u l k p q. Tried.none (λ s m e. List·Memᴰ·not-nil (subst (List·Memᴰ s) (n .is v l p) m));
+  pub tries-nowhere : r ≡ Nothing → Tries (by-word t x) count number from set Nowhere
+  tries-nowhere e = record {
+    is = λ v u l k p q. Tried.none (λ s m d. List·Memᴰ·not-nil (subst (List·Memᴰ s) (step-nowhere st e .is v l p) m));
   }
 
-  module _ {choice from : ℕ} (number : NodeNumber) (set : ℕ) (chosen : choice ≡ word w) where
-    pub tries-found : {r : Step} {to letter : ℕ} → Stepped rows count choice from r → r ≡ Leads to letter → to ≡ set
-        → Tries (by-choice t x) count number from set (From number letter)
-    unfolding possible letter-of
-    tries-found {to = to} {letter} st e h =
-        record {
-          is = λ v u l k p q.
-              one-found (within w (saturate t w v) && possible (os v)) (transition-with t w (saturate t w v)) number u to letter (h ∙ q)
-              (sym (inside-length (add-inside (gather next-of (os v)) (nothing t))) ∙ length-map t (λ _. false) ∙ table-length rows count ∙ sym k)
-              (sym e ∙ st .is w v l chosen p);
-        }
+  pub tries-found : {to letter : ℕ} → r ≡ Leads to letter → to ≡ set → Tries (by-word t x) count number from set (From number letter)
+  unfolding possible letter-of
+  tries-found {to} {letter} e h =
+      record {
+        is = λ v u l k p q.
+            one-found (within w (saturate t w v) && possible (os v)) (transition-with t w (saturate t w v)) number u to letter (h ∙ q)
+            (sym (inside-length (add-inside (gather next-of (os v)) (nothing t))) ∙ length-map t (λ _. false) ∙ table-length rows count ∙ sym k)
+            (sym e ∙ st .is v l p);
+      }
 
-    pub tries-other : {r : Step} {to letter : ℕ} → Stepped rows count choice from r → r ≡ Leads to letter → (to ≡ set → ⊥)
-        → Tries (by-choice t x) count number from set Nowhere
-    unfolding possible letter-of
-    tries-other {to = to} {letter} st e n =
-        record {
-          is = λ v u l k p q.
-              one-other (within w (saturate t w v) && possible (os v)) (transition-with t w (saturate t w v)) number u to letter (λ h. n (h ∙ sym q))
-              (sym e ∙ st .is w v l chosen p);
-        }
+  pub tries-other : {to letter : ℕ} → r ≡ Leads to letter → (to ≡ set → ⊥) → Tries (by-word t x) count number from set Nowhere
+  unfolding possible letter-of
+  tries-other {to} {letter} e n =
+      record {
+        is = λ v u l k p q.
+            one-other (within w (saturate t w v) && possible (os v)) (transition-with t w (saturate t w v)) number u to letter (λ h. n (h ∙ sym q))
+            (sym e ∙ st .is v l p);
+      }
 
 numbers-lt : (k n : ℕ) {x : ℕ} → List·Memᴰ x (numbers k n) → x < k + n
 numbers-lt k zero m = absurd (List·Memᴰ·not-nil m)
@@ -100,14 +99,14 @@ tried-more a p e f (Tried.none n) = absurd (let z : _≡_ {A = ℕ} 0 1 = cc in 
 module _ (t : Table) (count : ℕ) (number : NodeNumber) (from set : ℕ) where
   -- no transition of the choice words below n leads there
   abbrev pub None-by : ℕ → Type 0
-  None-by n = (x : ℕ) → x < n → Tries (by-choice t x) count number from set Nowhere
+  None-by n = (x : ℕ) → x < n → Tries (by-word t x) count number from set Nowhere
 
-  pub none-next : (n : ℕ) → None-by n → {r : Came} → r ≡ Nowhere → Tries (by-choice t n) count number from set r → None-by (n + 1)
+  pub none-next : (n : ℕ) → None-by n → {r : Came} → r ≡ Nowhere → Tries (by-word t n) count number from set r → None-by (n + 1)
   none-next n f e h x l =
       elim (decLt x n) [
         | yes k ↦ f x k
-        | no k ↦ subst (λ (y : ℕ). Tries (by-choice t y) count number from set Nowhere) {x = n} {y = x} (omega arith)
-            (subst (Tries (by-choice t n) count number from set) e h)
+        | no k ↦ subst (λ (y : ℕ). Tries (by-word t y) count number from set Nowhere) {x = n} {y = x} (omega arith)
+            (subst (Tries (by-word t n) count number from set) e h)
       ]
 
   module _ {end o : ℕ} (power : end ≡ 2 ^ o) (count-is : o ≡ ors t) where
@@ -115,7 +114,7 @@ module _ (t : Table) (count : ℕ) (number : NodeNumber) (from set : ℕ) where
     all-words = power ∙ ap (λ (k : ℕ). 2 ^ k) count-is
 
     -- Theorem: what one choice word finds is found.
-    pub tries-some : (n : ℕ) → n < end → {r : Came} (a : NodeNumber) (p : ℕ) → r ≡ From a p → Tries (by-choice t n) count number from set r
+    pub tries-some : (n : ℕ) → n < end → {r : Came} (a : NodeNumber) (p : ℕ) → r ≡ From a p → Tries (by-word t n) count number from set r
         → Tries (transitions t) count number from set r
     unfolding transitions
     tries-some n h a p e f =

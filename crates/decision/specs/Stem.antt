@@ -5,8 +5,8 @@ use Prim.Native.Nat.{ℕ, _+_, _*_, _≤_, _<_}
 use lib.ListN.{length, getD}
 use Rattle.base.specs.Bits.{word}
 use Rattle.formula.specs.Table.{Table}
-use Rattle.tableau.specs.Saturation.{Subset, saturate}
-use Rattle.tableau.specs.Transition.{choice-of, Transition, transition-of, transitions}
+use Rattle.tableau.specs.Saturation.{Subset}
+use Rattle.tableau.specs.Transition.{Transition, transitions}
 use Rattle.tableau.specs.Nodes.{root, nodes}
 use Rattle.tableau.specs.Run.{Along}
 use Rattle.tableau.specs.Promise.{table-of, Formed}
@@ -39,10 +39,6 @@ pub data Tried (ss : List Transition) (from : NodeNumber) (u : Subset) : Came �
 -- The same for the transitions of a node v, where the code has the words of the two nodes.
 pub record Tries (of : Subset → List Transition) (count : ℕ) (from : NodeNumber) (x y : ℕ) (r : Came) : Type 0 where
   pub is : (v u : Subset) → length v ≡ count → length u ≡ count → x ≡ word v → y ≡ word u → Tried (of v) from u r
-
--- the transition of a choice word, if it exists
-abbrev pub by-choice : Table → ℕ → Subset → List Transition
-by-choice t x v = transition-of t (choice-of t x) (saturate t (choice-of t x) v)
 
 -- A transition with that letter leads from node i to node j, and node i is one transition nearer to the root.
 pub record Nearer (t : Table) (j i letter : ℕ) : Type 0 where

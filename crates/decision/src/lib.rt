@@ -10,14 +10,14 @@ ghost use mathlib.Core.Path.{_≡_};
 ghost use Prim.Native.Nat.{ℕ, suc, _+_, _*_, _≤_, _<_};
 ghost use lib.ListN.{length};
 ghost use Rattle.base.specs.Bits.{bit};
-ghost use Rattle.tableau.specs.Transition.{transitions};
+ghost use Rattle.tableau.specs.Transition.{by-word, transitions};
 ghost use Rattle.tableau.specs.Promise.{table-of, Formed, Unmet};
 ghost use Rattle.coded.specs.Runs.{accepting, profiles};
 ghost use Rattle.traces.specs.Promise.{fix-rank, Ranked};
 ghost use Rattle.runs.specs.Stored.{record-of, Lent, Grown};
 ghost use Rattle.runs.specs.Singles.{Given, nodes-in};
 ghost use Rattle.decision.specs.Promise.{node-count, Decided};
-ghost use Rattle.decision.specs.Stem.{Standing, Tries, by-choice, Comes, Written, Stemmed};
+ghost use Rattle.decision.specs.Stem.{Standing, Tries, Comes, Written, Stemmed};
 ghost use Rattle.decision.specs.Chain.{letters-to, Linked, accepts, First};
 ghost use Rattle.decision.specs.Searched.{Decoded, Profiled, Answers, concluded, Searched, Lends, Settled};
 
@@ -42,8 +42,7 @@ enum Came {
     Nowhere,
 }
 
-// Whether the transition of a choice word leads from a node, with its number, to a set. A word that picks at an or that it does not meet
-// has none.
+// Whether the transition of a choice word leads from a node, with its number, to a set.
 fn by_choice(
     rows: &[u8; 144],
     count: usize,
@@ -55,13 +54,9 @@ fn by_choice(
 ) -> Came
     requires { ⌜ Formed (now rows) count ⌝ }
     requires { ⌜ Unmet (now rows) count from (now unmet) ⌝ }
-    ensures { λ r. ⌜ Tries (by-choice (table-of (now (rows .entry)) count) «choice_word») count number from set r ⌝ }
+    ensures { λ r. ⌜ Tries (by-word (table-of (now (rows .entry)) count) «choice_word») count number from set r ⌝ }
 {
-    if tableau::is_unmet(unmet, choice_word) {
-        return Came::Nowhere;
-    }
-    let choice = tableau::choice_of(rows, count, choice_word);
-    match tableau::transition(rows, count, choice, from) {
+    match tableau::by_word(rows, count, unmet, choice_word, from) {
         Step::Nothing => Came::Nowhere,
         Step::Leads { to, letter } => {
             if to == set {

@@ -21,8 +21,8 @@ use Rattle.base.proofs.ShiftLaws.{same-low-bits}
 use Rattle.base.proofs.WordLaws.{word-bit, word-lt, word-inj}
 use Rattle.formula.specs.Table.{Table}
 use Rattle.tableau.specs.Saturation.{Subset, same-subset, nothing, saturate}
-use Rattle.tableau.specs.Transition.{operators-in, requires, letter-of, next-of, ors, choice-of, Transition, transition-of, transitions}
-use Rattle.tableau.specs.Promise.{table-of, Leads-nowhere, Unmet, Stepped}
+use Rattle.tableau.specs.Transition.{operators-in, requires, letter-of, next-of, ors, choice-of, Transition, transition-of, by-word, transitions}
+use Rattle.tableau.specs.Promise.{table-of, Leads-nowhere, Unmet, Stepped-by}
 use Rattle.tableau.specs.Area.{eight, words-at, index, Sized}
 use Rattle.tableau.specs.declared.Step.the-variants.{Leads}
 use Rattle.tableau.proofs.SaturationLaws.{add-inside}
@@ -114,7 +114,7 @@ all-choices : (t : Table) (vs : List Subset) (i : ℕ) (v : Subset) → gather (
 unfolding triples transitions
 all-choices t vs i v =
     sym (ap (map (single-of t vs i v)) (gather-map (λ w. transition-of t w (saturate t w v)) (choice-of t) (numbers 0 (2 ^ ors t)))
-    ∙ map-gather (single-of t vs i v) (λ (x : ℕ). transition-of t (choice-of t x) (saturate t (choice-of t x) v)) (numbers 0 (2 ^ ors t)))
+    ∙ map-gather (single-of t vs i v) (λ (x : ℕ). by-word t x v) (numbers 0 (2 ^ ors t)))
 
 all-nodes : (t : Table) (vs : List Subset) (count : ℕ) (a : List ℕ) (i n : ℕ)
     → ones-from t vs i (map (subset-of count) (words-at a i n)) ≡ gather (λ j. ones-of t vs j (node-in count a j)) (numbers i n)
@@ -179,22 +179,23 @@ module _ {rows : List ℕ} {count : ℕ} {r : Ranks} {s : Shelf} {nodes : ℕ} {
     node-is : eight a (8 * i) ≡ word v
     node-is = sym (subset-word count (eight a (8 * i)) (g .sets i h))
 
-    pub single-nowhere : {had : ℕ} → had ≤ s .capacity → Chained s a had → Leads-nowhere rows count (eight a (8 * i)) x → Added s had a had a (singles-by t vs i v x)
-    single-nowhere {had} l k n =
-        grown-same (ap (λ (ys : List Transition). adds same-profile (stored s a had) (map (single-of t vs i v) ys)) (sym (n .is v long node-is))) (grown-still s had a l k)
+    pub single-nowhere : {from had : ℕ} → from ≡ eight a (8 * i) → had ≤ s .capacity → Chained s a had → Leads-nowhere rows count from x
+        → Added s had a had a (singles-by t vs i v x)
+    single-nowhere {had = had} f l k n =
+        grown-same (ap (λ (ys : List Transition). adds same-profile (stored s a had) (map (single-of t vs i v) ys)) (sym (n .is v long (f ∙ node-is)))) (grown-still s had a l k)
 
-    module _ {choice from : ℕ} (c : choice ≡ word (choice-of t x)) (f : from ≡ eight a (8 * i)) {to letter : ℕ} (st : Stepped rows count choice from (Leads to letter)) where
+    module _ {from to letter : ℕ} (f : from ≡ eight a (8 * i)) (st : Stepped-by rows count x from (Leads to letter)) where
       found : Found t w (saturate t w v) to letter
-      found = a-step t w (saturate t w v) (st .is w v long c (f ∙ node-is))
+      found = a-step t w (saturate t w v) (st .is v long (f ∙ node-is))
 
       pub single-letter : letter < 65536
       single-letter = omega (arith, found .letter-is, letter-few t w (saturate t w v))
 
-      pub single-some : {last had q : ℕ} {d : List ℕ} (carried : List ℕ) → last ≡ index to (words-at a 0 nodes)
+      pub single-some : {choice last had q : ℕ} {d : List ℕ} (carried : List ℕ) → last ≡ index to (words-at a 0 nodes) → choice ≡ word w
           → Triples-of rows count choice from carried
           → Added s had a q d (found-of (record { first = i; last = last; parent = 0; letter = letter }) (triples-in (s .n) carried) ∷ [])
           → Added s had a q d (singles-by t vs i v x)
-      single-some {last} {had} carried l k m =
+      single-some {last = last} {had} carried l c k m =
           let y = transition-with t w (saturate t w v) in
           let p : last ≡ number-of vs (y .to) =
           l ∙ ap (λ (z : ℕ). index z (words-at a 0 nodes)) (found .to-is)

@@ -7,8 +7,8 @@ use lib.ListN.{length}
 use Rattle.base.specs.Bits.{bit}
 use Rattle.base.specs.Lists.{numbers}
 use Rattle.formula.specs.Table.{Table}
-use Rattle.tableau.specs.Saturation.{Subset, saturate}
-use Rattle.tableau.specs.Transition.{choice-of, transition-of}
+use Rattle.tableau.specs.Saturation.{Subset}
+use Rattle.tableau.specs.Transition.{by-word}
 use Rattle.tableau.specs.Area.{eight, words-at}
 use Rattle.coded.specs.Runs.{Found, single-of}
 use Rattle.traces.specs.Promise.{Limited, Ranks-of}
@@ -29,7 +29,7 @@ nodes-in count area nodes = map (subset-of count) (words-at area 0 nodes)
 
 -- the profile of the transition of node i, which is the set v, with a choice word, if it exists
 abbrev pub singles-by : Table → List Subset → (i : ℕ) → Subset → (choice-word : ℕ) → List Found
-singles-by t vs i v x = map (single-of t vs i v) (transition-of t (choice-of t x) (saturate t (choice-of t x) v))
+singles-by t vs i v x = map (single-of t vs i v) (by-word t x v)
 
 -- What is asked: rows and ranks that are right, a shelf behind the nodes, and nodes that are sets of subformulas.
 pub record Given (rows : List ℕ) (count : ℕ) (r : Ranks) (s : Shelf) (nodes : ℕ) (area : List ℕ) : Type 0 where

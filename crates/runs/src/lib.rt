@@ -233,7 +233,7 @@ fn add(area: &mut [u8], shelf: Shelf, count: usize, ends: Ends, t: &[u8; 144]) -
     count + 1
 }
 
-// Adds the profile of the transition of a node under a choice word, if there is one. A word that picks at an or that it does not meet has none.
+// Adds the profile of the transition of a node under a choice word, if there is one.
 fn single(
     rows: &[u8; 144],
     subformulas: usize,
@@ -252,16 +252,13 @@ fn single(
     requires { ⌜ Chained shelf (now area) count ⌝ }
     ensures { λ all. ⌜ Added shelf count (now (area .entry)) all (now (area .exit)) (singles-by (table-of (now (rows .entry)) subformulas) (nodes-in subformulas (now (area .entry)) nodes) (number .0) (node-in subformulas (now (area .entry)) (number .0)) «choice_word») ⌝ }
 {
-    if tableau::is_unmet(unmet, choice_word) {
-        return count;
-    }
     let first = number.0;
     let from = tableau::node(area, number);
-    let choice = tableau::choice_of(rows, subformulas, choice_word);
-    match tableau::transition(rows, subformulas, choice, from) {
+    match tableau::by_word(rows, subformulas, unmet, choice_word, from) {
         Step::Nothing => count,
         Step::Leads { to, letter } => {
             let last = tableau::find(area, nodes, to);
+            let choice = tableau::choice_of(rows, subformulas, choice_word);
             let t = traces::triples_of(rows, subformulas, r, choice, from);
             let ends = Ends {
                 first: first,
