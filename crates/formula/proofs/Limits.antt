@@ -208,27 +208,20 @@ module _ (q : Operator → Bool) (test : Opcode → Bool) (same : (o : Operator)
 abbrev pub is-or : Operator → Bool
 is-or o = or-command (opcode-of o)
 
-next-same : (o : Operator) → is-next o ≡ next-command (opcode-of o)
-next-same (Operator.leaf (Leaf.constant b)) = refl
-next-same (Operator.leaf (Leaf.signal present s)) = refl
-next-same (Operator.variable m) = refl
-next-same (Operator.pair o l r) = refl
-next-same (Operator.next g) = refl
-next-same (Operator.fix g b) = refl
-
-fix-same : (o : Operator) → is-fix o ≡ fix-command (opcode-of o)
-fix-same (Operator.leaf (Leaf.constant b)) = refl
-fix-same (Operator.leaf (Leaf.signal present s)) = refl
-fix-same (Operator.variable m) = refl
-fix-same (Operator.pair o l r) = refl
-fix-same (Operator.next g) = refl
-fix-same (Operator.fix g b) = refl
+-- an operator is a next, or a fixpoint, by its opcode
+tests-same : (o : Operator) → (is-next o ≡ next-command (opcode-of o)) × (is-fix o ≡ fix-command (opcode-of o))
+tests-same (Operator.leaf (Leaf.constant b)) = (refl, refl)
+tests-same (Operator.leaf (Leaf.signal present s)) = (refl, refl)
+tests-same (Operator.variable m) = (refl, refl)
+tests-same (Operator.pair o l r) = (refl, refl)
+tests-same (Operator.next g) = (refl, refl)
+tests-same (Operator.fix g b) = (refl, refl)
 
 pub table-ors : (f : Formula) → how-many is-or (table f) ≡ ors f
 table-ors = table-tally is-or or-command (λ o. refl)
 
 pub table-nexts : (f : Formula) → how-many is-next (table f) ≡ nexts f
-table-nexts = table-tally is-next next-command next-same
+table-nexts = table-tally is-next next-command (λ o. tests-same o .0)
 
 pub table-fixpoints : (f : Formula) → how-many is-fix (table f) ≡ fixpoints f
-table-fixpoints = table-tally is-fix fix-command fix-same
+table-fixpoints = table-tally is-fix fix-command (λ o. tests-same o .1)
