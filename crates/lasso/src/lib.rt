@@ -274,14 +274,8 @@ fn label(
         }
         Kind::Pair => {
             label(rows, letters, stem, words, Subformula(e + 1), again);
-            label(
-                rows,
-                letters,
-                stem,
-                words,
-                Subformula(base::wide(argument)),
-                again,
-            );
+            let right = Subformula(base::wide(argument));
+            label(rows, letters, stem, words, right, again);
             sweep(letters, stem, words, s, op, argument);
         }
         Kind::Fixpoint(greatest) => {

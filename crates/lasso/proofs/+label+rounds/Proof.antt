@@ -101,8 +101,8 @@ label-sweep-requires t c κs = (c .before .before .before .before .before .befor
 label-enum-told-2 : (t : ℕ) → label-lts.Need-enum-told-2 (label-calls t) (label-at t) label.Post
 label-enum-told-2 t c = search needs
 
-label-add-t25 : (t : ℕ) → label-lts.Need-add-t25 (label-calls t) (label-at t) label.Post
-label-add-t25 t c = omega (arith, few _ _ (c .before .before .before .before .before .before .before .before .before .before .pre .1 .0))
+label-add-t26 : (t : ℕ) → label-lts.Need-add-t26 (label-calls t) (label-at t) label.Post
+label-add-t26 t c = omega (arith, few _ _ (c .before .before .before .before .before .before .before .before .before .before .pre .1 .0))
 
 label-label-requires : (t : ℕ) → label-lts.Need-label-requires (label-calls t) (label-at t) label.Post
 label-label-requires t c κs =
@@ -117,8 +117,8 @@ label-sweep-requires-2 t c κs =
 label-enum-told-3 : (t : ℕ) → label-lts.Need-enum-told-3 (label-calls t) (label-at t) label.Post
 label-enum-told-3 t c = search needs
 
-label-add-t33 : (t : ℕ) → label-lts.Need-add-t33 (label-calls t) (label-at t) label.Post
-label-add-t33 t c = omega (arith, few _ _ (c .before .before .before .before .before .before .before .before .before .before .pre .1 .0))
+label-add-t34 : (t : ℕ) → label-lts.Need-add-t34 (label-calls t) (label-at t) label.Post
+label-add-t34 t c = omega (arith, few _ _ (c .before .before .before .before .before .before .before .before .before .before .pre .1 .0))
 
 label-label-requires-2 : (t : ℕ) → label-lts.Need-label-requires-2 (label-calls t) (label-at t) label.Post
 label-label-requires-2 t c κs =
@@ -131,7 +131,7 @@ label-wide-requires t c κs = search needs
 label-label-requires-3 : (t : ℕ) → label-lts.Need-label-requires-3 (label-calls t) (label-at t) label.Post
 label-label-requires-3 t c κs =
     let p = c .before .before .before .before .before .before .before .before .before .before .before .before .before .before .before .pre in
-    operand-call _ _ _ _ _ _ (same-room _ _ _ _ (p .1 .1) (omega (arith, p .1 .1 .words))) _ _ (c .wide .ensures) (second-operand _ _ (p .1 .0) (sym (c .before .before .before .before .before .before .before .before .classify .ensures _ _) ∙ c .before .before .before .before .before .before .enum-told3 .given .1)) (omega (arith, p .0))
+    operand-call _ _ _ _ _ _ (same-room _ _ _ _ (p .1 .1) (omega (arith, p .1 .1 .words))) _ _ (c .before .wide .ensures) (second-operand _ _ (p .1 .0) (sym (c .before .before .before .before .before .before .before .before .classify .ensures _ _) ∙ c .before .before .before .before .before .before .enum-told3 .given .1)) (omega (arith, p .0))
 
 label-sweep-requires-3 : (t : ℕ) → label-lts.Need-sweep-requires-3 (label-calls t) (label-at t) label.Post
 label-sweep-requires-3 t c κs =
@@ -174,7 +174,7 @@ label-same-length-3 t c = search needs
 label-returns-4 : (t : ℕ) → label-lts.Need-returns-4 (label-calls t) (label-at t) label.Post
 label-returns-4 t c =
     let p = c .before .before .before .before .before .before .before .before .before .before .before .before .before .before .before .before .before .before .before .before .before .before .pre .1 in
-    pair-evaluated _ _ _ _ _ _ (p .1) _ _ _ (c .before .before .before .before .before .before .before .wide .ensures) (sym (c .before .before .before .before .before .before .before .before .before .before .before .before .before .before .before .classify .ensures _ _) ∙ c .before .before .before .before .before .before .before .before .before .before .before .before .before .enum-told3 .given .1) (c .before .before .before .before .before .before .before .before .before .before .before .label2 .ensures) (c .before .before .before .before .before .before .label3 .ensures) (c .before .before .sweep3 .ensures .0)
+    pair-evaluated _ _ _ _ _ _ (p .1) _ _ _ (c .before .before .before .before .before .before .before .before .wide .ensures) (sym (c .before .before .before .before .before .before .before .before .before .before .before .before .before .before .before .classify .ensures _ _) ∙ c .before .before .before .before .before .before .before .before .before .before .before .before .before .enum-told3 .given .1) (c .before .before .before .before .before .before .before .before .before .before .before .label2 .ensures) (c .before .before .before .before .before .before .label3 .ensures) (c .before .before .sweep3 .ensures .0)
 
 label-same-length-4 : (t : ℕ) → label-lts.Need-same-length-4 (label-calls t) (label-at t) label.Post
 label-same-length-4 t c = search needs
@@ -270,11 +270,11 @@ pub +label+rounds-spec : {M : Type 1} → statement M
     (label-enum-told t)
     (label-sweep-requires t)
     (label-enum-told-2 t)
-    (label-add-t25 t)
+    (label-add-t26 t)
     (label-label-requires t)
     (label-sweep-requires-2 t)
     (label-enum-told-3 t)
-    (label-add-t33 t)
+    (label-add-t34 t)
     (label-label-requires-2 t)
     (label-wide-requires t)
     (label-label-requires-3 t)
