@@ -1,5 +1,6 @@
 // The traces of a transition: for each subformula a byte with the priorities with which traces reach it, bit x for the x-th fixpoint and
 // bit 7 for none; and from these the triples.
+use formula::Subformula;
 ghost use mathlib.Core.Path.{_≡_};
 ghost use mathlib.Core.Bool.{true, false, cond};
 ghost use mathlib.Core.List.{[], _∷_};
@@ -42,13 +43,14 @@ pub fn ranked(rows: &[u8; 144], count: usize) -> Ranks
     }
 }
 
-// The priorities w at subformula m too. The marks come as a slice, since a contract knows the length of a slice, and not that of an array
+// The priorities w at subformula s too. The marks come as a slice, since a contract knows the length of a slice, and not that of an array
 // behind a reference.
-fn mark(marks: &mut [u8], m: usize, w: u8)
-    requires { ⌜ m < length (now marks) ⌝ }
-    ensures { λ r. ⌜ Marked (m ∷ []) w (now (marks .entry)) (now (marks .exit)) ⌝ }
+fn mark(marks: &mut [u8], s: Subformula, w: u8)
+    requires { ⌜ s .0 < length (now marks) ⌝ }
+    ensures { λ r. ⌜ Marked (s .0 ∷ []) w (now (marks .entry)) (now (marks .exit)) ⌝ }
 {
-    marks[m] = marks[m] | w;
+    let e = s.0;
+    marks[e] = marks[e] | w;
 }
 
 fn bit8(k: usize) -> u8
@@ -58,33 +60,35 @@ fn bit8(k: usize) -> u8
     1u8 << k
 }
 
-// Marks what subformula e passes on: nothing where it has no marks itself, as most have none.
-fn passing(rows: &[u8; 144], fix: &[u8; 48], choice: u64, e: usize, marks: &mut [u8; 48])
-    requires { ⌜ Placed (now rows) e ⌝ }
-    requires { ⌜ (8 < getD (now rows) e 0 → getD (now fix) e 0 < 8) ⌝ }
-    ensures { λ r. ⌜ Passed (operator-at (now (rows .entry)) e) (bit choice e) e (getD (now (fix .entry)) e 0) (now (marks .entry)) (now (marks .exit)) ⌝ }
+// Marks what subformula s passes on: nothing where it has no marks itself, as most have none.
+fn passing(rows: &[u8; 144], fix: &[u8; 48], choice: u64, s: Subformula, marks: &mut [u8; 48])
+    requires { ⌜ Placed (now rows) (s .0) ⌝ }
+    requires { ⌜ (8 < getD (now rows) (s .0) 0 → getD (now fix) (s .0) 0 < 8) ⌝ }
+    ensures { λ r. ⌜ Passed (operator-at (now (rows .entry)) (s .0)) (bit choice (s .0)) (s .0) (getD (now (fix .entry)) (s .0) 0) (now (marks .entry)) (now (marks .exit)) ⌝ }
 {
+    let e = s.0;
     let w = marks[e];
     if w == 0 {
         return;
     }
     let op = rows[e];
     let argument = base::wide(rows[48 + e]);
+    let first = e + 1;
     if op == 5 {
-        mark(marks, argument, w);
+        mark(marks, Subformula(argument), w);
         return;
     }
     if op == 6 {
         if base::has(choice, e) {
-            mark(marks, argument, w);
+            mark(marks, Subformula(argument), w);
             return;
         }
-        mark(marks, e + 1, w);
+        mark(marks, Subformula(first), w);
         return;
     }
     if op == 7 {
-        mark(marks, e + 1, w);
-        mark(marks, argument, w);
+        mark(marks, Subformula(first), w);
+        mark(marks, Subformula(argument), w);
         return;
     }
     if op <= 8 {
@@ -92,7 +96,7 @@ fn passing(rows: &[u8; 144], fix: &[u8; 48], choice: u64, e: usize, marks: &mut 
     }
     let k = base::wide(fix[e]);
     let low = triples::minima(w, bit8(k));
-    mark(marks, e + 1, low);
+    mark(marks, Subformula(first), low);
 }
 
 // Marks what each subformula passes on, taken in rising order.
@@ -103,7 +107,7 @@ fn passed(rows: &[u8; 144], count: usize, fix: &[u8; 48], choice: u64, marks: &m
 {
     let mut e = 0;
     while e < count {
-        passing(rows, fix, choice, e, marks);
+        passing(rows, fix, choice, Subformula(e), marks);
         e += 1;
     }
 }
@@ -121,13 +125,14 @@ fn same48(a: &[u8; 48], b: &[u8; 48]) -> bool
     true
 }
 
-// The priorities with which traces from subformula f reach each one.
-fn reaching(rows: &[u8; 144], count: usize, fix: &[u8; 48], choice: u64, f: usize) -> [u8; 48]
+// The priorities with which traces from subformula s reach each one.
+fn reaching(rows: &[u8; 144], count: usize, fix: &[u8; 48], choice: u64, s: Subformula) -> [u8; 48]
     requires { ⌜ Limited (now rows) count ⌝ }
     requires { ⌜ Ranked (fix-rank (now rows)) count (now fix) ⌝ }
-    requires { ⌜ f < 48 ⌝ }
-    ensures { λ r. ⌜ Reached (now (rows .entry)) count choice f r ⌝ }
+    requires { ⌜ s .0 < 48 ⌝ }
+    ensures { λ r. ⌜ Reached (now (rows .entry)) count choice (s .0) r ⌝ }
 {
+    let f = s.0;
     let mut w = [0u8; 48];
     w[f] = 128;
     let mut left = 8 * count;
@@ -175,7 +180,7 @@ fn triple_row(
     }
 }
 
-// Fills the row of subformula e, where it is a next whose operand is in the node.
+// Fills the row of subformula s, where it is a next whose operand is in the node.
 fn with_row(
     rows: &[u8; 144],
     count: usize,
@@ -183,16 +188,17 @@ fn with_row(
     fix: &[u8; 48],
     choice: u64,
     node: u64,
-    e: usize,
+    s: Subformula,
     t: &mut [u8; 144],
 )
     requires { ⌜ Limited (now rows) count ⌝ }
     requires { ⌜ Ranked (next-rank (now rows)) count (now next) ⌝ }
     requires { ⌜ Ranked (fix-rank (now rows)) count (now fix) ⌝ }
-    requires { ⌜ e < count ⌝ }
-    requires { ⌜ Done-to (now rows) count choice node e (now t) ⌝ }
-    ensures { λ r. ⌜ Done-to (now (rows .entry)) count choice node (e + 1) (now (t .exit)) ⌝ }
+    requires { ⌜ s .0 < count ⌝ }
+    requires { ⌜ Done-to (now rows) count choice node (s .0) (now t) ⌝ }
+    ensures { λ r. ⌜ Done-to (now (rows .entry)) count choice node (s .0 + 1) (now (t .exit)) ⌝ }
 {
+    let e = s.0;
     if rows[e] != 8 {
         return;
     }
@@ -200,7 +206,7 @@ fn with_row(
         return;
     }
     let f = base::wide(next[e]);
-    let w = reaching(rows, count, fix, choice, e + 1);
+    let w = reaching(rows, count, fix, choice, Subformula(e + 1));
     triple_row(rows, count, next, f, &w, t);
 }
 
@@ -215,7 +221,8 @@ pub fn triples_of(rows: &[u8; 144], count: usize, r: Ranks, choice: u64, node: u
     let mut t = [0u8; 144];
     let mut e = 0;
     while e < count {
-        with_row(rows, count, &next, &fix, choice, node, e, &mut t);
+        let s = Subformula(e);
+        with_row(rows, count, &next, &fix, choice, node, s, &mut t);
         e += 1;
     }
     t

@@ -14,7 +14,7 @@ same-length : tie.Need-same-length
 same-length c = search needs
 
 returns : tie.Need-returns
-returns c = let start = c .before in marked-one (start .args .marks .now) (start .args .m) (start .args .w) (start .pre)
+returns c = let start = c .before in marked-one (start .args .marks .now) (start .args .s .0) (start .args .w) (start .pre)
 
 pub mark-spec : {M : Type 1} → statement M
 mark-spec = tie.close (tie.spec slice-read-marks slice-write-marks same-length returns)

@@ -1,4 +1,4 @@
--- `traces::passing` marks the operands to which the moves of subformula e go. Without marks there is nothing to pass on (`pass-blank`);
+-- `traces::passing` marks the operands to which the moves of subformula s go. Without marks there is nothing to pass on (`pass-blank`);
 -- else a look at each opcode. That an operand is among the marks, `mark` asks of the slice that it is lent, whose length each loan tells.
 use mathlib.Core.Path.{refl, sym, _∙_}
 use mathlib.Core.Bool.{true, false}
@@ -18,8 +18,8 @@ element-copy-out-w c = search needs
 returns : tie.Need-returns
 returns c =
     let start = c .before .before in
-    pass-blank (operator-at (start .args .rows .now) (start .args .e)) (bit (start .args .choice) (start .args .e)) (start .args .e)
-    (getD (start .args .fix .now) (start .args .e) 0) (start .args .marks .now) (c .if1 .taken)
+    pass-blank (operator-at (start .args .rows .now) (start .args .s .0)) (bit (start .args .choice) (start .args .s .0)) (start .args .s .0)
+    (getD (start .args .fix .now) (start .args .s .0) 0) (start .args .marks .now) (c .if1 .taken)
 
 element-copy-out-op : tie.Need-element-copy-out-op
 element-copy-out-op c = search needs
@@ -33,6 +33,9 @@ element-copy-out-wide c = search needs
 wide-requires : tie.Need-wide-requires
 wide-requires c κs = search needs
 
+add-first : tie.Need-add-first
+add-first c = search needs
+
 mark-requires : tie.Need-mark-requires
 mark-requires c κs =
     let at-wide = c .before .before in
@@ -44,7 +47,7 @@ returns-2 : tie.Need-returns-2
 returns-2 c =
     let at-wide = c .before .before .before in
     let start = at-wide .before .before .before .before .before in
-    pass-5 _ _ (start .args .e) _ _ (start .args .marks .now) (c .mark .last .0) (at-wide .wide .result) (at-wide .wide .ensures)
+    pass-5 _ _ (start .args .s .0) _ _ (start .args .marks .now) (c .mark .last .0) (at-wide .wide .result) (at-wide .wide .ensures)
     (c .before .before .if2 .taken) (c .mark .ensures)
 
 has-requires : tie.Need-has-requires
@@ -63,12 +66,9 @@ returns-3 c =
     let at-has = c .before .before .before in
     let at-wide = at-has .before .before .before in
     let start = at-wide .before .before .before .before .before in
-    pass-6 _ _ (start .args .e) _ _ (start .args .marks .now) (c .mark2 .last .0) (at-wide .wide .result) (at-wide .wide .ensures)
+    pass-6 _ _ (start .args .s .0) _ _ (start .args .marks .now) (c .mark2 .last .0) (at-wide .wide .result) (at-wide .wide .ensures)
     (at-has .before .if3 .taken) true (sym (at-has .has .ensures) ∙ c .before .before .if4 .taken) (at-wide .wide .result)
     (at-wide .wide .ensures) (c .mark2 .ensures)
-
-add-mark : tie.Need-add-mark
-add-mark c = search needs
 
 mark-requires-3 : tie.Need-mark-requires-3
 mark-requires-3 c κs =
@@ -81,12 +81,9 @@ returns-4 c =
     let at-has = c .before .before .before in
     let at-wide = at-has .before .before .before in
     let start = at-wide .before .before .before .before .before in
-    pass-6 _ _ (start .args .e) _ _ (start .args .marks .now) (c .mark3 .last .0) (at-wide .wide .result) (at-wide .wide .ensures)
-    (at-has .before .if3 .taken) false (sym (at-has .has .ensures) ∙ c .before .before .if4 .left) (start .args .e + 1) refl
+    pass-6 _ _ (start .args .s .0) _ _ (start .args .marks .now) (c .mark3 .last .0) (at-wide .wide .result) (at-wide .wide .ensures)
+    (at-has .before .if3 .taken) false (sym (at-has .has .ensures) ∙ c .before .before .if4 .left) (start .args .s .0 + 1) refl
     (c .mark3 .ensures)
-
-add-mark-2 : tie.Need-add-mark-2
-add-mark-2 c = search needs
 
 mark-requires-4 : tie.Need-mark-requires-4
 mark-requires-4 c κs =
@@ -108,13 +105,13 @@ returns-5 c =
     let at-and = at-first .before .before in
     let at-wide = at-and .before .before .before in
     let start = at-wide .before .before .before .before .before in
-    pass-7 _ _ (start .args .e) _ _ (start .args .marks .now) (c .mark5 .last .0) (at-wide .wide .result) (at-wide .wide .ensures)
+    pass-7 _ _ (start .args .s .0) _ _ (start .args .marks .now) (c .mark5 .last .0) (at-wide .wide .result) (at-wide .wide .ensures)
     (at-and .if5 .taken) (at-first .mark4 .last .0) (at-first .mark4 .ensures) (c .mark5 .ensures)
 
 returns-6 : tie.Need-returns-6
 returns-6 c =
     let start = c .before .before .before .before .before .before .before .before .before in
-    pass-none _ _ (start .args .e) _ _ (start .args .marks .now) (start .args .marks .now) (start .pre .0 .row .some)
+    pass-none _ _ (start .args .s .0) _ _ (start .args .marks .now) (start .args .marks .now) (start .pre .0 .row .some)
     (c .if6 .taken) (c .before .before .before .if2 .left) (c .before .before .if3 .left) (c .before .if5 .left)
     (λ n l. refl)
 
@@ -133,9 +130,6 @@ bit8-requires c κs =
 minima-requires : tie.Need-minima-requires
 minima-requires c κs = search needs
 
-add-mark-3 : tie.Need-add-mark-3
-add-mark-3 c = search needs
-
 mark-requires-6 : tie.Need-mark-requires-6
 mark-requires-6 c κs =
     let at-fix = c .before .before .before .before .before in
@@ -149,7 +143,7 @@ returns-7 c =
     let at-rank = at-bit8 .before in
     let at-fix = at-rank .before .before in
     let start = at-fix .before .before .before .before .before .before .before .before .before in
-    pass-fix _ _ (start .args .e) _ _ (start .args .marks .now) (c .mark6 .last .0) (at-fix .if6 .left) (start .pre .0 .row .known)
+    pass-fix _ _ (start .args .s .0) _ _ (start .args .marks .now) (c .mark6 .last .0) (at-fix .if6 .left) (start .pre .0 .row .known)
     (at-rank .wide2 .result) (at-bit8 .bit8 .result) (at-minima .minima .result) (at-rank .wide2 .ensures) (at-bit8 .bit8 .ensures)
     (at-minima .minima .ensures) (c .mark6 .ensures)
 
@@ -163,15 +157,14 @@ passing-spec =
     add-wide
     element-copy-out-wide
     wide-requires
+    add-first
     mark-requires
     returns-2
     has-requires
     mark-requires-2
     returns-3
-    add-mark
     mark-requires-3
     returns-4
-    add-mark-2
     mark-requires-4
     mark-requires-5
     returns-5
@@ -180,6 +173,5 @@ passing-spec =
     wide-requires-2
     bit8-requires
     minima-requires
-    add-mark-3
     mark-requires-6
     returns-7)

@@ -23,7 +23,7 @@ mul-left c = omega (arith, c .pre .0 .formed .few)
 loop-holds : tie.Need-loop-holds Inv-loop μ-loop
 loop-holds c = (
   omega (arith, c .pre .0 .formed .few),
-  reach-start (c .args .rows .now) (c .args .count) (c .args .choice) (c .args .f) (replicate 48 0)
+  reach-start (c .args .rows .now) (c .args .count) (c .args .choice) (c .args .s .0) (replicate 48 0)
       (omega (arith, length-replicate {A = ℕ} 48 0))
       (λ i h. getD-replicate 48 i 0 0 (omega (arith, c .pre .0 .formed .few))),
 )
@@ -39,7 +39,7 @@ returns c =
     let at-passed = c .before .before .before .before in
     let at-loop = at-passed .before .before .before in
     let start = at-loop .before in
-    reach-still (start .args .rows .now) (start .args .count) (start .args .choice) (start .args .f) (at-loop .loop .left)
+    reach-still (start .args .rows .now) (start .args .count) (start .args .choice) (start .args .s .0) (at-loop .loop .left)
     (at-loop .loop .w) (at-passed .passed .last .1 .1 .1 .1 .0) (at-loop .loop .inv .1) (at-passed .passed .ensures)
     (λ i h. c .before .same48 .ensures (c .if1 .taken) i (omega (arith, start .pre .0 .formed .few)))
 
@@ -55,7 +55,7 @@ loop-again c =
     let at-loop = at-passed .before .before .before in
     let start = at-loop .before in (
       omega arith,
-      reach-more (start .args .rows .now) (start .args .count) (start .args .choice) (start .args .f) (at-loop .loop .left)
+      reach-more (start .args .rows .now) (start .args .count) (start .args .choice) (start .args .s .0) (at-loop .loop .left)
           (at-loop .loop .w) (at-passed .passed .last .1 .1 .1 .1 .0) (omega arith) (at-loop .loop .inv .1)
           (at-passed .passed .ensures),
     )
@@ -64,7 +64,7 @@ returns-2 : tie.Need-returns-2 Inv-loop μ-loop
 returns-2 c =
     let loop = c .before .loop in
     let start = c .before .before in
-    reach-end (start .args .rows .now) (start .args .count) (start .args .choice) (start .args .f) (loop .left) (loop .w)
+    reach-end (start .args .rows .now) (start .args .count) (start .args .choice) (start .args .s .0) (loop .left) (loop .w)
     (omega arith) (loop .inv .1)
 
 pub reaching-spec : {M : Type 1} → statement M

@@ -1,4 +1,4 @@
--- `traces::with_row` fills the row of subformula e where it is a next whose operand is in the node; else the row stays empty or there is none.
+-- `traces::with_row` fills the row of subformula s where it is a next whose operand is in the node; else the row stays empty or there is none.
 use mathlib.Core.Path.{sym, _∙_}
 use native.Mathlib.Omega.{arith}
 use borrow.Author.Needs.{needs}
@@ -18,7 +18,7 @@ returns c =
     let limited = start .pre .0 in
     let in-table = start .pre .1 .1 .1 .0 in
     let done = start .pre .1 .1 .1 .1 in
-    skip-other (start .args .rows .now) (start .args .count) (start .args .choice) (start .args .node) (start .args .e)
+    skip-other (start .args .rows .now) (start .args .count) (start .args .choice) (start .args .node) (start .args .s .0)
     (start .args .t .now) limited in-table done (c .if1 .taken)
 
 add-has : tie.Need-add-has
@@ -34,7 +34,7 @@ returns-2 c =
     let limited = start .pre .0 in
     let in-table = start .pre .1 .1 .1 .0 in
     let done = start .pre .1 .1 .1 .1 in
-    skip-absent (start .args .rows .now) (start .args .count) (start .args .choice) (start .args .node) (start .args .e)
+    skip-absent (start .args .rows .now) (start .args .count) (start .args .choice) (start .args .node) (start .args .s .0)
     (start .args .t .now) limited in-table done (at-has .before .if1 .left) (sym (at-has .has .ensures) ∙ not-true _ (c .if2 .taken))
 
 element-copy-out-wide : tie.Need-element-copy-out-wide
@@ -43,8 +43,8 @@ element-copy-out-wide c = search needs
 wide-requires : tie.Need-wide-requires
 wide-requires c κs = search needs
 
-add-reaching : tie.Need-add-reaching
-add-reaching c = search needs
+add-t16 : tie.Need-add-t16
+add-t16 c = search needs
 
 reaching-requires : tie.Need-reaching-requires
 reaching-requires c κs =
@@ -69,8 +69,8 @@ triple-row-requires c κs =
         omega (
           arith,
           at-wide .wide .ensures,
-          next-is (start .args .e) in-table,
-          next-small limited (start .args .e) in-table (at-next .if1 .left),
+          next-is (start .args .s .0) in-table,
+          next-small limited (start .args .s .0) in-table (at-next .if1 .left),
         ),
       ),
     )
@@ -86,9 +86,9 @@ returns-3 c =
     let next-is = start .pre .1 .0 in
     let in-table = start .pre .1 .1 .1 .0 in
     let done = start .pre .1 .1 .1 .1 in
-    put-row (start .args .rows .now) (start .args .count) (start .args .choice) (start .args .node) (start .args .e)
+    put-row (start .args .rows .now) (start .args .count) (start .args .choice) (start .args .node) (start .args .s .0)
     (start .args .t .now) limited in-table done (at-has .before .if1 .left) (at-reaching .reaching .result)
-    (c .triple-row .last .1 .1 .1 .1 .1 .0) (at-wide .wide .result) (at-wide .wide .ensures ∙ next-is (start .args .e) in-table)
+    (c .triple-row .last .1 .1 .1 .1 .1 .0) (at-wide .wide .result) (at-wide .wide .ensures ∙ next-is (start .args .s .0) in-table)
     (sym (at-has .has .ensures) ∙ not-false _ (at-held .if2 .left)) (at-reaching .reaching .ensures) (c .triple-row .ensures .0)
     (c .triple-row .ensures .1)
 
@@ -103,7 +103,7 @@ with-row-spec =
     returns-2
     element-copy-out-wide
     wide-requires
-    add-reaching
+    add-t16
     reaching-requires
     triple-row-requires
     returns-3)
