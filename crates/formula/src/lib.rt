@@ -166,10 +166,11 @@ fn argument_at(s: &[u8], h: Head, op: u8, scope: Scope) -> Taken
 }
 
 // The scope of the operands of subformula me.
-fn inside(scope: Scope, me: usize, op: u8) -> Scope
-    requires { ⌜ (me < 48) × (scope .guarded ≤ scope .depth) × (8 < op → scope .depth < 7) ⌝ }
-    ensures { λ r. ⌜ Inside scope me op r ⌝ }
+fn inside(scope: Scope, me: Subformula, op: u8) -> Scope
+    requires { ⌜ (me .0 < 48) × (scope .guarded ≤ scope .depth) × (8 < op → scope .depth < 7) ⌝ }
+    ensures { λ r. ⌜ Inside scope (me .0) op r ⌝ }
 {
+    let e = me.0;
     let depth = scope.depth;
     let mut inner = scope;
     if op == 8 {
@@ -177,21 +178,22 @@ fn inside(scope: Scope, me: usize, op: u8) -> Scope
         return inner;
     }
     if 8 < op {
-        inner.binders[depth] = (me % 256) as u8;
+        inner.binders[depth] = (e % 256) as u8;
         inner.depth = depth + 1;
     }
     inner
 }
 
 // The rows with subformula me, whose subformulas end before end.
-fn written(rows: [u8; 144], me: usize, op: u8, argument: u8, end: usize) -> [u8; 144]
-    requires { ⌜ (me < 48) × (end ≤ 48) ⌝ }
-    ensures { λ r. ⌜ Placed rows me op argument end r ⌝ }
+fn written(rows: [u8; 144], me: Subformula, op: u8, argument: u8, end: usize) -> [u8; 144]
+    requires { ⌜ (me .0 < 48) × (end ≤ 48) ⌝ }
+    ensures { λ r. ⌜ Placed rows (me .0) op argument end r ⌝ }
 {
+    let e = me.0;
     let mut r = rows;
-    r[me] = op;
-    r[48 + me] = argument;
-    r[96 + me] = (end % 256) as u8;
+    r[e] = op;
+    r[48 + e] = argument;
+    r[96 + e] = (end % 256) as u8;
     r
 }
 
@@ -206,9 +208,9 @@ fn stopped(why: Refusal, h: Head, rows: [u8; 144]) -> Parsed
 }
 
 // Subformula me, read up to h, is written.
-fn finished(h: Head, rows: [u8; 144], me: usize, op: u8, argument: u8) -> Parsed
-    requires { ⌜ (me < 48) × (h .count ≤ 48) ⌝ }
-    ensures { λ r. ⌜ Finished h rows me op argument r ⌝ }
+fn finished(h: Head, rows: [u8; 144], me: Subformula, op: u8, argument: u8) -> Parsed
+    requires { ⌜ (me .0 < 48) × (h .count ≤ 48) ⌝ }
+    ensures { λ r. ⌜ Finished h rows (me .0) op argument r ⌝ }
 {
     Parsed {
         outcome: Outcome::Accepted,
@@ -218,9 +220,9 @@ fn finished(h: Head, rows: [u8; 144], me: usize, op: u8, argument: u8) -> Parsed
 }
 
 // A command without operand formulas.
-fn leaf(s: &[u8], h: Head, rows: [u8; 144], me: usize, op: u8, scope: Scope) -> Parsed
-    requires { ⌜ (0 < op) × (op ≤ 5) × Ready h scope × (h .count ≡ me + 1) ⌝ }
-    ensures { λ r. ⌜ Leaves (now (s .entry)) h rows me op scope r ⌝ }
+fn leaf(s: &[u8], h: Head, rows: [u8; 144], me: Subformula, op: u8, scope: Scope) -> Parsed
+    requires { ⌜ (0 < op) × (op ≤ 5) × Ready h scope × (h .count ≡ me .0 + 1) ⌝ }
+    ensures { λ r. ⌜ Leaves (now (s .entry)) h rows (me .0) op scope r ⌝ }
 {
     if op <= 2 {
         return finished(h, rows, me, op, 0);
@@ -233,9 +235,9 @@ fn leaf(s: &[u8], h: Head, rows: [u8; 144], me: usize, op: u8, scope: Scope) -> 
 }
 
 // Subformula me, whose last operand is p.
-fn complete(p: Parsed, me: usize, op: u8, argument: usize) -> Parsed
-    requires { ⌜ (me < 48) × (argument ≤ 48) × (p .outcome ≡ Outcome.Accepted → p .head .count ≤ 48) ⌝ }
-    ensures { λ r. ⌜ Completed p me op argument r ⌝ }
+fn complete(p: Parsed, me: Subformula, op: u8, argument: usize) -> Parsed
+    requires { ⌜ (me .0 < 48) × (argument ≤ 48) × (p .outcome ≡ Outcome.Accepted → p .head .count ≤ 48) ⌝ }
+    ensures { λ r. ⌜ Completed p (me .0) op argument r ⌝ }
 {
     let outcome = p.outcome;
     let h = p.head;
@@ -255,7 +257,7 @@ fn command(s: &[u8], h: Head, rows: [u8; 144], scope: Scope) -> Parsed
     match opened {
         Taken::Refused(why) => stopped(why, h, rows),
         Taken::Byte(op, after) => {
-            let me = h.count;
+            let me = Subformula(h.count);
             if op <= 5 {
                 return leaf(s, after, rows, me, op, scope);
             }

@@ -36,13 +36,13 @@ returns-2 : tie.Need-returns-2
 returns-2 c = λ self.
     let u = c .before .before .before .before .before .before .before in
     refused-leaf (u .args .op) (c .before .before .argument .given .1)
-    (c .before .before .before .before .argument-at .ensures (u .args .me) self) (c .stopped .ensures)
+    (c .before .before .before .before .argument-at .ensures (u .args .me .0) self) (c .stopped .ensures)
 
 returns-3 : tie.Need-returns-3
 returns-3 c = λ self.
     let u = c .before .before .before .before .before .before .before in
     argued-leaf (u .pre .3)
-    (byte-of (c .before .before .argument2 .given .1) (c .before .before .before .before .argument-at .ensures (u .args .me) self)) (c .finished2 .ensures)
+    (byte-of (c .before .before .argument2 .given .1) (c .before .before .before .before .argument-at .ensures (u .args .me .0) self)) (c .finished2 .ensures)
 
 pub leaf-spec : {M : Type 1} → statement M
 leaf-spec =
