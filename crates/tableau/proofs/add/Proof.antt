@@ -49,7 +49,7 @@ returns-2 c =
       add-new _ _ (s .pre .0 .fits) (sym (c .before .before .before .before .before .before .before .is-known .ensures) ∙ c .before .before .before .before .before .before .if1 .left) (c .before .before .before .before .before .if2 .taken) (c .before .before .before .put8 .ensures),
       (
         (omega arith, omega arith),
-        λ h. marked-more _ _ (s .pre .1) (omega arith) (omega arith) (c .slot .ensures) (omega arith) (c .before .before .before .put8 .ensures),
+        λ h. marked-more (s .args .set) _ (s .pre .1) (omega arith) (omega arith) (c .slot .ensures) (omega arith) (c .before .before .before .put8 .ensures),
       ),
     )
 

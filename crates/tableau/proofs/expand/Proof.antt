@@ -38,7 +38,7 @@ returns : tie.Need-returns Inv-loop μ-loop
 returns c = (expand-end (c .before .before .loop .inv .1 .1 .1 .1 .1) (c .before .before .before .before .before .before .before .before .before .pre .0) (c .before .before .before .before .before .before .before .before .before .pre .1 .1 .0 .fits) (c .before .before .before .before .before .before .before .before .before .pre .1 .0) (c .before .before .before .before .before .before .node .ensures) (c .before .before .before .before .ors .ensures) (omega (arith, c .before .before .before .power .ensures)) (inl (c .if1 .taken)), ((omega arith, omega arith), c .before .before .loop .inv .1 .1 .1 .1 .0))
 
 follow-requires : tie.Need-follow-requires Inv-loop μ-loop
-follow-requires c κs = (c .before .before .before .before .before .before .before .before .before .before .before .before .pre .0, (search needs, (c .before .before .before .before .before .loop .inv .1 .1 .1 .1 .0 (c .before .before .before .if1 .left), c .before .before .before .before .before .before .before .before .unmet .ensures)))
+follow-requires c κs = (c .before .before .before .before .before .before .before .before .before .before .before .before .pre .0, (search needs, (c .before .before .before .before .before .loop .inv .1 .1 .1 .1 .0 (omega arith), c .before .before .before .before .before .before .before .before .unmet .ensures)))
 
 add-word : tie.Need-add-word Inv-loop μ-loop
 add-word c = search needs
