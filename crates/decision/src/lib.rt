@@ -179,7 +179,7 @@ fn is_accepting(area: &[u8], shelf: Shelf, p: usize, mask: u8) -> bool
     ensures { λ r. ⌜ r ≡ accepts (bit mask) (shelf .n) (record-of shelf (now (area .entry)) p) ⌝ }
 {
     let e = runs::ends_of(area, shelf, p);
-    if e.first != e.last {
+    if e.first.0 != e.last.0 {
         return false;
     }
     !triples::is_rejecting(area, runs::place(shelf, p), mask, shelf.n)
@@ -219,7 +219,8 @@ fn witnessed(
 {
     let cycle = length_of(area, shelf, p);
     let e = runs::ends_of(area, shelf, p);
-    let stem = write_stem(rows, count, area, NodeNumber(e.first), letters);
+    let first = e.first;
+    let stem = write_stem(rows, count, area, first, letters);
     write_cycle(area, shelf, p, letters, stem, cycle);
     Verdict::Satisfiable {
         stem: stem,

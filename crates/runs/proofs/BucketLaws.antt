@@ -34,7 +34,7 @@ fold-more step h g k {sum} {r} p q =
     ∙ foldl-append step h (map g (numbers 0 k)) (map g (numbers (0 + k) 1))
     ∙ ap (λ (i : ℕ). step (foldl step h (map g (numbers 0 k))) (g i)) (zero-add k))
 
-pub bucket-is : (s : Shelf) (e : Ends) (t : List ℕ) (h : ℕ) → h ≡ foldl mixed-row (e .first + e .last * 65536) (map (row-of t (s .n)) (numbers 0 (s .n)))
+pub bucket-is : (s : Shelf) (e : Ends) (t : List ℕ) (h : ℕ) → h ≡ foldl mixed-row (e .first .0 + e .last .0 * 65536) (map (row-of t (s .n)) (numbers 0 (s .n)))
     → h / 65536 % s .capacity ≡ bucket-of s (profile-of e (triples-in (s .n) t))
 unfolding bucket-of those
 bucket-is s e t h q = ap (λ (i : ℕ). i / 65536 % s .capacity) q

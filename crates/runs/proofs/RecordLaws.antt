@@ -65,7 +65,7 @@ module _ {from to : ℕ} {a b : List ℕ} (c : Changed from to a b) where
       let t : triples-at n b at ≡ triples-at n a at =
       those-same n (bits (bytes-from b at)) (bits (bytes-from a at))
       (λ f x g hf hx hg. ap (λ (v : ℕ). bit v x) (byte-kept (at + (f * 12 + g)) (λ u v. l (omega arith) (omega arith)))) in
-      λ i. found-of (record { first = p i; last = q i; parent = r i; letter = s i }) (t i)
+      λ i. record { at = record { first = p i; last = q i; carried = t i }; parent = r i; label = s i }
 
 -- two bytes are put
 module _ (a : List ℕ) {at to : ℕ} (x : ℕ) (e : at ≡ to) (h : to + 2 ≤ length a) where
@@ -102,17 +102,17 @@ module _ {a a0 a1 a2 a3 a4 : List ℕ} (t : List ℕ) (at : ℕ) (e : Ends) {sta
         (omega arith) (omega arith) c3) (omega arith) (omega arith) c4
 
     pub written : ((i : ℕ) → i < 144 → getD a0 (start + i) 0 ≡ getD t i 0)
-        → two a1 (at + 144) ≡ e .first → two a2 (at + 146) ≡ e .last → two a3 (at + 148) ≡ e .parent → two a4 (at + 150) ≡ e .letter
+        → two a1 (at + 144) ≡ e .first .0 → two a2 (at + 146) ≡ e .last .0 → two a3 (at + 148) ≡ e .parent → two a4 (at + 150) ≡ e .letter
         → (n : ℕ) → n ≤ 12 → found-at n a4 at ≡ found-of e (triples-in n t)
     unfolding found-at
     written s first last parent letter n h =
-        let p : two a4 (at + 144) ≡ e .first =
+        let p : two a4 (at + 144) ≡ e .first .0 =
         two-kept c4 (at + 144) (λ u v. omega arith) ∙ two-kept c3 (at + 144) (λ u v. omega arith) ∙ two-kept c2 (at + 144) (λ u v. omega arith) ∙ first in
-        let q : two a4 (at + 146) ≡ e .last = two-kept c4 (at + 146) (λ u v. omega arith) ∙ two-kept c3 (at + 146) (λ u v. omega arith) ∙ last in
+        let q : two a4 (at + 146) ≡ e .last .0 = two-kept c4 (at + 146) (λ u v. omega arith) ∙ two-kept c3 (at + 146) (λ u v. omega arith) ∙ last in
         let r : two a4 (at + 148) ≡ e .parent = two-kept c4 (at + 148) (λ u v. omega arith) ∙ parent in
         let d : triples-at n a4 at ≡ triples-in n t =
         those-same n (bits (bytes-from a4 at)) (bits (bytes t)) (λ f x g hf hx hg. ap (λ (v : ℕ). bit v x) (byte (f * 12 + g) (omega arith))) in
-        λ i. found-of (record { first = p i; last = q i; parent = r i; letter = letter i }) (d i)
+        λ i. record { at = record { first = p i; last = q i; carried = d i }; parent = r i; label = letter i }
       where
         byte : (i : ℕ) → i < 144 → getD a4 (at + i) 0 ≡ getD t i 0
         byte i l =
@@ -124,8 +124,7 @@ module _ (s : Shelf) (b : List ℕ) (p : ℕ) where
   abbrev Reads : (offset r : ℕ) → Type 0
   Reads offset r = (r ≡ two b (place s p + offset)) × (r < 65536)
 
-  pub ends-are : {first last parent letter : ℕ} → Reads 144 first → Reads 146 last → Reads 148 parent → Reads 150 letter
-      → Ends-of (record-of s b p) (record { first = first; last = last; parent = parent; letter = letter })
+  pub ends-are : {e : Ends} → Reads 144 (e .first .0) → Reads 146 (e .last .0) → Reads 148 (e .parent) → Reads 150 (e .letter) → Ends-of (record-of s b p) e
   unfolding found-at
   ends-are f l q k =
       record { first = f .0; last = l .0; parent = q .0; letter = k .0; small = record { first = f .1; last = l .1; parent = q .1; letter = k .1 } }
@@ -139,11 +138,11 @@ module _ (x : Profile) (e : Ends) (s : Triples) where
   abbrev Same : Bool → Type 0
   Same r = r ≡ same-profile x (profile-of e s)
 
-  pub other-first : (x .first ≡ e .first → ⊥) → Same false
-  other-first d = sym (ap (λ (t : Bool). t && eqb (x .last) (e .last) && same-triples (x .carried) s) (ne-eqb (x .first) (e .first) d))
+  pub other-first : (x .first ≡ e .first .0 → ⊥) → Same false
+  other-first d = sym (ap (λ (t : Bool). t && eqb (x .last) (e .last .0) && same-triples (x .carried) s) (ne-eqb (x .first) (e .first .0) d))
 
-  pub other-last : x .first ≡ e .first → (x .last ≡ e .last → ⊥) → Same false
-  other-last f d = sym (simp (eq-eqb (x .first) (e .first) f, ne-eqb (x .last) (e .last) d))
+  pub other-last : x .first ≡ e .first .0 → (x .last ≡ e .last .0 → ⊥) → Same false
+  other-last f d = sym (simp (eq-eqb (x .first) (e .first .0) f, ne-eqb (x .last) (e .last .0) d))
 
-  pub same-ends : x .first ≡ e .first → x .last ≡ e .last → Same (same-triples (x .carried) s)
-  same-ends f l = sym (simp (eq-eqb (x .first) (e .first) f, eq-eqb (x .last) (e .last) l))
+  pub same-ends : x .first ≡ e .first .0 → x .last ≡ e .last .0 → Same (same-triples (x .carried) s)
+  same-ends f l = sym (simp (eq-eqb (x .first) (e .first .0) f, eq-eqb (x .last) (e .last .0) l))

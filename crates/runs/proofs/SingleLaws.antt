@@ -24,6 +24,7 @@ use Rattle.tableau.specs.Saturation.{Subset, same-subset, nothing, saturate}
 use Rattle.tableau.specs.Transition.{operators-in, requires, letter-of, next-of, ors, choice-of, Transition, transition-of, by-word, transitions}
 use Rattle.tableau.specs.Promise.{table-of, Leads-nowhere, Unmet, Stepped-by}
 use Rattle.tableau.specs.Area.{eight, words-at, index, Sized}
+use Rattle.tableau.specs.declared.NodeNumber.{NodeNumber}
 use Rattle.tableau.specs.declared.Step.the-variants.{Leads}
 use Rattle.tableau.proofs.SaturationLaws.{add-inside}
 use Rattle.tableau.proofs.TransitionLaws.{transition-with}
@@ -191,19 +192,19 @@ module _ {rows : List ℕ} {count : ℕ} {r : Ranks} {s : Shelf} {nodes : ℕ} {
       pub single-letter : letter < 65536
       single-letter = omega (arith, found .letter-is, letter-few t w (saturate t w v))
 
-      pub single-some : {choice last had q : ℕ} {d : List ℕ} (carried : List ℕ) → last ≡ index to (words-at a 0 nodes) → choice ≡ word w
+      pub single-some : {choice had q : ℕ} {d : List ℕ} {number last : NodeNumber} (carried : List ℕ) → number .0 ≡ i → last .0 ≡ index to (words-at a 0 nodes) → choice ≡ word w
           → Triples-of rows count choice from carried
-          → Added s had a q d (found-of (record { first = i; last = last; parent = 0; letter = letter }) (triples-in (s .n) carried) ∷ [])
+          → Added s had a q d (found-of (record { first = number; last = last; parent = 0; letter = letter }) (triples-in (s .n) carried) ∷ [])
           → Added s had a q d (singles-by t vs i v x)
-      single-some {last = last} {had} carried l c k m =
+      single-some {had = had} {last = last} carried e l c k m =
           let y = transition-with t w (saturate t w v) in
-          let p : last ≡ number-of vs (y .to) =
+          let p : last .0 ≡ number-of vs (y .to) =
           l ∙ ap (λ (z : ℕ). index z (words-at a 0 nodes)) (found .to-is)
           ∙ find-number count a 0 nodes (y .to) (to-length t w (saturate t w v) ∙ table-length rows count) (λ j m n. g .sets j (omega arith)) in
           let q : triples-in (s .n) carried ≡ triples t v w =
           ap (λ (n : ℕ). triples-in n carried) (g .nexts ∙ g .ranks .nexts-are) ∙ k v w (f ∙ node-is) c in
           grown-same
-          ((λ j. add same-profile (stored s a had) (found-of (record { first = i; last = p j; parent = 0; letter = found .letter-is j }) (q j)))
+          ((λ j. add same-profile (stored s a had) (record { at = record { first = e j; last = p j; carried = q j }; parent = 0; label = found .letter-is j }))
           ∙ ap (λ (ys : List Transition). adds same-profile (stored s a had) (map (single-of t vs i v) ys)) (sym (found .exists)))
           m
 

@@ -29,8 +29,7 @@ grown-same {s} {count} {r} {a} {b} e g = subst (Grown s count a r b) e g
 -- the record y after the record x
 module _ (n p : ℕ) (x y : Found) where
   abbrev both : Found
-  both =
-      found-of (record { first = x .at .first; last = y .at .last; parent = suc p; letter = y .label }) (join n (x .at .carried) (y .at .carried))
+  both = record { at = record { first = x .at .first; last = y .at .last; carried = join n (x .at .carried) (y .at .carried) }; parent = suc p; label = y .label }
 
   apart : (x .at .last ≡ y .at .first → ⊥) → [] ≡ follow n p x y
   unfolding join
@@ -40,11 +39,11 @@ module _ (n p : ℕ) (x y : Found) where
   unfolding join
   meets e = sym (ap (λ (t : Bool). cond t (both ∷ []) []) (eq-eqb (x .at .last) (y .at .first) e))
 
-  joins : {a b : Ends} {carried : Triples} → Ends-of x a → Ends-of y b → a .last ≡ b .first → carried ≡ join n (x .at .carried) (y .at .carried)
+  joins : {a b : Ends} {carried : Triples} → Ends-of x a → Ends-of y b → a .last .0 ≡ b .first .0 → carried ≡ join n (x .at .carried) (y .at .carried)
       → found-of (record { first = a .first; last = b .last; parent = p + 1; letter = b .letter }) carried ∷ [] ≡ follow n p x y
   joins d e m j =
       let from = add-one p in
-      ap (λ (z : Found). z ∷ []) (λ i. found-of (record { first = d .first i; last = e .last i; parent = from i; letter = e .letter i }) (j i))
+      ap (λ (z : Found). z ∷ []) (λ i. record { at = record { first = d .first i; last = e .last i; carried = j i }; parent = from i; label = e .letter i })
       ∙ meets (sym (d .last) ∙ m ∙ e .first)
 
 -- profile p followed by profile q: nothing to add, or one profile
@@ -53,12 +52,12 @@ module _ (s : Shelf) (count : ℕ) (a : List ℕ) (p q : ℕ) where
   After r b = Added s count a r b (follow (s .n) p (record-of s a p) (record-of s a q))
 
   module _ {d e : Ends} (ds : Ends-of (record-of s a p) d) (es : Ends-of (record-of s a q) e) where
-    pub longer-none : count ≤ s .capacity → Chained s a count → (d .last ≡ e .first → ⊥) → After count a
+    pub longer-none : count ≤ s .capacity → Chained s a count → (d .last .0 ≡ e .first .0 → ⊥) → After count a
     longer-none h c n =
         grown-same (ap (adds same-profile (stored s a count)) (apart (s .n) p (record-of s a p) (record-of s a q) (λ m. n (ds .last ∙ m ∙ sym (es .first)))))
         (grown-still s count a h c)
 
-    pub longer-one : {r x y : ℕ} {b : List ℕ} (u v t : List ℕ) → s .n ≤ 12 → d .last ≡ e .first → x ≡ place s p → y ≡ place s q
+    pub longer-one : {r x y : ℕ} {b : List ℕ} (u v t : List ℕ) → s .n ≤ 12 → d .last .0 ≡ e .first .0 → x ≡ place s p → y ≡ place s q
         → ((i : ℕ) → i < 144 → getD u i 0 ≡ getD a (x + i) 0) → ((i : ℕ) → i < 144 → getD v i 0 ≡ getD a (y + i) 0)
         → triples-in (s .n) t ≡ join (s .n) (triples-in (s .n) u) (triples-in (s .n) v)
         → Added s count a r b (found-of (record { first = d .first; last = e .last; parent = p + 1; letter = e .letter }) (triples-in (s .n) t) ∷ [])

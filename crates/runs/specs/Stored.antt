@@ -23,18 +23,18 @@ two b at = getD b at 0 + getD b (at + 1) 0 * 256
 
 -- the profile with these ends and triples
 abbrev pub profile-of : Ends → Triples → Profile
-profile-of e s = record { first = e .first; last = e .last; carried = s }
+profile-of e s = record { first = e .first .0; last = e .last .0; carried = s }
 
 abbrev pub found-of : Ends → Triples → Found
 found-of e s = record { at = profile-of e s; parent = e .parent; label = e .letter }
 
--- the ends of the record at a byte
-abbrev pub ends-at : List ℕ → (at : ℕ) → Ends
-ends-at b at = record { first = two b (at + 144); last = two b (at + 146); parent = two b (at + 148); letter = two b (at + 150) }
-
 -- the record at a byte, over n operands of next
 unfoldable pub found-at : ℕ → List ℕ → (at : ℕ) → Found
-found-at n b at = found-of (ends-at b at) (triples-at n b at)
+found-at n b at = record {
+  at = record { first = two b (at + 144); last = two b (at + 146); carried = triples-at n b at };
+  parent = two b (at + 148);
+  label = two b (at + 150);
+}
 
 -- where record p of a shelf begins
 abbrev pub place : Shelf → ℕ → ℕ
@@ -64,15 +64,15 @@ pub record Parted (s : Shelf) (b : List ℕ) (k node r : ℕ) : Type 0 where
 
 -- the numbers of a record fit into its bytes
 pub record Small (e : Ends) : Type 0 where
-  pub first : e .first < 65536
-  pub last : e .last < 65536
+  pub first : e .first .0 < 65536
+  pub last : e .last .0 < 65536
   pub parent : e .parent < 65536
   pub letter : e .letter < 65536
 
 -- e are the ends of a record, which fit into its bytes
 pub record Ends-of (x : Found) (e : Ends) : Type 0 where
-  pub first : e .first ≡ x .at .first
-  pub last : e .last ≡ x .at .last
+  pub first : e .first .0 ≡ x .at .first
+  pub last : e .last .0 ≡ x .at .last
   pub parent : e .parent ≡ x .parent
   pub letter : e .letter ≡ x .label
   pub small : Small e

@@ -16,8 +16,8 @@ use traces::Ranks;
 
 // A profile's nodes, 1 + the number of the profile that it goes on from (0 for none), and its last letter.
 pub struct Ends {
-    pub first: usize,
-    pub last: usize,
+    pub first: NodeNumber,
+    pub last: NodeNumber,
     pub parent: usize,
     pub letter: usize,
 }
@@ -59,8 +59,8 @@ pub fn ends_of(area: &[u8], shelf: Shelf, p: usize) -> Ends
     ensures { λ r. ⌜ Ends-of (record-of shelf (now (area .entry)) p) r ⌝ }
 {
     Ends {
-        first: get2(area, shelf, p, 144),
-        last: get2(area, shelf, p, 146),
+        first: NodeNumber(get2(area, shelf, p, 144)),
+        last: NodeNumber(get2(area, shelf, p, 146)),
         parent: get2(area, shelf, p, 148),
         letter: get2(area, shelf, p, 150),
     }
@@ -97,8 +97,8 @@ fn write(area: &mut [u8], shelf: Shelf, p: usize, ends: Ends, t: &[u8; 144])
     ensures { λ r. ⌜ Changed (place shelf p) (place shelf p + 152) (now (area .entry)) (now (area .exit)) ⌝ }
 {
     store(area, place(shelf, p), t);
-    put2(area, shelf, p, 144, ends.first);
-    put2(area, shelf, p, 146, ends.last);
+    put2(area, shelf, p, 144, ends.first.0);
+    put2(area, shelf, p, 146, ends.last.0);
     put2(area, shelf, p, 148, ends.parent);
     put2(area, shelf, p, 150, ends.letter);
 }
@@ -110,10 +110,10 @@ fn same_profile(area: &[u8], shelf: Shelf, p: usize, ends: Ends, t: &[u8; 144]) 
     ensures { λ r. ⌜ r ≡ same-profile (record-of shelf (now (area .entry)) p .at) (profile-of ends (triples-in (shelf .n) (now (t .entry)))) ⌝ }
 {
     let e = ends_of(area, shelf, p);
-    if e.first != ends.first {
+    if e.first.0 != ends.first.0 {
         return false;
     }
-    if e.last != ends.last {
+    if e.last.0 != ends.last.0 {
         return false;
     }
     triples::same_triples(area, place(shelf, p), t, shelf.n)
@@ -149,7 +149,7 @@ fn bucket(shelf: Shelf, ends: Ends, t: &[u8; 144]) -> usize
     ensures { λ r. ⌜ (r ≡ bucket-of shelf (profile-of ends (triples-in (shelf .n) (now (t .entry))))) × (r < shelf .capacity) ⌝ }
 {
     let n = shelf.n;
-    let mut h = ends.first + ends.last * 65536;
+    let mut h = ends.first.0 + ends.last.0 * 65536;
     let mut f = 0;
     while f < n {
         h = mix_row(h, t, n, f);
@@ -252,7 +252,6 @@ fn single(
     requires { ⌜ Chained shelf (now area) count ⌝ }
     ensures { λ all. ⌜ Added shelf count (now (area .entry)) all (now (area .exit)) (singles-by (table-of (now (rows .entry)) subformulas) (nodes-in subformulas (now (area .entry)) nodes) (number .0) (node-in subformulas (now (area .entry)) (number .0)) «choice_word») ⌝ }
 {
-    let first = number.0;
     let from = tableau::node(area, number);
     match tableau::by_word(rows, subformulas, unmet, choice_word, from) {
         Step::Nothing => count,
@@ -261,8 +260,8 @@ fn single(
             let choice = tableau::choice_of(rows, subformulas, choice_word);
             let t = traces::triples_of(rows, subformulas, r, choice, from);
             let ends = Ends {
-                first: first,
-                last: last.0,
+                first: number,
+                last: last,
                 parent: 0,
                 letter: letter as usize,
             };
@@ -345,15 +344,17 @@ fn longer(area: &mut [u8], shelf: Shelf, p: usize, q: usize, count: usize) -> us
 {
     let a = ends_of(area, shelf, p);
     let b = ends_of(area, shelf, q);
-    if a.last != b.first {
+    if a.last.0 != b.first.0 {
         return count;
     }
     let x = triples::copied(area, place(shelf, p));
     let y = triples::copied(area, place(shelf, q));
     let t = triples::joined(&x, &y, shelf.n);
+    let first = a.first;
+    let last = b.last;
     let ends = Ends {
-        first: a.first,
-        last: b.last,
+        first: first,
+        last: last,
         parent: p + 1,
         letter: b.letter,
     };
@@ -361,18 +362,18 @@ fn longer(area: &mut [u8], shelf: Shelf, p: usize, q: usize, count: usize) -> us
 }
 
 // How many of the first `ones` records, which stand by rising first node, begin before a node.
-fn begin_before(area: &[u8], shelf: Shelf, ones: usize, node: usize) -> usize
+fn begin_before(area: &[u8], shelf: Shelf, ones: usize, node: NodeNumber) -> usize
     requires { ⌜ Lent shelf (length (now area)) ⌝ }
     requires { ⌜ ones ≤ shelf .capacity ⌝ }
     requires { ⌜ Rising shelf (now area) ones ⌝ }
-    ensures { λ r. ⌜ Parted shelf (now (area .entry)) ones node r ⌝ }
+    ensures { λ r. ⌜ Parted shelf (now (area .entry)) ones (node .0) r ⌝ }
 {
     let mut low = 0;
     let mut high = ones;
     while low < high {
         let middle = (low + high) / 2;
         let e = ends_of(area, shelf, middle);
-        if e.first < node {
+        if e.first.0 < node.0 {
             low = middle + 1;
         } else {
             high = middle;
@@ -390,7 +391,7 @@ fn extend(area: &mut [u8], shelf: Shelf, p: usize, ones: usize, count: usize) ->
     ensures { λ r. ⌜ Added shelf count (now (area .entry)) r (now (area .exit)) (longer (shelf .n) (stored shelf (now (area .entry)) ones) p (record-of shelf (now (area .entry)) p)) ⌝ }
 {
     let e = ends_of(area, shelf, p);
-    let end = begin_before(area, shelf, ones, e.last + 1);
+    let end = begin_before(area, shelf, ones, NodeNumber(e.last.0 + 1));
     let mut all = count;
     let mut q = begin_before(area, shelf, ones, e.last);
     while q < end {

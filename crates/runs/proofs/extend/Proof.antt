@@ -18,8 +18,8 @@ abbrev μ-loop : tie.MeasureT-loop
 ends-of-requires : tie.Need-ends-of-requires Inv-loop μ-loop
 ends-of-requires c κs = search needs
 
-add-begin-before : tie.Need-add-begin-before Inv-loop μ-loop
-add-begin-before c = omega (arith, c .before .before .ends-of .ensures .small .last)
+add-t14 : tie.Need-add-t14 Inv-loop μ-loop
+add-t14 c = omega (arith, c .before .before .ends-of .ensures .small .last)
 
 begin-before-requires : tie.Need-begin-before-requires Inv-loop μ-loop
 begin-before-requires c κs = let s = c .before .before .before .before .before in (s .pre .0, (omega arith, s .pre .1 .1 .1))
@@ -61,7 +61,7 @@ extend-spec =
     Inv-loop
     μ-loop
     ends-of-requires
-    add-begin-before
+    add-t14
     begin-before-requires
     begin-before-requires-2
     loop-holds

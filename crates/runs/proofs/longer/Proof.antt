@@ -24,25 +24,25 @@ copied-requires : tie.Need-copied-requires
 copied-requires c κs = search needs
 
 place-requires-2 : tie.Need-place-requires-2
-place-requires-2 c κs = search needs
+place-requires-2 c κs = let s = c .before .before .before .before .before .before .before .before .before .before .before .before in (s .pre .0 .low, omega (arith, s .pre .0 .few, s .pre .1 .0 .1 .0, s .pre .1 .0 .1 .1))
 
 copied-requires-2 : tie.Need-copied-requires-2
 copied-requires-2 c κs = let s = c .before .before .before .before .before .before .before .before .before .before .before .before .before in omega (arith, c .place2 .ensures, s .pre .0 .enough, s .pre .1 .0 .1 .0, s .pre .1 .0 .1 .1)
 
 joined-requires : tie.Need-joined-requires
-joined-requires c κs = search needs
+joined-requires c κs = c .before .before .before .before .before .before .before .before .before .before .before .before .before .before .before .before .pre .0 .next
 
-add-t20 : tie.Need-add-t20
-add-t20 c = search needs
+add-t22 : tie.Need-add-t22
+add-t22 c = let s = c .before .before .before .before .before .before .before .before .before .before .before .before .before .before .before .before .before .before .before in omega (arith, s .pre .0 .few, s .pre .1 .0 .0, s .pre .1 .0 .1 .1)
 
 add-requires : tie.Need-add-requires
-add-requires c κs = let s = c .before .before .before .before .before .before .before .before .before .before .before .before .before .before .before .before .before .before .before in let a = c .before .before .before .before .before .before .before .before .before .before .before .before .before .before .before .before .ends-of .ensures .small in let b = c .before .before .before .before .before .before .before .before .before .before .before .before .before .before .ends-of2 .ensures .small in (s .pre .0, (s .pre .1 .0 .1 .1, (record { first = a .first; last = b .last; parent = omega (arith, s .pre .0 .few, s .pre .1 .0 .0, s .pre .1 .0 .1 .1); letter = b .letter }, s .pre .1 .1)))
+add-requires c κs = let s = c .before .before .before .before .before .before .before .before .before .before .before .before .before .before .before .before .before .before .before .before .before in let a = c .before .before .before .before .before .before .before .before .before .before .before .before .before .before .before .before .before .before .ends-of .ensures .small in let b = c .before .before .before .before .before .before .before .before .before .before .before .before .before .before .before .before .ends-of2 .ensures .small in (s .pre .0, (s .pre .1 .0 .1 .1, (record { first = a .first; last = b .last; parent = omega (arith, s .pre .0 .few, s .pre .1 .0 .0, s .pre .1 .0 .1 .1); letter = b .letter }, s .pre .1 .1)))
 
 same-length-2 : tie.Need-same-length-2
 same-length-2 c = search needs
 
 returns-2 : tie.Need-returns-2
-returns-2 c = let s = c .before .before .before .before .before .before .before .before .before .before .before .before .before .before .before .before .before .before .before .before .before .before in let x = c .before .before .before .before .before .before .before .before .before .before .before .copied in let y = c .before .before .before .before .before .before .before .before .copied2 in let t = c .before .before .before .before .before .joined in longer-one (s .args .shelf) (s .args .count) (s .args .area .now) (s .args .p) (s .args .q) (c .before .before .before .before .before .before .before .before .before .before .before .before .before .before .before .before .before .before .before .ends-of .ensures) (c .before .before .before .before .before .before .before .before .before .before .before .before .before .before .before .before .before .ends-of2 .ensures) (x .result) (y .result) (t .result) (s .pre .0 .next) (c .before .before .before .before .before .before .before .before .before .before .before .before .before .before .if1 .left) (c .before .before .before .before .before .before .before .before .before .before .before .before .place .ensures) (c .before .before .before .before .before .before .before .before .before .place2 .ensures) (x .ensures) (y .ensures) (t .ensures) (c .before .before .add .ensures)
+returns-2 c = let s = c .before .before .before .before .before .before .before .before .before .before .before .before .before .before .before .before .before .before .before .before .before .before .before .before in let x = c .before .before .before .before .before .before .before .before .before .before .before .before .before .copied in let y = c .before .before .before .before .before .before .before .before .before .before .copied2 in let t = c .before .before .before .before .before .before .before .joined in longer-one (s .args .shelf) (s .args .count) (s .args .area .now) (s .args .p) (s .args .q) (c .before .before .before .before .before .before .before .before .before .before .before .before .before .before .before .before .before .before .before .before .before .ends-of .ensures) (c .before .before .before .before .before .before .before .before .before .before .before .before .before .before .before .before .before .before .before .ends-of2 .ensures) (x .result) (y .result) (t .result) (s .pre .0 .next) (c .before .before .before .before .before .before .before .before .before .before .before .before .before .before .before .before .if1 .left) (c .before .before .before .before .before .before .before .before .before .before .before .before .before .before .place .ensures) (c .before .before .before .before .before .before .before .before .before .before .before .place2 .ensures) (x .ensures) (y .ensures) (t .ensures) (c .before .before .add .ensures)
 
 pub longer-spec : {M : Type 1} → statement M
 longer-spec =
@@ -57,7 +57,7 @@ longer-spec =
     place-requires-2
     copied-requires-2
     joined-requires
-    add-t20
+    add-t22
     add-requires
     same-length-2
     returns-2)

@@ -1,5 +1,5 @@
 -- `runs::single` adds the profile of the transition under one choice word, if there is one.
-use mathlib.Core.Path.{sym, subst}
+use mathlib.Core.Path.{refl, sym, subst}
 use Prim.Native.Nat.{ℕ}
 use Rattle.tableau.specs.Promise.{Unmet, Stepped-by}
 use Rattle.tableau.proofs.StepLaws.{step-nowhere}
@@ -43,7 +43,7 @@ same-length-2 : tie.Need-same-length-2
 same-length-2 c = search needs
 
 returns-2 : tie.Need-returns-2
-returns-2 c = let s = c .before .before .before .before .before .before .before .before .before .before .before .before .before .before .before .before in let t = c .before .before .before .before .before .triples-of in single-some (s .pre .0) (s .args .number .0) (s .args .choice-word) (s .pre .1 .0 .0) (c .before .before .before .before .before .before .before .before .before .before .before .before .before .node .ensures) (subst (Stepped-by _ _ _ _) (c .before .before .before .before .before .before .before .before .before .before .to .given .1) (c .before .before .before .before .before .before .before .before .before .before .before .before .by-word .ensures)) (t .result) (c .before .before .before .before .before .before .before .find .ensures) (c .before .before .before .before .before .before .choice-of .ensures) (t .ensures) (c .before .before .add .ensures)
+returns-2 c = let s = c .before .before .before .before .before .before .before .before .before .before .before .before .before .before .before .before in let t = c .before .before .before .before .before .triples-of in single-some (s .pre .0) (s .args .number .0) (s .args .choice-word) (s .pre .1 .0 .0) (c .before .before .before .before .before .before .before .before .before .before .before .before .before .node .ensures) (subst (Stepped-by _ _ _ _) (c .before .before .before .before .before .before .before .before .before .before .to .given .1) (c .before .before .before .before .before .before .before .before .before .before .before .before .by-word .ensures)) (t .result) refl (c .before .before .before .before .before .before .before .find .ensures) (c .before .before .before .before .before .before .choice-of .ensures) (t .ensures) (c .before .before .add .ensures)
 
 pub single-spec : {M : Type 1} → statement M
 single-spec =
