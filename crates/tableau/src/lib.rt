@@ -91,7 +91,7 @@ fn moved(rows: &[u8; 144], choice: u64, s: Subformula, set: u64) -> u64
 
 // The least set that holds the node and follows its moves. The fringe has the subformulas whose moves are still to be followed. A node has
 // no bit from count on: `low` changes none, and bounds e for any word.
-pub fn saturated(rows: &[u8; 144], count: usize, choice: u64, node: u64) -> u64
+fn saturated(rows: &[u8; 144], count: usize, choice: u64, node: u64) -> u64
     requires { ⌜ Formed (now rows) count ⌝ }
     ensures { λ r. ⌜ Saturated (now (rows .entry)) count choice node r ⌝ }
 {
@@ -171,7 +171,7 @@ pub fn unmet(rows: &[u8; 144], count: usize, node: u64) -> [u64; 24]
 }
 
 // Whether a choice word picks right at an or that, by one of its picks, no saturation meets.
-pub fn is_unmet(unmet: &[u64; 24], choice_word: u64) -> bool
+fn is_unmet(unmet: &[u64; 24], choice_word: u64) -> bool
     ensures { λ r. ⌜ r ≡ is-unmet (now (unmet .entry)) «choice_word» ⌝ }
 {
     let mut j = 0;
@@ -237,7 +237,7 @@ fn required_by(rows: &[u8; 144], count: usize, set: u64) -> Requirement
 }
 
 // The transition of a node under a choice, which picks nothing at an or that is not met.
-pub fn transition(rows: &[u8; 144], count: usize, choice: u64, node: u64) -> Step
+fn transition(rows: &[u8; 144], count: usize, choice: u64, node: u64) -> Step
     requires { ⌜ Formed (now rows) count ⌝ }
     ensures { λ r. ⌜ Stepped (now (rows .entry)) count choice node r ⌝ }
 {
