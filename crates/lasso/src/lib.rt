@@ -70,12 +70,13 @@ fn wide16(x: u16) -> u64
     x as u64
 }
 
-// What the operator of subformula e says of a position, from the letter and the word there and the successor's word. A byte that is no
+// What the operator of subformula s says of a position, from the letter and the word there and the successor's word. A byte that is no
 // opcode decodes to a variable that is its own binder.
-fn holds_at(op: u8, argument: u8, e: usize, letter: u16, here: u64, there: u64) -> bool
-    requires { ⌜ e < 64 ⌝ }
-    ensures { λ r. ⌜ r ≡ local (operator-of (opcode op) argument e) letter here there ⌝ }
+fn holds_at(op: u8, argument: u8, s: Subformula, letter: u16, here: u64, there: u64) -> bool
+    requires { ⌜ s .0 < 64 ⌝ }
+    ensures { λ r. ⌜ r ≡ local (operator-of (opcode op) argument (s .0)) letter here there ⌝ }
 {
+    let e = s.0;
     let a = base::wide(argument);
     match op {
         1 => true,
@@ -125,7 +126,7 @@ fn sweep(
         let next = successor(Position(i), n, stem);
         let j = next.0;
         let here = words[i];
-        let on = holds_at(op, argument, e, letters[i], here, words[j]);
+        let on = holds_at(op, argument, s, letters[i], here, words[j]);
         let word = base::with(here, e, on);
         if word == here {
             i += 1;
@@ -138,10 +139,11 @@ fn sweep(
     changed
 }
 
-// Whether the operator is a variable of a fixpoint before e.
-fn outside(op: u8, argument: u8, e: usize) -> bool
-    ensures { λ r. ⌜ ((k : ℕ) → e ≤ k → r ≡ outside-of e (operator-of (opcode op) argument k)) ⌝ }
+// Whether the operator is a variable of a fixpoint before s.
+fn outside(op: u8, argument: u8, s: Subformula) -> bool
+    ensures { λ r. ⌜ ((k : ℕ) → s .0 ≤ k → r ≡ outside-of (s .0) (operator-of (opcode op) argument k)) ⌝ }
 {
+    let e = s.0;
     if op == 5 {
         return base::wide(argument) < e;
     }
@@ -158,7 +160,7 @@ fn finished(rows: &[u8; 144], s: Subformula, again: bool) -> bool
         let end = base::wide(rows[96 + e]);
         let mut k = e;
         while k < end {
-            if outside(rows[k], rows[48 + k], e) {
+            if outside(rows[k], rows[48 + k], s) {
                 return false;
             }
             k += 1;
@@ -200,7 +202,7 @@ fn value(
     let kind = classify(op);
     match kind {
         Kind::Leaf => {
-            return holds_at(op, argument, e, letters[i], words[i], 0);
+            return holds_at(op, argument, s, letters[i], words[i], 0);
         }
         Kind::Next => {
             let next = successor(Position(i), letters.len(), stem);

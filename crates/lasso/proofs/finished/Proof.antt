@@ -12,10 +12,10 @@ use Rattle.lasso.proofs.finished.Statement.{statement}
 use Rattle.lasso.proofs.finished.Tie as tie
 
 abbrev Inv-loop : tie.InvT-loop
-Inv-loop rows again e end k₀ k = (end ≤ 48) × ((j : ℕ) → j < k → e ≤ j → outside-of e (operator-at rows j) ≡ false)
+Inv-loop rows s again e end k₀ k = (end ≤ 48) × ((j : ℕ) → j < k → e ≤ j → outside-of e (operator-at rows j) ≡ false)
 
 abbrev μ-loop : tie.MeasureT-loop
-μ-loop rows again e end k₀ k = end - k
+μ-loop rows s again e end k₀ k = end - k
 
 add-wide : tie.Need-add-wide Inv-loop μ-loop
 add-wide c = omega (arith, few _ _ (c .before .pre))

@@ -13,10 +13,10 @@ use Rattle.lasso.proofs.sweep.Statement.{statement}
 use Rattle.lasso.proofs.sweep.Tie as tie
 
 abbrev Inv-loop : tie.InvT-loop
-Inv-loop letters stem words₀ op argument e n changed₀ i₀ words changed i = (i ≤ n) × (Swept i e (local-at (lasso letters stem) (operator-of (opcode op) argument e) words₀) words₀ words × (changed ≡ false → words ≡ words₀))
+Inv-loop letters stem words₀ s op argument e n changed₀ i₀ words changed i = (i ≤ n) × (Swept i e (local-at (lasso letters stem) (operator-of (opcode op) argument e) words₀) words₀ words × (changed ≡ false → words ≡ words₀))
 
 abbrev μ-loop : tie.MeasureT-loop
-μ-loop letters stem words₀ op argument e n changed₀ i₀ words changed i = n - i
+μ-loop letters stem words₀ s op argument e n changed₀ i₀ words changed i = n - i
 
 loop-holds : tie.Need-loop-holds Inv-loop μ-loop
 loop-holds c = (omega arith, (swept-none _ _ _, λ _. refl))
