@@ -1,6 +1,7 @@
 // The text of what reading a formula comes to.
 use formula::Outcome;
 use formula::Reading;
+use formula::Subformula;
 ghost use mathlib.Core.Path.{_≡_};
 ghost use Prim.Native.Nat.{_≤_, _<_, min};
 ghost use Rattle.vectors.specs.Text.{buffer, Wrote};
@@ -43,46 +44,48 @@ fn entries_text(out: &mut [u8], start: usize, rows: &[u8; 144], count: usize) ->
     let mut at = start;
     let mut e = 0;
     while e < count {
-        at = entry_text(out, at, rows, e);
+        at = entry_text(out, at, rows, Subformula(e));
         e += 1;
     }
     at
 }
 
-fn entry_text(out: &mut [u8], at: usize, rows: &[u8; 144], e: usize) -> usize
-    requires { ⌜ e < 48 ⌝ }
-    ensures { λ r. ⌜ Wrote (buffer (now (out .entry)) at) (entry-text (now (rows .entry)) e) (buffer (now (out .exit)) r) ⌝ }
+fn entry_text(out: &mut [u8], at: usize, rows: &[u8; 144], s: Subformula) -> usize
+    requires { ⌜ s .0 < 48 ⌝ }
+    ensures { λ r. ⌜ Wrote (buffer (now (out .entry)) at) (entry-text (now (rows .entry)) (s .0)) (buffer (now (out .exit)) r) ⌝ }
 {
-    command_text(out, at, rows, e, rows[e], rows[48 + e])
+    let e = s.0;
+    command_text(out, at, rows, s, rows[e], rows[48 + e])
 }
 
 fn command_text(
     out: &mut [u8],
     at: usize,
     rows: &[u8; 144],
-    e: usize,
+    s: Subformula,
     op: u8,
     argument: u8,
 ) -> usize
-    requires { ⌜ e < 48 ⌝ }
-    ensures { λ r. ⌜ Wrote (buffer (now (out .entry)) at) (command-text (now (rows .entry)) e op argument) (buffer (now (out .exit)) r) ⌝ }
+    requires { ⌜ s .0 < 48 ⌝ }
+    ensures { λ r. ⌜ Wrote (buffer (now (out .entry)) at) (command-text (now (rows .entry)) (s .0) op argument) (buffer (now (out .exit)) r) ⌝ }
 {
     let a = vectors::put(out, at, b' ');
     let b = vectors::hex(out, a, op as u64, 2);
-    operands_text(out, b, rows, e, op, argument)
+    operands_text(out, b, rows, s, op, argument)
 }
 
 fn operands_text(
     out: &mut [u8],
     at: usize,
     rows: &[u8; 144],
-    e: usize,
+    s: Subformula,
     op: u8,
     argument: u8,
 ) -> usize
-    requires { ⌜ e < 48 ⌝ }
-    ensures { λ r. ⌜ Wrote (buffer (now (out .entry)) at) (operands-text (now (rows .entry)) e op argument) (buffer (now (out .exit)) r) ⌝ }
+    requires { ⌜ s .0 < 48 ⌝ }
+    ensures { λ r. ⌜ Wrote (buffer (now (out .entry)) at) (operands-text (now (rows .entry)) (s .0) op argument) (buffer (now (out .exit)) r) ⌝ }
 {
+    let e = s.0;
     if op <= 2 {
         return at;
     }
@@ -90,7 +93,7 @@ fn operands_text(
         return marked(out, at, b':', argument as u64);
     }
     if op <= 5 {
-        let a = marked(out, at, b':', depth(rows, e, argument));
+        let a = marked(out, at, b':', depth(rows, s, argument));
         return marked(out, a, b'>', argument as u64);
     }
     let a = marked(out, at, b'/', (e + 1) as u64);
@@ -107,23 +110,26 @@ fn marked(out: &mut [u8], at: usize, mark: u8, n: u64) -> usize
     vectors::decimal(out, a, n)
 }
 
-fn depth(rows: &[u8; 144], e: usize, binder: u8) -> u64
-    requires { ⌜ e < 48 ⌝ }
-    ensures { λ r. ⌜ r ≡ Outcome·depth (now (rows .entry)) e binder ⌝ }
+fn depth(rows: &[u8; 144], s: Subformula, binder: u8) -> u64
+    requires { ⌜ s .0 < 48 ⌝ }
+    ensures { λ r. ⌜ r ≡ Outcome·depth (now (rows .entry)) (s .0) binder ⌝ }
 {
+    let e = s.0;
     let mut n = 0;
     let mut f = binder as usize + 1;
     while f < e {
-        n += base::one_if(is_around(rows, e, f)) as u64;
+        n += base::one_if(is_around(rows, s, Subformula(f))) as u64;
         f += 1;
     }
     n
 }
 
-fn is_around(rows: &[u8; 144], e: usize, f: usize) -> bool
-    requires { ⌜ f < 48 ⌝ }
-    ensures { λ r. ⌜ r ≡ is-around (now (rows .entry)) e f ⌝ }
+fn is_around(rows: &[u8; 144], s: Subformula, outer: Subformula) -> bool
+    requires { ⌜ outer .0 < 48 ⌝ }
+    ensures { λ r. ⌜ r ≡ is-around (now (rows .entry)) (s .0) (outer .0) ⌝ }
 {
+    let e = s.0;
+    let f = outer.0;
     if 9 <= rows[f] {
         return e < base::wide(rows[96 + f]);
     }

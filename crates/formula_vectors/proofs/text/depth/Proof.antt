@@ -10,10 +10,10 @@ use Rattle.formula_vectors.proofs.text.depth.Statement.{statement}
 use Rattle.formula_vectors.proofs.text.depth.Tie as tie
 
 abbrev Inv-loop : tie.InvT-loop
-Inv-loop rows e binder n₀ f₀ n f = (n ≤ f) × (n + around rows e f (e - f) ≡ depth rows e binder)
+Inv-loop rows s binder e n₀ f₀ n f = (n ≤ f) × (n + around rows e f (e - f) ≡ depth rows e binder)
 
 abbrev μ-loop : tie.MeasureT-loop
-μ-loop rows e binder n₀ f₀ n f = e - f
+μ-loop rows s binder e n₀ f₀ n f = e - f
 
 add-f : tie.Need-add-f Inv-loop μ-loop
 add-f c = search needs
