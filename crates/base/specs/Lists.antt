@@ -17,10 +17,12 @@ module _ {A B : Type 0} where
   gather f (x ∷ xs) = f x ++ gather f xs
 
 module _ {A : Type 0} where
+  -- whether q holds of some element
   abbrev pub any : (A → Bool) → List A → Bool
   any q [] = false
   any q (x ∷ xs) = let r = any q xs in q x || r
 
+  -- the elements that q holds of
   abbrev pub keep : (A → Bool) → List A → List A
   keep q [] = []
   keep q (x ∷ xs) = let r = keep q xs in cond (q x) (x ∷ r) r
@@ -30,6 +32,7 @@ module _ {A : Type 0} where
   first q [] = none
   first q (x ∷ xs) = let r = first q xs in cond (q x) (some x) r
 
+  -- f applied n times
   abbrev pub repeat : ℕ → (A → A) → A → A
   repeat zero f a = a
   repeat (suc n) f a = repeat n f (f a)
@@ -41,13 +44,16 @@ module _ {A : Type 0} where
   alike q (x ∷ xs) [] = false
   alike q (x ∷ xs) (y ∷ ys) = let r = alike q xs ys in q x y && r
 
+  -- all elements but the first
   abbrev pub tail : List A → List A
   tail [] = []
   tail (x ∷ xs) = xs
 
+-- whether a number is in a list
 abbrev pub member : ℕ → List ℕ → Bool
 member x xs = any (eqb x) xs
 
+-- whether two Bools are the same
 abbrev pub same-bit : Bool → Bool → Bool
 same-bit true b = b
 same-bit false true = false

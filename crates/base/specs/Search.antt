@@ -5,18 +5,22 @@ use mathlib.Core.List.{List, [], _∷_, _++_, map}
 use Prim.Native.Nat.{ℕ, zero, suc}
 use Rattle.base.specs.Lists.{any}
 
+-- an edge out of a vertex: its label, and the vertex that it leads to
 pub record Edge (L K : Type 0) : Type 0 where
   pub label : L
   pub to : K
 
+-- a vertex, with the labels of a way to it
 pub record Item (L K : Type 0) : Type 0 where
   pub way : List L
   pub at : K
 
 module _ {L K : Type 0} (same : K → K → Bool) (edges : K → List (Edge L K)) where
+  -- an item's way with one edge more
   abbrev pub onward : Item L K → Edge L K → Item L K
   onward x e = record { way = x .way ++ (e .label ∷ []); at = e .to }
 
+  -- whether an item is at a vertex
   abbrev pub seen-in : List (Item L K) → K → Bool
   seen-in xs k = any (λ x. same k (x .at)) xs
 

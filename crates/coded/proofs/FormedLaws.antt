@@ -1,6 +1,6 @@
 -- The table of a formula that reading accepts is formed: at most seven fixpoints, moves that stay inside, operands of next right after
 -- their operator. Read off the shape of its table and its limits. Assumes nothing.
-use mathlib.Core.Path.{_≡_, refl, ap, _∙_}
+use mathlib.Core.Path.{_≡_, refl, ap}
 use mathlib.Core.Logic.{inl, inr}
 use mathlib.Core.Bool.{Bool, true, false}
 use mathlib.Core.List.{List, [], _∷_, List·Memᴰ, List·Memᴰ·not-nil, List·Memᴰ·cases-cons, List·Memᴰ·eq-of-singleton}
@@ -9,39 +9,25 @@ use native.Mathlib.Omega.{arith}
 use native.Mathlib.Decide.{decLt}
 use lib.ListN.{length, List·getD-eq-default}
 use Rattle.formula.specs.Formula.{Leaf, Formula, size}
-use Rattle.formula.specs.Table.{Operator, Table, operator, table, ends-from}
+use Rattle.formula.specs.Table.{Operator, Table, operator, table, ends-from, is-fix}
 use Rattle.formula.specs.Reading.{Reading, parse}
-use Rattle.formula.specs.Stands.{is-next, is-fix, Guarded, Ranged}
-use Rattle.formula.proofs.Limits.{fixpoints, nexts, how-many, table-fixpoints, table-nexts, parse-limited}
+use Rattle.formula.specs.Stands.{Guarded, Ranged}
+use Rattle.formula.proofs.Limits.{fixpoints, how-many, table-fixpoints, parse-limited}
 use Rattle.formula.proofs.Guarded.{parse-guarded}
 use Rattle.formula.proofs.WellFormed.{end-in, Operands, Shaped, Single, each-shaped, table-size}
 use Rattle.tableau.specs.Saturation.{moves}
-use Rattle.tableau.specs.Nodes.{operands}
 use Rattle.tableau.proofs.TransitionLaws.{next-is}
 use Rattle.coded.proofs.RankLaws.{fixes-from}
 use Rattle.coded.proofs.TableLaws.{Formed}
 
--- the fixpoints and the operands of next, counted
+-- the fixpoints, counted
 fixes-count : (t : Table) (e : ℕ) → length (fixes-from e t) ≡ how-many is-fix t
 fixes-count [] e = refl
-fixes-count (Operator.leaf (Leaf.constant b) ∷ t) e = fixes-count t (suc e)
-fixes-count (Operator.leaf (Leaf.signal p j) ∷ t) e = fixes-count t (suc e)
+fixes-count (Operator.leaf l ∷ t) e = fixes-count t (suc e)
 fixes-count (Operator.variable m ∷ t) e = fixes-count t (suc e)
 fixes-count (Operator.pair o l r ∷ t) e = fixes-count t (suc e)
 fixes-count (Operator.next g ∷ t) e = fixes-count t (suc e)
 fixes-count (Operator.fix g l ∷ t) e = ap suc (fixes-count t (suc e))
-
-operands-count : (t : Table) → length (operands t) ≡ how-many is-next t
-operands-count [] = refl
-operands-count (Operator.leaf (Leaf.constant b) ∷ t) = operands-count t
-operands-count (Operator.leaf (Leaf.signal p j) ∷ t) = operands-count t
-operands-count (Operator.variable m ∷ t) = operands-count t
-operands-count (Operator.pair o l r ∷ t) = operands-count t
-operands-count (Operator.next g ∷ t) = ap suc (operands-count t)
-operands-count (Operator.fix g l ∷ t) = operands-count t
-
-pub operands-number : (f : Formula) → length (operands (table f)) ≡ nexts f
-operands-number f = operands-count (table f) ∙ table-nexts f
 
 module _ (f : Formula) (guarded : Guarded [] f) (ranged : Ranged f) where
   abbrev end : ℕ → ℕ

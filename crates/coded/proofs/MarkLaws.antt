@@ -19,10 +19,10 @@ use Rattle.base.specs.Sets.{Inside}
 use Rattle.base.proofs.Inside.{waiting, waiting-le, toward-or}
 use Rattle.base.proofs.At.{At, at-lt, at-get, in-at}
 use Rattle.base.proofs.Pairs.{Pairs, total, total-less, total-most, comes-to-rest}
-use Rattle.formula.specs.Table.{Table, Operator, operator}
+use Rattle.formula.specs.Table.{Table, Operator, operator, is-fix}
 use Rattle.tableau.specs.Saturation.{Subset, has, moves}
 use Rattle.tableau.proofs.SaturationLaws.{has-lt, inside-by}
-use Rattle.profile.specs.Traces.{is-fix, stand, Stand}
+use Rattle.profile.specs.Traces.{stand, Stand}
 use Rattle.profile.proofs.TripleLaws.{Priority, none-priority}
 use Rattle.profile.proofs.TraceLaws.{Goes, goes-priority, MovesInside}
 use Rattle.coded.specs.Triples.{smaller}

@@ -12,8 +12,8 @@ use lib.Dec.{T}
 use lib.ListN.{length, getD, List·getD-eq-default}
 use Rattle.base.proofs.BoolLaws.{by-test}
 use Rattle.base.proofs.At.{At, at-lt, in-at, at-one}
-use Rattle.formula.specs.Table.{Table, operator}
-use Rattle.profile.specs.Traces.{is-fix, priorities-from}
+use Rattle.formula.specs.Table.{Table, operator, is-fix}
+use Rattle.profile.specs.Traces.{priorities-from}
 use Rattle.profile.specs.Profiles.{is-least}
 use Rattle.profile.proofs.TripleLaws.{Priority}
 use Rattle.coded.specs.Marks.{leasts}

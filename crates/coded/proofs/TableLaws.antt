@@ -15,12 +15,12 @@ use Rattle.base.specs.Search.{Item}
 use Rattle.base.proofs.BoolLaws.{by-test}
 use Rattle.base.proofs.NumberLaws.{values-at, values-length, values-same}
 use Rattle.base.proofs.At.{At, at-get, at-in, at-of, at-map, at-unmap}
-use Rattle.formula.specs.Table.{Table, Operator, operator}
+use Rattle.formula.specs.Table.{Table, Operator, operator, is-fix}
 use Rattle.tableau.specs.Saturation.{Subset, has}
 use Rattle.tableau.specs.Transition.{next-of}
 use Rattle.tableau.specs.Nodes.{operands}
 use Rattle.tableau.proofs.TransitionLaws.{next-is}
-use Rattle.profile.specs.Traces.{is-fix, Stand, stand, stands, ends}
+use Rattle.profile.specs.Traces.{Stand, stand, stands, ends}
 use Rattle.profile.specs.Traces as literal
 use Rattle.profile.proofs.TraceLaws.{MovesInside, triples-trace, trace-triples}
 use Rattle.coded.specs.Triples.{Triples, holds, those}

@@ -5,10 +5,9 @@ use Prim.Native.Nat.{ℕ, suc, _*_}
 use lib.Dec.{eqb}
 use lib.ListN.{length, getD, set}
 use Rattle.base.specs.Lists.{numbers, repeat}
-use Rattle.formula.specs.Table.{Operator, Table}
+use Rattle.formula.specs.Table.{Operator, Table, is-fix}
 use Rattle.tableau.specs.Saturation.{Subset, has, moves}
 use Rattle.tableau.specs.Transition.{next-of}
-use Rattle.profile.specs.Traces.{is-fix}
 use Rattle.profile.specs.Profiles.{is-least}
 use Rattle.coded.specs.Triples.{smaller, Triples}
 

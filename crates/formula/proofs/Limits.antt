@@ -10,9 +10,9 @@ use lib.Dec.{T, ltb→lt}
 use lib.ListN.{length, getD}
 use Rattle.base.specs.Lists.{keep}
 use Rattle.formula.specs.Formula.{Leaf, Formula, size}
-use Rattle.formula.specs.Table.{Operator, Table, table-from, table}
+use Rattle.formula.specs.Table.{Operator, Table, table-from, table, is-next, is-fix}
 use Rattle.formula.specs.Reading.{Opcode, Head, Scope, within, counted, Reading, parse}
-use Rattle.formula.specs.Stands.{is-next, is-fix, Ranged}
+use Rattle.formula.specs.Stands.{Ranged}
 use Rattle.formula.proofs.Commands.{Sort, sort, or-command, next-command, fix-command, one-if, counted-is, behind}
 use Rattle.formula.proofs.Derivation.{Byte, Begins, Reads, parse-reads}
 

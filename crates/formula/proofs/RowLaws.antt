@@ -12,13 +12,13 @@ use Rattle.base.specs.Lists.{numbers}
 use Rattle.base.proofs.ListLaws.{length-numbers}
 use Rattle.base.proofs.NumberLaws.{values-at}
 use Rattle.formula.specs.Formula.{Formula, size}
-use Rattle.formula.specs.Table.{Entries, entries, table, ends-from}
+use Rattle.formula.specs.Table.{Entries, entries, table, ends-from, is-fix}
 use Rattle.formula.specs.Reading.{Opcode, opcode, Reading, parse, with-entries, reading}
 use Rattle.formula.specs.Rows.{operator-of, operator-at, end-at, operators-of, ends-of, entries-of, reading-by, reading-of}
 use Rattle.formula.specs.declared.Table.{Table}
 use Rattle.formula.specs.declared.Outcome.the-variants.{Accepted}
 use Rattle.formula.specs.declared.Reading as code
-use Rattle.formula.specs.Stands.{Ranged, is-fix, Guarded, nothing}
+use Rattle.formula.specs.Stands.{Ranged, Guarded, nothing}
 use Rattle.formula.proofs.Limits.{parse-limited}
 use Rattle.formula.proofs.Guarded.{parse-guarded}
 use Rattle.formula.proofs.WellFormed.{Shaped, Operands, Single, Pair, table-size, each-shaped, operator-in, end-in}

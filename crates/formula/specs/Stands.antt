@@ -8,7 +8,7 @@ use Prim.Native.Nat.{ℕ, _+_, _≤_, _<_}
 use lib.Dec.{T}
 use lib.ListN.{length, getD}
 use Rattle.formula.specs.Formula.{Leaf, Formula, size}
-use Rattle.formula.specs.Table.{Operator, table-from, ends-from}
+use Rattle.formula.specs.Table.{Operator, is-next, is-fix, table-from, ends-from}
 use Rattle.formula.specs.Reading.{Scope}
 
 -- From number e on, s has the elements of a list. (d: what lists give behind their last element.)
@@ -18,22 +18,6 @@ pub record Sits {A : Type 0} (d : A) (s : ℕ → A) (e : ℕ) (part : List A) :
 -- what tables give behind their last operator
 abbrev pub nothing : Operator
 nothing = Operator.leaf (Leaf.constant false)
-
--- whether an operator is a next
-abbrev pub is-next : Operator → Bool
-is-next (Operator.leaf l) = false
-is-next (Operator.variable m) = false
-is-next (Operator.pair o l r) = false
-is-next (Operator.next g) = true
-is-next (Operator.fix g b) = false
-
--- whether it is a fixpoint
-abbrev pub is-fix : Operator → Bool
-is-fix (Operator.leaf l) = false
-is-fix (Operator.variable m) = false
-is-fix (Operator.pair o l r) = false
-is-fix (Operator.next g) = false
-is-fix (Operator.fix g b) = true
 
 -- Closed and guarded (document 01, questions 7 and 8): each variable names an enclosing fixpoint, and a next stands between the two. The
 -- scope has the fixpoints around the formula, innermost first, each with whether a next stands between it and here.

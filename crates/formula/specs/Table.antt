@@ -1,6 +1,6 @@
 -- A formula as the list of its subformulas (document 01: "Commands are numbered from 0 by where they begin, from the left: these are
 -- the entries"). Element e is the operator of subformula e, with the numbers of its operands. Assumes nothing.
-use mathlib.Core.Bool.{Bool, false}
+use mathlib.Core.Bool.{Bool, true, false}
 use mathlib.Core.List.{List, [], _∷_, _++_}
 use Prim.Native.Nat.{ℕ, _+_}
 use lib.ListN.{getD}
@@ -13,6 +13,21 @@ pub data Operator : Type 0 where
   pair : (either : Bool) → (left right : ℕ) → Operator
   next : (operand : ℕ) → Operator
   fix : (greatest : Bool) → (body : ℕ) → Operator
+
+-- whether an operator is a next, and whether it is a fixpoint
+abbrev pub is-next : Operator → Bool
+is-next (Operator.leaf l) = false
+is-next (Operator.variable m) = false
+is-next (Operator.pair o l r) = false
+is-next (Operator.next g) = true
+is-next (Operator.fix g b) = false
+
+abbrev pub is-fix : Operator → Bool
+is-fix (Operator.leaf l) = false
+is-fix (Operator.variable m) = false
+is-fix (Operator.pair o l r) = false
+is-fix (Operator.next g) = false
+is-fix (Operator.fix g b) = true
 
 abbrev pub Table : Type 0
 Table = List Operator

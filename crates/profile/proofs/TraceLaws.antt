@@ -16,11 +16,11 @@ use Rattle.base.proofs.MemberLaws.{gather-of, gather-in, length-gather, numbers
 use Rattle.base.proofs.CondLaws.{cond-of, cond-in}
 use Rattle.base.proofs.SearchLaws.{Visits, Found, search-found, search-few}
 use Rattle.base.proofs.SearchOrder.{Reach, search-all}
-use Rattle.formula.specs.Table.{Table, operator}
+use Rattle.formula.specs.Table.{Table, operator, is-fix}
 use Rattle.tableau.specs.Saturation.{Subset, has, moves}
 use Rattle.tableau.specs.Transition.{next-of}
 use Rattle.tableau.specs.Nodes.{operands}
-use Rattle.profile.specs.Traces.{Triple, is-fix, Stand, same-stand, stand, move-edges, stands, ends, triples}
+use Rattle.profile.specs.Traces.{Triple, Stand, same-stand, stand, move-edges, stands, ends, triples}
 use Rattle.profile.proofs.TripleLaws.{Priority, none-priority, fix-priority, min-in, Known, set-of-of, set-of-in}
 
 -- A trace from f, on its way: "along the same moves", with the smallest fixpoint number passed, "f itself included".

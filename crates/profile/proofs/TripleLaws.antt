@@ -14,9 +14,9 @@ use Rattle.base.specs.Lists.{gather, any}
 use Rattle.base.proofs.BoolLaws.{and-left, and-right, and-both}
 use Rattle.base.proofs.MemberLaws.{gather-of, gather-in, length-gather, any-of, any-in, keep-of, keep-in}
 use Rattle.base.proofs.CondLaws.{cond-of, cond-in}
-use Rattle.formula.specs.Table.{Table, operator}
+use Rattle.formula.specs.Table.{Table, operator, is-fix}
 use Rattle.tableau.specs.Nodes.{operands}
-use Rattle.profile.specs.Traces.{Triple, same-triple, is-fix, priorities-from, all-triples, set-of, meet, join, joined}
+use Rattle.profile.specs.Traces.{Triple, same-triple, priorities-from, all-triples, set-of, meet, join, joined}
 
 -- the test on triples
 pub triple-sound : (a b : Triple) → T (same-triple a b) → a ≡ b

@@ -1,13 +1,13 @@
 -- Traces of a transition, their priorities and triples: document 01, "Graph, traces, profiles". The priority none is the number of
 -- subformulas, which is larger than any of theirs. Assumes nothing.
-use mathlib.Core.Bool.{Bool, true, false, cond, _&&_}
+use mathlib.Core.Bool.{Bool, cond, _&&_}
 use mathlib.Core.List.{List, [], _∷_, map}
 use Prim.Native.Nat.{ℕ, suc, _+_, _*_, min}
 use lib.Dec.{eqb}
 use lib.ListN.{length}
 use Rattle.base.specs.Lists.{gather, any, keep}
 use Rattle.base.specs.Search.{Edge, Item, search-from}
-use Rattle.formula.specs.Table.{Operator, Table, operator}
+use Rattle.formula.specs.Table.{Table, operator, is-fix}
 use Rattle.tableau.specs.Saturation.{Subset, has, moves}
 use Rattle.tableau.specs.Transition.{next-of}
 use Rattle.tableau.specs.Nodes.{operands}
@@ -20,13 +20,6 @@ pub record Triple : Type 0 where
 
 abbrev pub same-triple : Triple → Triple → Bool
 same-triple a b = eqb (a .from) (b .from) && eqb (a .priority) (b .priority) && eqb (a .to) (b .to)
-
-abbrev pub is-fix : Operator → Bool
-is-fix (Operator.leaf l) = false
-is-fix (Operator.variable m) = false
-is-fix (Operator.pair o l r) = false
-is-fix (Operator.next g) = false
-is-fix (Operator.fix g l) = true
 
 -- A trace on its way: the subformula where it stands, and the smallest number of a fixpoint passed, that subformula included.
 pub record Stand : Type 0 where

@@ -18,7 +18,7 @@ use Rattle.base.specs.Bits.{word}
 use Rattle.base.proofs.BoolLaws.{of-T, to-T}
 use Rattle.base.proofs.ListLaws.{getD-map, getD-numbers, length-numbers}
 use Rattle.base.proofs.WordLaws.{word-lt, word-inj}
-use Rattle.formula.specs.Table.{Operator, Table, operator}
+use Rattle.formula.specs.Table.{Operator, Table, operator, is-fix}
 use Rattle.tableau.specs.Saturation.{Subset, has, nothing, moves, saturate}
 use Rattle.tableau.specs.Transition.{Transition, transitions, next-of}
 use Rattle.tableau.specs.Nodes.{root}
@@ -26,7 +26,7 @@ use Rattle.tableau.proofs.SaturationLaws.{inside-has, inside-by, has-lt, nothin
 use Rattle.tableau.proofs.TransitionLaws.{Facts, facts}
 use Rattle.tableau.proofs.ChoiceLaws.{chosen, chosen-moves, chosen-inside, chosen-in}
 use Rattle.tableau.proofs.NodeLaws.{at-root, by-transition, root-length}
-use Rattle.profile.specs.Traces.{Triple, is-fix, Stand, triples, join}
+use Rattle.profile.specs.Traces.{Triple, Stand, triples, join}
 use Rattle.profile.specs.Profiles.{is-least}
 use Rattle.tableau.specs.Run.{Reachable}
 use Rattle.profile.specs.Cycle.{Lap, Rejecting, Run, AcceptingCycle}

@@ -7,11 +7,11 @@ use Prim.Native.Nat.{ℕ, _≤_, _<_, min}
 use native.Mathlib.Omega.{arith}
 use lib.ListN.{length}
 use lib.Dec.{T}
-use Rattle.formula.specs.Table.{Operator, Table, operator}
+use Rattle.formula.specs.Table.{Operator, Table, operator, is-fix}
 use Rattle.tableau.specs.Saturation.{Subset, has, moves}
 use Rattle.tableau.specs.Transition.{Transition, next-of}
 use Rattle.tableau.specs.Nodes.{operands}
-use Rattle.profile.specs.Traces.{Triple, is-fix, Stand, stand, triples, join, joined}
+use Rattle.profile.specs.Traces.{Triple, Stand, stand, triples, join, joined}
 use Rattle.profile.specs.Cycle.{Lap}
 use Rattle.profile.proofs.TripleLaws.{Known, fix-priority, priority-le, join-in, join-known}
 use Rattle.profile.proofs.TraceLaws.{Goes, Trace, trace-triples, triples-known}

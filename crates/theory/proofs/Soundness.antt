@@ -13,13 +13,12 @@ use lib.ListN.{length, drop, length-append, length-map, List·getD-map}
 use lib.Seq.{drop-cons, drop-append-seam, drop-length}
 use lib.Dec.{T, ltb}
 use borrow.Author.Tests.{ltb-true, ltb-false}
-use Rattle.formula.specs.Table.{Operator, Table, operator}
+use Rattle.formula.specs.Table.{Operator, Table, operator, is-fix}
 use Rattle.lasso.specs.Lasso.{Lasso}
 use Rattle.tableau.specs.Saturation.{Subset, has, moves, saturate}
 use Rattle.tableau.specs.Transition.{Transition, next-of}
 use Rattle.tableau.proofs.SaturationLaws.{saturate-length}
 use Rattle.tableau.proofs.TransitionLaws.{asks, next-is, Facts, facts}
-use Rattle.profile.specs.Traces.{is-fix}
 use Rattle.profile.specs.Cycle.{Rejecting}
 use Rattle.profile.proofs.TraceLaws.{next-operand}
 use Rattle.theory.proofs.World.{Orbit, Part, holds, Move, Move.within, Move.across, Path, Path.here, Path.step}

@@ -11,16 +11,15 @@ use lib.ListN.{length, getD, List·getD-eq-default}
 use lib.Dec.{T}
 use borrow.Author.Tests.{eq-eqb, ne-eqb}
 use Rattle.formula.specs.Formula.{Leaf, Formula, size}
-use Rattle.formula.specs.Table.{Operator, Table, table, ends-from, operator}
+use Rattle.formula.specs.Table.{Operator, Table, table, ends-from, operator, is-fix}
 use Rattle.formula.specs.Reading.{Scope}
-use Rattle.formula.specs.Stands.{Ranged, is-fix as formula-fix, Guarded, Stands}
+use Rattle.formula.specs.Stands.{Ranged, Guarded, Stands}
 use Rattle.formula.proofs.Limits.{size-some}
 use Rattle.formula.proofs.WellFormed.{sits-first, end-in, stands-left, stands-right, stands-next, stands-body, Single, Operands, Shaped, each-shaped, stands-whole, table-size}
 use Rattle.lasso.specs.Lasso.{Lasso, Positions, leaf-at, holds as lasso-holds}
 use Rattle.tableau.specs.Saturation.{moves}
 use Rattle.tableau.specs.Transition.{next-of}
 use Rattle.tableau.proofs.TransitionLaws.{next-is}
-use Rattle.profile.specs.Traces.{is-fix}
 use Rattle.theory.proofs.World.{PositionSet, Sets, put, Part, holds}
 use Rattle.theory.proofs.Levels.{pair-moves, height, height-falls}
 use Rattle.theory.proofs.Agreement.{orbit, Agree, agree-map, agree-combine, agree-before, agree-rounds}
@@ -89,15 +88,6 @@ module _ (t : Table) (end : ℕ → ℕ) (count : ℕ) where
             (agree-map (λ _. g) (c .letters));
       }
 
--- the two tests for a fixpoint are one
-fix-again : (o : Operator) → T (formula-fix o) → T (is-fix o)
-fix-again (Operator.leaf (Leaf.constant b)) h = h
-fix-again (Operator.leaf (Leaf.signal p j)) h = h
-fix-again (Operator.variable m) h = h
-fix-again (Operator.pair o l r) h = h
-fix-again (Operator.next l) h = h
-fix-again (Operator.fix g l) h = h
-
 -- A guarded formula's table.
 module _ (f : Formula) (guarded : Guarded [] f) (ranged : Ranged f) where
   abbrev t : Table
@@ -124,7 +114,7 @@ module _ (f : Formula) (guarded : Guarded [] f) (ranged : Ranged f) where
   leads x y b (Operator.leaf l) h k s m = absurd (List·Memᴰ·not-nil m)
   leads x y b (Operator.variable i) h k s m =
       let q = List·Memᴰ·eq-of-singleton m in
-      (omega (arith, s .before), inr (ap Operator.variable (sym q), subst⁻¹ (λ (i : ℕ). T (is-fix (operator t i))) q (fix-again (operator t i) (s .fixpoint))))
+      (omega (arith, s .before), inr (ap Operator.variable (sym q), subst⁻¹ (λ (i : ℕ). T (is-fix (operator t i))) q (s .fixpoint)))
   leads x y b (Operator.pair o l r) h k s m =
       ⊎-elim (λ (q : y ≡ l). (omega (arith, s .first, s .order, s .inside), inl (omega (arith, s .first))))
       (λ (q : y ≡ r). (omega (arith, s .inside), inl (omega (arith, s .first, s .order)))) (pair-moves o b m)

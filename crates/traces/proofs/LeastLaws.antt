@@ -12,10 +12,9 @@ use lib.Dec.{eqb}
 use lib.ListN.{getD}
 use Rattle.base.specs.Bits.{bit}
 use Rattle.base.proofs.WordLaws.{no-bit}
-use Rattle.formula.specs.Table.{Operator}
+use Rattle.formula.specs.Table.{Operator, is-fix}
 use Rattle.formula.specs.Rows.{operator-at, operators-of}
 use Rattle.tableau.specs.Promise.{table-of}
-use Rattle.profile.specs.Traces.{is-fix}
 use Rattle.profile.specs.Profiles.{is-least}
 use Rattle.coded.specs.Marks.{leasts}
 use Rattle.traces.specs.Promise.{fix-at, fix-rank}

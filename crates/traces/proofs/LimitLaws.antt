@@ -4,10 +4,8 @@ use mathlib.Core.List.{List, [], _∷_}
 use Prim.Native.Nat.{ℕ, suc}
 use native.Mathlib.Omega.{arith}
 use lib.ListN.{length}
-use Rattle.formula.specs.Formula.{Leaf}
-use Rattle.formula.specs.Table.{Operator, Table as Operators}
+use Rattle.formula.specs.Table.{Operator, Table as Operators, is-next, is-fix}
 use Rattle.formula.specs.declared.Table.{Table}
-use Rattle.formula.specs.Stands.{is-next, is-fix}
 use Rattle.formula.proofs.Limits.{how-many, table-nexts, table-fixpoints, parse-limited}
 use Rattle.formula.proofs.RowLaws.{Held}
 use Rattle.tableau.specs.Nodes.{operands}
@@ -19,8 +17,7 @@ use Rattle.traces.specs.Promise.{Limited}
 -- one operand for each next
 operands-are : (t : Operators) → length (operands t) ≡ how-many is-next t
 operands-are [] = refl
-operands-are (Operator.leaf (Leaf.constant b) ∷ t) = operands-are t
-operands-are (Operator.leaf (Leaf.signal p j) ∷ t) = operands-are t
+operands-are (Operator.leaf l ∷ t) = operands-are t
 operands-are (Operator.variable m ∷ t) = operands-are t
 operands-are (Operator.pair o l r ∷ t) = operands-are t
 operands-are (Operator.next g ∷ t) = ap suc (operands-are t)
@@ -29,8 +26,7 @@ operands-are (Operator.fix g l ∷ t) = operands-are t
 -- one Bool for each fixpoint
 leasts-are : (t : Operators) → length (leasts t) ≡ how-many is-fix t
 leasts-are [] = refl
-leasts-are (Operator.leaf (Leaf.constant b) ∷ t) = leasts-are t
-leasts-are (Operator.leaf (Leaf.signal p j) ∷ t) = leasts-are t
+leasts-are (Operator.leaf l ∷ t) = leasts-are t
 leasts-are (Operator.variable m ∷ t) = leasts-are t
 leasts-are (Operator.pair o l r ∷ t) = leasts-are t
 leasts-are (Operator.next g ∷ t) = leasts-are t

@@ -19,11 +19,10 @@ use Rattle.base.proofs.ListLaws.{repeat-stays}
 use Rattle.base.proofs.NumberLaws.{values-at, values-same, values-length}
 use Rattle.base.proofs.BitLaws.{bit-or, bit-same, bit-other}
 use Rattle.base.proofs.WordLaws.{no-bit, word-bit}
-use Rattle.formula.specs.Table.{Operator}
+use Rattle.formula.specs.Table.{Operator, is-fix}
 use Rattle.formula.specs.Rows.{operator-at, operators-of}
 use Rattle.tableau.specs.Saturation.{Subset, has, moves}
 use Rattle.tableau.specs.Promise.{Row, table-of}
-use Rattle.profile.specs.Traces.{is-fix}
 use Rattle.coded.specs.Triples.{smaller}
 use Rattle.coded.specs.Marks.{Marks, weighs, bit-of, passed, mark, sweep, blank, reached}
 use Rattle.coded.proofs.TriplesLaws.{smaller-same}

@@ -7,11 +7,10 @@ use Prim.Native.Nat.{ℕ, zero, suc, _+_, _≤_, _<_}
 use native.Mathlib.Omega.{arith}
 use native.Mathlib.Decide.{ℕ-discrete}
 use Rattle.formula.specs.Formula.{Leaf}
-use Rattle.formula.specs.Table.{Operator}
+use Rattle.formula.specs.Table.{Operator, is-fix}
 use Rattle.formula.specs.Reading.{opcode}
 use Rattle.formula.specs.Rows.{operator-of}
 use Rattle.tableau.specs.Transition.{next-of}
-use Rattle.profile.specs.Traces.{is-fix}
 
 module _ (op a e : ℕ) where
   abbrev pub decoded : Operator

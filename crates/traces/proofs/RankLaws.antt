@@ -11,12 +11,11 @@ use borrow.Author.Tests.{eq-eqb, ne-eqb, lt-ltb, le-ltb}
 use lib.Dec.{ltb}
 use lib.ListN.{length, getD, set, length-set, length-map, length-append}
 use lib.Seq.{getD-set-same, getD-set-other}
-use Rattle.formula.specs.Table.{Table}
+use Rattle.formula.specs.Table.{Table, is-fix}
 use Rattle.formula.specs.Rows.{operator-at, operators-of}
 use Rattle.tableau.specs.Transition.{next-of}
 use Rattle.tableau.specs.Nodes.{operands}
 use Rattle.tableau.specs.Promise.{table-of, Formed}
-use Rattle.profile.specs.Traces.{is-fix}
 use Rattle.profile.specs.Profiles.{is-least}
 use Rattle.coded.specs.Marks.{nexts-from, leasts}
 use Rattle.traces.specs.Promise.{before, next-at, fix-at, next-rank, fix-rank, Ranked, Limited, Ranks-of}
