@@ -22,7 +22,7 @@ use Rattle.base.proofs.WordLaws.{word-bit, word-lt, word-inj}
 use Rattle.formula.specs.Table.{Table}
 use Rattle.tableau.specs.Saturation.{Subset, same-subset, nothing, saturate}
 use Rattle.tableau.specs.Transition.{operators-in, requires, letter-of, next-of, ors, choice-of, Transition, transition-of, by-word, transitions}
-use Rattle.tableau.specs.Promise.{table-of, Leads-nowhere, Unmet, Stepped-by}
+use Rattle.tableau.specs.Promise.{table-of, Leads-nowhere, Stepped-by}
 use Rattle.tableau.specs.Area.{eight, words-at, index, Sized}
 use Rattle.tableau.specs.declared.NodeNumber.{NodeNumber}
 use Rattle.tableau.specs.declared.Step.the-variants.{Leads}
@@ -151,8 +151,8 @@ module _ {rows : List ℕ} {count : ℕ} {r : Ranks} {s : Shelf} {nodes : ℕ} {
       sets = λ i h. subst⁻¹ (λ (w : ℕ). w < 2 ^ count) (node-kept i h) (g .sets i h);
     }
 
-    pub unmet-kept : {from : ℕ} {unmet : List ℕ} (i : ℕ) → i < nodes → from ≡ eight a (8 * i) → Unmet rows count from unmet → Unmet rows count (eight b (8 * i)) unmet
-    unmet-kept {unmet = unmet} i h e d = subst (λ (w : ℕ). Unmet rows count w unmet) (e ∙ sym (node-kept i h)) d
+    pub from-kept : {from : ℕ} (i : ℕ) → i < nodes → from ≡ eight a (8 * i) → from ≡ eight b (8 * i)
+    from-kept i h e = e ∙ sym (node-kept i h)
 
     pub node-in-kept : (i : ℕ) → i < nodes → node-in count b i ≡ node-in count a i
     node-in-kept i h = ap (subset-of count) (node-kept i h)

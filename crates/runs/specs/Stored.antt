@@ -25,6 +25,7 @@ two b at = getD b at 0 + getD b (at + 1) 0 * 256
 abbrev pub profile-of : Ends → Triples → Profile
 profile-of e s = record { first = e .first .0; last = e .last .0; carried = s }
 
+-- the same, with the profile that it goes on from and its last letter
 abbrev pub found-of : Ends → Triples → Found
 found-of e s = record { at = profile-of e s; parent = e .parent; label = e .letter }
 

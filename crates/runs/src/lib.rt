@@ -66,6 +66,7 @@ pub fn ends_of(area: &[u8], shelf: Shelf, p: usize) -> Ends
     }
 }
 
+// Puts a number at an offset of record p.
 fn put2(area: &mut [u8], shelf: Shelf, p: usize, offset: usize, x: usize)
     requires { ⌜ (shelf .base ≤ 8192) × ((p ≤ 4096) × (place shelf p + offset + 2 ≤ length (now area))) ⌝ }
     requires { ⌜ x < 65536 ⌝ }
@@ -233,7 +234,7 @@ fn add(area: &mut [u8], shelf: Shelf, count: usize, ends: Ends, t: &[u8; 144]) -
     count + 1
 }
 
-// Adds the profile of the transition of a node under a choice word, if there is one.
+// Adds the profile of the transition of a node, with its number, under a choice word, if there is one.
 fn single(
     rows: &[u8; 144],
     subformulas: usize,
@@ -242,17 +243,17 @@ fn single(
     area: &mut [u8],
     nodes: usize,
     number: NodeNumber,
+    from: u64,
     unmet: &[u64; 24],
     choice_word: u64,
     count: usize,
 ) -> usize
     requires { ⌜ Given (now rows) subformulas r shelf nodes (now area) ⌝ }
     requires { ⌜ (number .0 < nodes) × (count ≤ shelf .capacity) ⌝ }
-    requires { ⌜ Unmet (now rows) subformulas (eight (now area) (8 * number .0)) (now unmet) ⌝ }
+    requires { ⌜ (from ≡ eight (now area) (8 * number .0)) × Unmet (now rows) subformulas from (now unmet) ⌝ }
     requires { ⌜ Chained shelf (now area) count ⌝ }
     ensures { λ all. ⌜ Added shelf count (now (area .entry)) all (now (area .exit)) (singles-by (table-of (now (rows .entry)) subformulas) (nodes-in subformulas (now (area .entry)) nodes) (number .0) (node-in subformulas (now (area .entry)) (number .0)) «choice_word») ⌝ }
 {
-    let from = tableau::node(area, number);
     match tableau::by_word(rows, subformulas, unmet, choice_word, from) {
         Step::Nothing => count,
         Step::Leads { to, letter } => {
@@ -281,12 +282,11 @@ fn singles_of(
     number: NodeNumber,
     count: usize,
 ) -> usize
-    requires { ⌜ Given (now rows) subformulas r shelf nodes (now area) ⌝ }
-    requires { ⌜ (number .0 < nodes) × (count ≤ shelf .capacity) ⌝ }
-    requires { ⌜ Chained shelf (now area) count ⌝ }
+    requires { ⌜ Given (now rows) subformulas r shelf nodes (now area) × ((number .0 < nodes) × ((count ≤ shelf .capacity) × Chained shelf (now area) count)) ⌝ }
     ensures { λ all. ⌜ Added shelf count (now (area .entry)) all (now (area .exit)) (ones-of (table-of (now (rows .entry)) subformulas) (nodes-in subformulas (now (area .entry)) nodes) (number .0) (node-in subformulas (now (area .entry)) (number .0))) ⌝ }
 {
-    let unmet = tableau::unmet(rows, subformulas, tableau::node(area, number));
+    let from = tableau::node(area, number);
+    let unmet = tableau::unmet(rows, subformulas, from);
     let end = base::power(tableau::ors(rows, subformulas));
     let mut all = count;
     let mut word = 0u64;
@@ -302,6 +302,7 @@ fn singles_of(
             area,
             nodes,
             number,
+            from,
             &unmet,
             word,
             all,

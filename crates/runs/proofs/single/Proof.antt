@@ -1,7 +1,6 @@
 -- `runs::single` adds the profile of the transition under one choice word, if there is one.
-use mathlib.Core.Path.{refl, sym, subst}
-use Prim.Native.Nat.{ℕ}
-use Rattle.tableau.specs.Promise.{Unmet, Stepped-by}
+use mathlib.Core.Path.{refl, subst}
+use Rattle.tableau.specs.Promise.{Stepped-by}
 use Rattle.tableau.proofs.StepLaws.{step-nowhere}
 use Rattle.runs.proofs.SingleLaws.{index-small, single-nowhere, single-letter, single-some}
 use borrow.Author.Needs.{needs}
@@ -9,11 +8,8 @@ use native.Mathlib.Omega.{arith}
 use Rattle.runs.proofs.single.Statement.{statement}
 use Rattle.runs.proofs.single.Tie as tie
 
-node-requires : tie.Need-node-requires
-node-requires c κs = search needs
-
 by-word-requires : tie.Need-by-word-requires
-by-word-requires c κs = let s = c .before .before .before in (s .pre .0 .limited .formed, subst (λ (n : ℕ). Unmet (s .args .rows .now) (s .args .subformulas) n (s .args .unmet .now)) (sym (c .node .ensures)) (s .pre .1 .1 .0))
+by-word-requires c κs = search needs
 
 enum-told : tie.Need-enum-told
 enum-told c = c .match .keys1
@@ -31,25 +27,21 @@ triples-of-requires : tie.Need-triples-of-requires
 triples-of-requires c κs = search needs
 
 add-requires : tie.Need-add-requires
-add-requires c κs = let s = c .before .before .before .before .before .before .before .before .before .before .before .before .before in let k = s .pre .0 in (k .lent, (s .pre .1 .0 .1, (record { first = omega (arith, s .pre .1 .0 .0, k .few); last = index-small (c .before .before .before .before .before .before .before .to .given .0 .0) (s .args .area .now) (k .few) (c .before .before .before .before .find .ensures); parent = omega arith; letter = single-letter k (s .args .number .0) (s .args .choice-word) (s .pre .1 .0 .0) (c .before .before .before .before .before .before .before .before .before .before .node .ensures) (subst (Stepped-by _ _ _ _) (c .before .before .before .before .before .before .before .to .given .1) (c .before .before .before .before .before .before .before .before .before .by-word .ensures)) }, s .pre .1 .1 .1)))
+add-requires c κs = let s = c .before .before .before .before .before .before .before .before .before .before .before in let k = s .pre .0 in (k .lent, (s .pre .1 .0 .1, (record { first = omega (arith, s .pre .1 .0 .0, k .few); last = index-small (c .before .before .before .before .before .before .before .to .given .0 .0) (s .args .area .now) (k .few) (c .before .before .before .before .find .ensures); parent = omega arith; letter = single-letter k (s .args .number .0) (s .args .choice-word) (s .pre .1 .0 .0) (s .pre .1 .1 .0 .0) (subst (Stepped-by _ _ _ _) (c .before .before .before .before .before .before .before .to .given .1) (c .before .before .before .before .before .before .before .before .before .by-word .ensures)) }, s .pre .1 .1 .1)))
+
+returns : tie.Need-returns
+returns c = let s = c .before .before .before .before in single-nowhere (s .pre .0) (s .args .number .0) (s .args .choice-word) (s .pre .1 .0 .0) (s .pre .1 .1 .0 .0) (s .pre .1 .0 .1) (s .pre .1 .1 .1) (step-nowhere (c .before .before .by-word .ensures) (c .enum-told .given .1))
 
 same-length : tie.Need-same-length
 same-length c = search needs
 
-returns : tie.Need-returns
-returns c = let s = c .before .before .before .before .before .before in single-nowhere (s .pre .0) (s .args .number .0) (s .args .choice-word) (s .pre .1 .0 .0) (c .before .before .before .node .ensures) (s .pre .1 .0 .1) (s .pre .1 .1 .1) (step-nowhere (c .before .before .by-word .ensures) (c .enum-told .given .1))
-
-same-length-2 : tie.Need-same-length-2
-same-length-2 c = search needs
-
 returns-2 : tie.Need-returns-2
-returns-2 c = let s = c .before .before .before .before .before .before .before .before .before .before .before .before .before .before .before .before in let t = c .before .before .before .before .before .triples-of in single-some (s .pre .0) (s .args .number .0) (s .args .choice-word) (s .pre .1 .0 .0) (c .before .before .before .before .before .before .before .before .before .before .before .before .before .node .ensures) (subst (Stepped-by _ _ _ _) (c .before .before .before .before .before .before .before .before .before .before .to .given .1) (c .before .before .before .before .before .before .before .before .before .before .before .before .by-word .ensures)) (t .result) refl (c .before .before .before .before .before .before .before .find .ensures) (c .before .before .before .before .before .before .choice-of .ensures) (t .ensures) (c .before .before .add .ensures)
+returns-2 c = let s = c .before .before .before .before .before .before .before .before .before .before .before .before .before .before in let t = c .before .before .before .before .before .triples-of in single-some (s .pre .0) (s .args .number .0) (s .args .choice-word) (s .pre .1 .0 .0) (s .pre .1 .1 .0 .0) (subst (Stepped-by _ _ _ _) (c .before .before .before .before .before .before .before .before .before .before .to .given .1) (c .before .before .before .before .before .before .before .before .before .before .before .before .by-word .ensures)) (t .result) refl (c .before .before .before .before .before .before .before .find .ensures) (c .before .before .before .before .before .before .choice-of .ensures) (t .ensures) (c .before .before .add .ensures)
 
 pub single-spec : {M : Type 1} → statement M
 single-spec =
     tie.close
     (tie.spec
-    node-requires
     by-word-requires
     enum-told
     enum-known-to
@@ -57,7 +49,6 @@ single-spec =
     choice-of-requires
     triples-of-requires
     add-requires
-    same-length
     returns
-    same-length-2
+    same-length
     returns-2)

@@ -24,7 +24,7 @@ returns : tie.Need-returns Inv-loop μ-loop
 returns c = let l = c .before .before .before .loop in all-stop (c .before .before .before .before .before .pre) (l .i) (c .if1 .taken) (l .inv .1 .0) (l .inv .1 .1)
 
 singles-of-requires : tie.Need-singles-of-requires Inv-loop μ-loop
-singles-of-requires c κs = (given-kept (c .before .before .before .before .before .before .pre) (c .before .before .before .before .loop .inv .1 .1 .elsewhere) (omega arith), ((c .before .before .before .loop-test .taken, c .before .if1 .left), c .before .before .before .before .loop .inv .1 .1 .chained (c .before .if1 .left)))
+singles-of-requires c κs = (given-kept (c .before .before .before .before .before .before .pre) (c .before .before .before .before .loop .inv .1 .1 .elsewhere) (omega arith), (c .before .before .before .loop-test .taken, (c .before .if1 .left, c .before .before .before .before .loop .inv .1 .1 .chained (c .before .if1 .left))))
 
 add-i : tie.Need-add-i Inv-loop μ-loop
 add-i c = search needs
