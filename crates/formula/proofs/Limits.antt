@@ -10,7 +10,7 @@ use lib.Dec.{T, ltb→lt}
 use lib.ListN.{length, getD}
 use Rattle.base.specs.Lists.{keep}
 use Rattle.formula.specs.Formula.{Leaf, Formula, size}
-use Rattle.formula.specs.Table.{Operator, Table, table-from, table, is-next, is-fix}
+use Rattle.formula.specs.Table.{Operator, Table, table-from, table, is-or, is-next, is-fix}
 use Rattle.formula.specs.Reading.{Opcode, Head, Scope, within, counted, Reading, parse}
 use Rattle.formula.specs.Stands.{Ranged}
 use Rattle.formula.proofs.Commands.{Sort, sort, or-command, next-command, fix-command, one-if, counted-is, behind}
@@ -205,23 +205,21 @@ module _ (q : Operator → Bool) (test : Opcode → Bool) (same : (o : Operator)
   unfolding table
   table-tally f = from-tally 0 [] f
 
-abbrev pub is-or : Operator → Bool
-is-or o = or-command (opcode-of o)
-
--- an operator is a next, or a fixpoint, by its opcode
-tests-same : (o : Operator) → (is-next o ≡ next-command (opcode-of o)) × (is-fix o ≡ fix-command (opcode-of o))
-tests-same (Operator.leaf (Leaf.constant b)) = (refl, refl)
-tests-same (Operator.leaf (Leaf.signal present s)) = (refl, refl)
-tests-same (Operator.variable m) = (refl, refl)
-tests-same (Operator.pair o l r) = (refl, refl)
-tests-same (Operator.next g) = (refl, refl)
-tests-same (Operator.fix g b) = (refl, refl)
+-- an operator is an or, a next, a fixpoint by its opcode
+tests-same : (o : Operator) → (is-or o ≡ or-command (opcode-of o)) × (is-next o ≡ next-command (opcode-of o)) × (is-fix o ≡ fix-command (opcode-of o))
+tests-same (Operator.leaf (Leaf.constant b)) = (refl, refl, refl)
+tests-same (Operator.leaf (Leaf.signal present s)) = (refl, refl, refl)
+tests-same (Operator.variable m) = (refl, refl, refl)
+tests-same (Operator.pair true l r) = (refl, refl, refl)
+tests-same (Operator.pair false l r) = (refl, refl, refl)
+tests-same (Operator.next g) = (refl, refl, refl)
+tests-same (Operator.fix g b) = (refl, refl, refl)
 
 pub table-ors : (f : Formula) → how-many is-or (table f) ≡ ors f
-table-ors = table-tally is-or or-command (λ o. refl)
+table-ors = table-tally is-or or-command (λ o. tests-same o .0)
 
 pub table-nexts : (f : Formula) → how-many is-next (table f) ≡ nexts f
-table-nexts = table-tally is-next next-command (λ o. tests-same o .0)
+table-nexts = table-tally is-next next-command (λ o. tests-same o .1)
 
 pub table-fixpoints : (f : Formula) → how-many is-fix (table f) ≡ fixpoints f
-table-fixpoints = table-tally is-fix fix-command (λ o. tests-same o .1)
+table-fixpoints = table-tally is-fix fix-command (λ o. tests-same o .2)

@@ -14,7 +14,14 @@ pub data Operator : Type 0 where
   next : (operand : ℕ) → Operator
   fix : (greatest : Bool) → (body : ℕ) → Operator
 
--- whether an operator is a next, and whether it is a fixpoint
+-- whether an operator is an or, a next, a fixpoint
+abbrev pub is-or : Operator → Bool
+is-or (Operator.leaf l) = false
+is-or (Operator.variable m) = false
+is-or (Operator.pair o l r) = o
+is-or (Operator.next g) = false
+is-or (Operator.fix g b) = false
+
 abbrev pub is-next : Operator → Bool
 is-next (Operator.leaf l) = false
 is-next (Operator.variable m) = false

@@ -15,9 +15,9 @@ use Rattle.base.specs.Sets.{Inside}
 use Rattle.base.proofs.BoolLaws.{by-test, of-T, and-right}
 use Rattle.base.proofs.MemberLaws.{numbers-in}
 use Rattle.base.proofs.Inside.{inside-both}
-use Rattle.formula.specs.Table.{Operator, Table, operator}
+use Rattle.formula.specs.Table.{Operator, Table, operator, is-or}
 use Rattle.tableau.specs.Saturation.{Subset, has, moves, saturate}
-use Rattle.tableau.specs.Transition.{is-or, ors, choice-of, choices, Transition, transitions}
+use Rattle.tableau.specs.Transition.{ors, choice-of, choices, Transition, transitions}
 use Rattle.tableau.proofs.SaturationLaws.{inside-has, subset-ext, saturate-holds, saturate-closed, saturate-least}
 use Rattle.tableau.proofs.TransitionLaws.{asks, facts, transition-with, transition-is, transition-in}
 

@@ -9,9 +9,9 @@ use lib.Dec.{T, eqb}
 use lib.Pow.{pow-pos}
 use Rattle.base.proofs.MemberLaws.{numbers-in}
 use Rattle.base.proofs.Inside.{inside-refl}
-use Rattle.formula.specs.Table.{Table}
+use Rattle.formula.specs.Table.{Table, is-or}
 use Rattle.tableau.specs.Saturation.{Subset, has, nothing, saturate}
-use Rattle.tableau.specs.Transition.{operators-in, letter-of, is-or, ors, choice-of, choices, Transition, transitions}
+use Rattle.tableau.specs.Transition.{operators-in, letter-of, ors, choice-of, choices, Transition, transitions}
 use Rattle.tableau.proofs.SaturationLaws.{inside-has, subset-ext, nothing-has, saturate-length, saturate-least}
 use Rattle.tableau.proofs.TransitionLaws.{transition-with, transition-is, transition-in}
 

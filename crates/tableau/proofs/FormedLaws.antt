@@ -7,29 +7,19 @@ use native.Mathlib.Omega.{arith}
 use native.Mathlib.Decide.{decLt}
 use lib.ListN.{length}
 use Rattle.base.specs.Lists.{keep}
-use Rattle.formula.specs.Formula.{Leaf}
-use Rattle.formula.specs.Table.{Operator, Table as Operators}
+use Rattle.formula.specs.Table.{Table as Operators, is-or}
 use Rattle.formula.specs.declared.Table.{Table}
-use Rattle.formula.proofs.Limits.{how-many, is-or as or-command, table-ors, parse-limited}
+use Rattle.formula.proofs.Limits.{how-many, table-ors, parse-limited}
 use Rattle.formula.proofs.RowLaws.{Held, code-at, argument-at, held-row, held-shaped, held-some, held-few}
-use Rattle.tableau.specs.Transition.{is-or, ors}
+use Rattle.tableau.specs.Transition.{ors}
 use Rattle.tableau.specs.Promise.{Row, Formed, table-of}
 
 -- the two counts of or operators
-or-same : (o : Operator) → is-or o ≡ or-command o
-or-same (Operator.leaf (Leaf.constant b)) = refl
-or-same (Operator.leaf (Leaf.signal p j)) = refl
-or-same (Operator.variable m) = refl
-or-same (Operator.pair true l r) = refl
-or-same (Operator.pair false l r) = refl
-or-same (Operator.next g) = refl
-or-same (Operator.fix g l) = refl
-
-ors-are : (t : Operators) → ors t ≡ how-many or-command t
+ors-are : (t : Operators) → ors t ≡ how-many is-or t
 ors-are [] = refl
-ors-are (o ∷ t) = rw (or-same o, ors-are t) (by (or-command o))
+ors-are (o ∷ t) = rw (ors-are t) (by (is-or o))
   where
-    by : (b : Bool) → cond b 1 0 + how-many or-command t ≡ length (cond b (o ∷ keep or-command t) (keep or-command t))
+    by : (b : Bool) → cond b 1 0 + how-many is-or t ≡ length (cond b (o ∷ keep is-or t) (keep is-or t))
     by true = omega arith
     by false = omega arith
 
@@ -57,5 +47,5 @@ module _ {bytes : List ℕ} {t : Table} (h : Held bytes t) where
     some = held-some h;
     few = held-few h;
     row = row;
-    few-ors = omega (arith, ors-are (table-of (t .rows) (t .count)), ap (how-many or-command) (h .operators), table-ors (h .formula), parse-limited bytes (h .formula) (h .parsed) .ors);
+    few-ors = omega (arith, ors-are (table-of (t .rows) (t .count)), ap (how-many is-or) (h .operators), table-ors (h .formula), parse-limited bytes (h .formula) (h .parsed) .ors);
   }

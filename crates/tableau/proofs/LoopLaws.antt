@@ -23,10 +23,10 @@ use Rattle.base.proofs.AppendLaws.{any-append, gather-append}
 use Rattle.base.proofs.NumberLaws.{values-length, values-add}
 use Rattle.base.proofs.ShiftLaws.{low-below, low-bit}
 use Rattle.base.proofs.WordLaws.{no-bit, word-bit, word-past}
-use Rattle.formula.specs.Table.{Operator, Table}
+use Rattle.formula.specs.Table.{Operator, Table, is-or}
 use Rattle.formula.specs.Rows.{operator-at}
 use Rattle.tableau.specs.Saturation.{Subset, has}
-use Rattle.tableau.specs.Transition.{operators-in, requires, is-false, next-of, is-or, ors, choice-of}
+use Rattle.tableau.specs.Transition.{operators-in, requires, is-false, next-of, ors, choice-of}
 use Rattle.tableau.specs.Promise.{table-of, Formed, with-bits, Requires-more, Required, Required-by}
 use Rattle.tableau.specs.declared.Requirement.{Requirement}
 use Rattle.tableau.proofs.ChoiceLaws.{choice-of-length}

@@ -10,11 +10,11 @@ use lib.Bits.{bitOr}
 use lib.Dec.{eqb}
 use lib.ListN.{getD}
 use borrow.Author.Tests.{eq-eqb, ne-eqb}
-use Rattle.formula.specs.Table.{Operator}
+use Rattle.formula.specs.Table.{Operator, is-or}
 use Rattle.formula.specs.Reading.{opcode}
 use Rattle.formula.specs.Rows.{operator-of, operator-at}
 use Rattle.tableau.specs.Saturation.{moves}
-use Rattle.tableau.specs.Transition.{requires, is-false, next-of, is-or}
+use Rattle.tableau.specs.Transition.{requires, is-false, next-of}
 use Rattle.tableau.specs.Promise.{Row, Placed, Formed, with-bits, Requires-more}
 use Rattle.tableau.specs.declared.Requirement.{Requirement}
 use Rattle.tableau.proofs.WordSets.{Below, below-none, below-cons, below-one}

@@ -17,9 +17,9 @@ use Rattle.base.proofs.BoolLaws.{by-test, of-T, to-T}
 use Rattle.base.proofs.TestLaws.{not-of-T}
 use Rattle.base.proofs.WordLaws.{bit-zero, bit-suc, word-bit}
 use Rattle.base.proofs.Inside.{below-of, below-least, inside-length}
-use Rattle.formula.specs.Table.{Operator, Table, operator}
+use Rattle.formula.specs.Table.{Operator, Table, operator, is-or}
 use Rattle.tableau.specs.Saturation.{Subset, has, moves, saturate}
-use Rattle.tableau.specs.Transition.{is-or, ors, choice-of}
+use Rattle.tableau.specs.Transition.{ors, choice-of}
 use Rattle.tableau.specs.Promise.{table-of, Formed, with-bits, Between, Widest}
 use Rattle.tableau.proofs.SaturationLaws.{inside-has, has-lt, saturate-least}
 use Rattle.tableau.proofs.WordSets.{Below, with-bits-append}

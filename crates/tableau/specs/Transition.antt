@@ -6,7 +6,7 @@ use lib.Dec.{eqb}
 use Rattle.base.specs.Lists.{gather, any, member, numbers, same-bit}
 use Rattle.base.specs.Bits.{word}
 use Rattle.formula.specs.Formula.{Leaf}
-use Rattle.formula.specs.Table.{Operator, Table}
+use Rattle.formula.specs.Table.{Operator, Table, is-or}
 use Rattle.tableau.specs.Saturation.{Subset, nothing, add, saturate}
 
 -- the operators of the subformulas in a set
@@ -52,13 +52,7 @@ next-of (Operator.pair o l r) = []
 next-of (Operator.next g) = g ∷ []
 next-of (Operator.fix g l) = []
 
-abbrev pub is-or : Operator → Bool
-is-or (Operator.leaf l) = false
-is-or (Operator.variable m) = false
-is-or (Operator.pair o l r) = o
-is-or (Operator.next g) = false
-is-or (Operator.fix g l) = false
-
+-- how many or operators there are
 abbrev pub ors : Table → ℕ
 ors [] = 0
 ors (o ∷ t) = cond (is-or o) 1 0 + ors t
