@@ -5,12 +5,13 @@
 use mathlib.Core.Path.{_≡_, refl, ap, _∙_}
 use mathlib.Core.Bool.{Bool, true, false}
 use mathlib.Core.List.{List, [], _∷_, _++_, map}
-use Prim.Native.Nat.{ℕ, zero, suc, _+_, _≤_, _<_}
+use Prim.Native.Nat.{ℕ, zero, suc, _+_, _-_, _≤_, _<_}
 use native.Mathlib.Nat.{add-zero}
 use native.Mathlib.Decide.{decLt}
 use native.Mathlib.Omega.{arith}
 use lib.ListN.{length, getD, length-append, length-map, List·getD-append}
 use lib.Seq.{getD-append-add}
+use Rattle.base.proofs.ListLaws as base
 use Rattle.formula.specs.Formula.{Leaf, Formula, size}
 use Rattle.formula.specs.Table.{Operator, Table, table-from, table, ends-from}
 use Rattle.formula.specs.Reading.{Scope, Reading, parse}
@@ -44,6 +45,18 @@ length-ends e (Formula.variable d) = refl
 length-ends e (Formula.pair o a b) = simp length-append (omega (arith, length-ends (e + 1) a, length-ends (e + 1 + size a) b))
 length-ends e (Formula.next a) = omega (arith, length-ends (e + 1) a)
 length-ends e (Formula.fix g a) = omega (arith, length-ends (e + 1) a)
+
+-- no subformula ends behind the one that it stands in
+ends-inside : (hi e : ℕ) (f : Formula) → e + size f ≤ hi → base.Each (λ _ x. x ≤ hi) e (ends-from e f)
+ends-inside hi e (Formula.leaf l) h = (omega arith, tt)
+ends-inside hi e (Formula.variable d) h = (omega arith, tt)
+ends-inside hi e (Formula.pair o a b) h = (
+  omega arith,
+  base.each-append (λ _ x. x ≤ hi) (e + 1) (e + 1 + size a) (ends-from (e + 1) a) (ends-from (e + 1 + size a) b)
+      (ap (e + 1 +_) (length-ends (e + 1) a)) (ends-inside hi (e + 1) a (omega arith)) (ends-inside hi (e + 1 + size a) b (omega arith)),
+)
+ends-inside hi e (Formula.next a) h = (omega arith, ends-inside hi (e + 1) a (omega arith))
+ends-inside hi e (Formula.fix g a) h = (omega arith, ends-inside hi (e + 1) a (omega arith))
 
 -- what a table, and a list of ends, have at a number
 abbrev pub operator-in : Table → ℕ → Operator
@@ -188,6 +201,15 @@ module _ (operator : ℕ → Operator) (end : ℕ → ℕ) (count : ℕ) where
   -- every number from e up to the end of what stands there
   pub located : {e : ℕ} {scope : Scope} {binders : List ℕ} {f : Formula} → Stands e scope binders f → (x : ℕ) → e ≤ x → x < end e → Located x
   located {e} {f = f} h = each-to (end e) (stands-end h) (each f h)
+
+  pub stands-nested : {e : ℕ} {scope : Scope} {binders : List ℕ} {f : Formula} → Stands e scope binders f → (x : ℕ) → e ≤ x → x < end e
+      → end x ≤ end e
+  stands-nested {e} {f = f} h x i j =
+      let last : end e ≡ e + size f = stands-end h in
+      let k : x - e < length (ends-from e f) = omega (arith, length-ends e f) in
+      let at : end (e + (x - e)) ≡ getD (ends-from e f) (x - e) 0 = h .bounds .at (x - e) k in
+      let small = base.each-at (λ _ y. y ≤ e + size f) e (ends-from e f) 0 (ends-inside (e + size f) e f (omega arith)) (x - e) k in
+      omega (arith, ap end {x = x} {y = e + (x - e)} (omega arith))
 
   -- the only operand
   pub record Single (e operand : ℕ) : Type 0 where

@@ -1,7 +1,8 @@
--- A subformula without variables of the fixpoints around it has the same sets whatever theirs are; so it need not be labelled again.
--- Assumes nothing.
+-- A subformula without variables of the fixpoints around it has the same sets whatever theirs are; so it is labelled once, and then left as it
+-- is. Assumes nothing.
 use mathlib.Core.Path.{_≡_, refl, sym, ap, _∙_}
-use mathlib.Core.Bool.{Bool, true, false}
+use mathlib.Core.Logic.{_⊎_, inl, inr}
+use mathlib.Core.Bool.{true, false}
 use mathlib.Core.List.{List, [], _∷_, _++_, map}
 use Prim.Native.Nat.{ℕ, zero, suc, _+_, _-_, _≤_, _<_}
 use native.Mathlib.Omega.{arith}
@@ -10,16 +11,18 @@ use lib.ListN.{length, getD, length-append, List·getD-append}
 use lib.Seq.{getD-append-add}
 use borrow.Author.Tests.{ltb-false}
 use Rattle.base.specs.Lists.{repeat}
+use Rattle.base.proofs.NumberLaws.{values-same}
 use Rattle.formula.specs.Formula.{Formula, size}
 use Rattle.formula.specs.Rows.{operator-at, end-at}
 use Rattle.lasso.specs.Lasso.{Lasso, Positions, combine, before, holds, sets}
 use Rattle.formula.specs.Reading.{Scope}
 use Rattle.formula.proofs.Closed.{Closed}
+use Rattle.formula.proofs.Limits.{size-some}
 use Rattle.formula.proofs.WellFormed.{sits-first, stands-left, stands-right, stands-next, stands-body}
-use Rattle.lasso.specs.Promise.{Written, outside-of, Finished, column, Labelled, Before, Evaluated}
+use Rattle.lasso.specs.Promise.{Written, Held, outside-of, Alone, Shut, column, columns, Kept, Known, Evaluated, Closing}
 use Rattle.lasso.proofs.Fixpoint.{body}
 use Rattle.lasso.proofs.CodeWritten.{written-end}
-use Rattle.lasso.proofs.CodeColumns.{kept-refl}
+use Rattle.lasso.proofs.CodeColumns.{kept-refl, columns-below, columns-above}
 
 -- no variable names a fixpoint of bs, all of which are before e₀: the fixpoints xs inside close the formula
 module _ (rows bs : List ℕ) (e₀ : ℕ) (outer : (d : ℕ) → d < length bs → getD bs d 0 < e₀) where
@@ -81,14 +84,107 @@ module _ (c : Lasso) (ρ σ : List Positions) where
       let q = same-holds (Formula.fix g a) xs h in
       cons q (same-sets a (holds c (Formula.fix g a) (xs ++ ρ) ∷ xs) h ∙ ap (λ (s : Positions). sets c a (s ∷ (xs ++ σ))) q)
 
--- what was labelled before and has no such variable is labelled
-pub finished-evaluated : (rows : List ℕ) (c : Lasso) (again : Bool) (e : ℕ) (w : List ℕ) → Finished rows e again
-    → Evaluated rows c again e w w
-finished-evaluated rows c again e w fin = record { done = stays }
+-- the same of a subformula that the rows have: all sets of the fixpoints around it give the same sets
+pub alone-sets : (rows : List ℕ) (c : Lasso) (e : ℕ) → Alone rows e → (f : Formula) (s : Scope) (bs : List ℕ) → Written rows e s bs f
+    → (ρ σ : List Positions) → sets c f ρ ≡ sets c f σ
+alone-sets rows c e alone f s bs h ρ σ =
+    same-sets c ρ σ f []
+    (closes rows bs e (λ d l. h .enclosed d l .before) f e s [] h (λ k l m. alone k l (omega (arith, written-end rows h))))
+
+-- closed subformulas stay labelled where the columns of what stands in them are kept
+pub known-same : (rows : List ℕ) (c : Lasso) (e hi : ℕ) (w v : List ℕ)
+    → ((k : ℕ) → Shut rows e k → column (length (c .letters)) v k ≡ column (length (c .letters)) w k)
+    → Known rows c (e + 1) hi w → Known rows c (e + 1) hi v
+known-same rows c e hi w v same known = record {
+  shown = λ k l m alone f s bs h.
+      let last : end-at rows k ≡ k + size f = written-end rows h in
+      values-same (column (length (c .letters)) v) (column (length (c .letters)) w) k (size f)
+      (λ j p q. same j (record { number = k; behind = omega arith; before = p; around = omega arith; alone = alone }))
+      ∙ known .shown k l m alone f s bs h;
+}
+
+-- and where all columns from their first on, up to where they end, are
+pub known-kept : (rows : List ℕ) (c : Lasso) (lo hi from to : ℕ) (w v : List ℕ) → Kept (length (c .letters)) from to w v
+    → ((k : ℕ) → lo ≤ k → k < hi → (to ≤ k) ⊎ (end-at rows k ≤ from)) → Known rows c lo hi w → Known rows c lo hi v
+known-kept rows c lo hi from to w v kept where-it-is known = record {
+  shown = λ k l m alone f s bs h.
+      let last : end-at rows k ≡ k + size f = written-end rows h in
+      elim (where-it-is k l m) [
+        | inl q ↦ columns-above (length (c .letters)) kept k (size f) q
+        | inr q ↦ columns-below (length (c .letters)) kept k (size f) (omega arith)
+      ]
+      ∙ known .shown k l m alone f s bs h;
+}
+
+-- those of a part of the numbers, and of two parts
+pub known-part : {rows : List ℕ} {c : Lasso} {lo hi : ℕ} {w : List ℕ} (from to : ℕ) → lo ≤ from → to ≤ hi → Known rows c lo hi w
+    → Known rows c from to w
+known-part from to p q known = record { shown = λ k l m. known .shown k (omega arith) (omega arith) }
+
+pub known-join : {rows : List ℕ} {c : Lasso} {lo hi : ℕ} {w : List ℕ} (mid : ℕ) → Known rows c lo mid w → Known rows c mid hi w
+    → Known rows c lo hi w
+known-join {rows} {c} {lo} {hi} {w} mid a b = record { shown = λ k l m. by k l m (decLt k mid) }
   where
-    stays : (f : Formula) (s : Scope) (bs : List ℕ) → Written rows e s bs f → (again ≡ true → Before c f e w) → Labelled c f e bs w w
-    stays f s bs h g =
-        let n = length (c .letters) in
-        let b = g (fin .once) in
-        let closed : Closed 0 f = closes rows bs e (λ d l. h .enclosed d l .before) f e s [] h (λ k l m. fin .alone k l (omega (arith, written-end rows h))) in
-        record { shown = b .shown ∙ same-sets c (b .around) (map (column n w) bs) f [] closed; kept = kept-refl n e (e + size f) w }
+    by : (k : ℕ) → lo ≤ k → k < hi → Dec (k < mid) → Alone rows k → (f : Formula) (s : Scope) (bs : List ℕ) → Written rows k s bs f
+        → columns (length (c .letters)) w k (size f) ≡ sets c f []
+    by k l m (yes q) = a .shown k l q
+    by k l m (no q) = b .shown k (omega arith) m
+
+-- one number more in front, of a subformula that is labelled if it is closed
+pub known-first : {rows : List ℕ} {c : Lasso} {e hi : ℕ} {w : List ℕ}
+    → (Alone rows e → (f : Formula) (s : Scope) (bs : List ℕ) → Written rows e s bs f → columns (length (c .letters)) w e (size f) ≡ sets c f [])
+    → Known rows c (e + 1) hi w → Known rows c e hi w
+known-first {rows} {c} {e} {hi} {w} own rest = record { shown = λ k l m. by k l m (decLt e k) }
+  where
+    by : (k : ℕ) → e ≤ k → k < hi → Dec (e < k) → Alone rows k → (f : Formula) (s : Scope) (bs : List ℕ) → Written rows k s bs f
+        → columns (length (c .letters)) w k (size f) ≡ sets c f []
+    by k l m (yes q) = rest .shown k (omega arith) m
+    by k l m (no q) = let same : k ≡ e = omega arith in rw same own
+
+module _ (rows : List ℕ) (c : Lasso) (e : ℕ) (w : List ℕ) where
+  abbrev n : ℕ
+  n = length (c .letters)
+
+  -- a closed subformula that is labelled is left as it is
+  pub alone-evaluated : Alone rows e → Evaluated rows c e e w w
+  alone-evaluated alone = record {
+    kept = kept-refl n e (end-at rows e) w;
+    known = λ k. k;
+    done = λ known f s bs h.
+        record {
+          shown = known .shown e (omega arith) (omega (arith, written-end rows h, size-some f)) alone f s bs h
+              ∙ alone-sets rows c e alone f s bs h [] (map (column n w) bs);
+          kept = kept-refl n e (e + size f) w;
+        };
+  }
+
+  module _ (v : List ℕ) (ev : Evaluated rows c (e + 1) e w v) where
+    -- any other is labelled where only those inside it are
+    pub open-evaluated : (Alone rows e → ⊥) → Evaluated rows c e e w v
+    open-evaluated apart = record {
+      kept = ev .kept;
+      known = λ known. known-first (λ alone. absurd (apart alone)) (ev .known (known-part (e + 1) (end-at rows e) (omega arith) (omega arith) known));
+      done = λ known. ev .done (known-part (e + 1) (end-at rows e) (omega arith) (omega arith) known);
+    }
+
+    -- a closed one is then labelled too, and those behind it still are
+    pub closing-done : Held rows e → Alone rows e → Closing rows c e w v
+    closing-done held alone = record {
+      kept = ev .kept;
+      known = λ hi far known.
+          let part = known-part (e + 1) (end-at rows e) (omega arith) far known in
+          let behind = known-part (end-at rows e) hi (omega (arith, written-end rows (held .written), size-some (held .subformula))) (omega arith) known in
+          let inside : Known rows c (e + 1) (end-at rows e) v = ev .known part in
+          let after : Known rows c (end-at rows e) hi v =
+          known-kept rows c (end-at rows e) hi e (end-at rows e) w v (ev .kept) (λ k l m. inl l) behind in
+          known-first
+          (λ a f s bs h. ev .done part f s bs h .shown ∙ alone-sets rows c e alone f s bs h (map (column n w) bs) [])
+          (known-join (end-at rows e) inside after);
+    }
+
+  -- one that is not closed is left for later
+  pub closing-none : (Alone rows e → ⊥) → Closing rows c e w w
+  closing-none apart = record {
+    kept = kept-refl n e (end-at rows e) w;
+    known = λ hi far known. known-first (λ alone. absurd (apart alone)) known;
+  }

@@ -1,19 +1,28 @@
--- Laws of columns, and of what a sweep does to them: it makes one column anew and keeps all others. Assumes nothing.
+-- Laws of columns, and of what a sweep does to them: it makes one column anew and keeps all others; and that a successor is a position.
+-- Assumes nothing.
 use mathlib.Core.Path.{_≡_, refl, sym, ap, _∙_}
-use mathlib.Core.Bool.{Bool, false, cond}
+use mathlib.Core.Bool.{Bool, true, false, cond}
 use mathlib.Core.List.{List, [], _∷_, map}
 use Prim.Native.Nat.{ℕ, suc, _+_, _≤_, _<_}
 use native.Mathlib.Omega.{arith}
+use lib.Dec.{eqb}
 use lib.ListN.{length, getD, take, drop, length-map, length-drop}
 use lib.Seq.{ext-getD, length-take-le, getD-take, getD-drop}
-use borrow.Author.Tests.{eq-eqb}
+use borrow.Author.Tests.{eq-eqb, eqb-false}
 use Rattle.base.specs.Bits.{bit}
 use Rattle.base.proofs.ListLaws.{getD-map}
 use Rattle.base.proofs.NumberLaws.{values-same}
 use Rattle.lasso.specs.Lasso.{Positions}
-use Rattle.lasso.specs.Promise.{Swept, column, columns, Kept}
+use Rattle.lasso.specs.Promise.{after, Swept, column, columns, Kept}
 use Rattle.lasso.proofs.Monotone.{Sized}
 use Rattle.lasso.proofs.CodeSweep.{other-bit}
+
+pub after-below : (n stem i : ℕ) → i < n → stem < n → after n stem i < n
+after-below n stem i l h = by (eqb (i + 1) n) refl
+  where
+    by : (t : Bool) → eqb (i + 1) n ≡ t → cond t stem (i + 1) < n
+    by true q = h
+    by false q = let apart : (i + 1 ≡ n) → ⊥ = eqb-false (i + 1) n q in omega arith
 
 module _ (n : ℕ) where
   module _ (e : ℕ) (w : List ℕ) (h : n ≤ length w) where

@@ -1,69 +1,32 @@
 -- From what the code does at a subformula to the sets of it and of all inside it. Assumes nothing.
 use mathlib.Core.Path.{_≡_, refl, sym, ap, subst, _∙_}
-use mathlib.Core.Bool.{Bool, true, false, cond}
+use mathlib.Core.Logic.{inl, inr}
+use mathlib.Core.Bool.{Bool, true, false}
 use mathlib.Core.List.{List, [], _∷_, _++_, map}
 use Prim.Native.Nat.{ℕ, _+_, _≤_, _<_}
 use native.Mathlib.Omega.{arith}
-use lib.Dec.{eqb}
 use lib.ListN.{length, getD, length-map}
-use borrow.Author.Tests.{eqb-false}
 use Rattle.base.specs.Bits.{bit}
 use Rattle.base.proofs.ListLaws.{getD-map}
-use Rattle.base.proofs.NumberLaws.{values-at, values-first, values-split, values-cons, values-join}
+use Rattle.base.proofs.NumberLaws.{values-at, values-cons, values-join}
 use Rattle.formula.specs.Formula.{Leaf as Atom, Formula, size}
 use Rattle.formula.specs.Table.{Operator}
-use Rattle.formula.specs.Reading.{Scope}
 use Rattle.formula.specs.Rows.{operator-at, end-at}
 use Rattle.formula.proofs.Limits.{size-some}
 use Rattle.formula.proofs.WellFormed.{sits-first, stands-left, stands-right, stands-next}
 use Rattle.lasso.specs.Lasso.{Lasso, Positions, leaf-at, joined, before, holds, inner, sets}
-use Rattle.lasso.specs.Promise.{after, local-at, Swept, kind-of, Written, Room, column, columns, Kept, Labelled, Before, Evaluated}
+use Rattle.lasso.specs.Promise.{after, local-at, Swept, kind-of, Written, Held, Room, column, columns, Kept, Labelled, Known, Evaluated}
 use Rattle.lasso.specs.declared.Kind.the-variants.{Leaf, Pair, Next}
 use Rattle.lasso.proofs.Monotone.{length-combine, length-before}
-use Rattle.lasso.proofs.Consistent.{length-sets, getD-combine, getD-before}
-use Rattle.lasso.proofs.CodeWritten.{by-kind, pair-argument}
-use Rattle.lasso.proofs.CodeColumns.{column-length, column-at, kept-refl, kept-wide, kept-then, outer-kept, columns-below, columns-above, swept-kept, swept-is}
-
-pub after-below : (n stem i : ℕ) → i < n → stem < n → after n stem i < n
-after-below n stem i l h = by (eqb (i + 1) n) refl
-  where
-    by : (t : Bool) → eqb (i + 1) n ≡ t → cond t stem (i + 1) < n
-    by true q = h
-    by false q = let apart : (i + 1 ≡ n) → ⊥ = eqb-false (i + 1) n q in omega arith
+use Rattle.lasso.proofs.Consistent.{getD-combine, getD-before}
+use Rattle.lasso.proofs.CodeWritten.{by-kind, pair-argument, written-end, next-operand, Split, pair-split}
+use Rattle.lasso.proofs.CodeClosed.{known-kept, known-part, known-join}
+use Rattle.lasso.proofs.CodeOpen.{held-inside, nested}
+use Rattle.lasso.proofs.CodeColumns.{after-below, column-length, column-at, kept-refl, kept-wide, kept-then, outer-kept, columns-below, columns-above, swept-kept, swept-is}
 
 module _ (c : Lasso) where
   abbrev n : ℕ
   n = length (c .letters)
-
-  -- what was labelled before, of the operands, and of the same columns in other words
-  pub before-kept : (f : Formula) (e : ℕ) (w v : List ℕ) → columns n v e (size f) ≡ columns n w e (size f) → Before c f e w → Before c f e v
-  before-kept f e w v q b = record { around = b .around; shown = q ∙ b .shown }
-
-  -- columns that are a formula's sets are its operands' sets where these stand
-  pub shown-next : (a : Formula) (e : ℕ) (w : List ℕ) (ρ : List Positions) → columns n w e (size (Formula.next a)) ≡ sets c (Formula.next a) ρ
-      → columns n w (e + 1) (size a) ≡ sets c a ρ
-  shown-next a e w ρ q = values-first (column n w) e (size a) (holds c (Formula.next a) ρ) (sets c a ρ) q .1
-
-  pub shown-pair : (o : Bool) (a b : Formula) (e : ℕ) (w : List ℕ) (ρ : List Positions)
-      → columns n w e (size (Formula.pair o a b)) ≡ sets c (Formula.pair o a b) ρ
-      → (columns n w (e + 1) (size a) ≡ sets c a ρ) × (columns n w (e + 1 + size a) (size b) ≡ sets c b ρ)
-  shown-pair o a b e w ρ q =
-      values-split (column n w) (e + 1) (size a) (size b) (sets c a ρ) (sets c b ρ) (length-sets c a ρ)
-      (values-first (column n w) e (size a + size b) (holds c (Formula.pair o a b) ρ) (sets c a ρ ++ sets c b ρ) q .1)
-
-  before-next : (a : Formula) (e : ℕ) (w : List ℕ) → Before c (Formula.next a) e w → Before c a (e + 1) w
-  before-next a e w b = record { around = b .around; shown = shown-next a e w (b .around) (b .shown) }
-
-  pub before-fix : (g : Bool) (a : Formula) (e : ℕ) (w : List ℕ) → Before c (Formula.fix g a) e w → Before c a (e + 1) w
-  before-fix g a e w b =
-      let s = holds c (Formula.fix g a) (b .around) in
-      record { around = s ∷ b .around; shown = values-first (column n w) e (size a) s (sets c a (s ∷ b .around)) (b .shown) .1 }
-
-  before-pair : (o : Bool) (a b : Formula) (e : ℕ) (w : List ℕ) → Before c (Formula.pair o a b) e w
-      → Before c a (e + 1) w × Before c b (e + 1 + size a) w
-  before-pair o a b e w h =
-      let q = shown-pair o a b e w (h .around) (h .shown) in
-      (record { around = h .around; shown = q .0 }, record { around = h .around; shown = q .1 })
 
   -- the first of the columns is the formula's own
   pub first-shown : (f : Formula) (e : ℕ) (w : List ℕ) (ρ : List Positions) → columns n w e (size f) ≡ sets c f ρ → column n w e ≡ holds c f ρ
@@ -142,50 +105,106 @@ module _ (c : Lasso) where
         ∙ sym (getD-combine o (holds c a ρ) (holds c b ρ) both i))
 
 -- whatever formula the rows have at e, by the kind of its operator
-module _ (rows : List ℕ) (c : Lasso) (again : Bool) (e : ℕ) (w v : List ℕ) (room : Room (length (c .letters)) (c .stem) (length w)) where
-  abbrev Sweep : Operator → List ℕ → Type 0
-  Sweep op y = Swept (length (c .letters)) e (local-at c op y) y v
+module _ (rows : List ℕ) (c : Lasso) (e : ℕ) (w : List ℕ) (room : Room (length (c .letters)) (c .stem) (length w)) (held : Held rows e) where
+  abbrev m : ℕ
+  m = length (c .letters)
 
-  abbrev Goal : List ℕ → Formula → Type 0
-  Goal bs f = (again ≡ true → Before c f e w) → Labelled c f e bs w v
+  last : e < end-at rows e
+  last = omega (arith, written-end rows (held .written), size-some (held .subformula))
 
-  by-done : ((s : Scope) (bs : List ℕ) (f : Formula) → Written rows e s bs f → Goal bs f) → Evaluated rows c again e w v
-  by-done d = record { done = λ f s bs. d s bs f }
+  -- closed subformulas inside e stay labelled where an operand k of it is labelled
+  pub operand-known : (k : ℕ) (x y : List ℕ) → e < k → k < end-at rows e → ((j : ℕ) → e + 1 ≤ j → j < k → end-at rows j ≤ k)
+      → Evaluated rows c k k x y → Known rows c (e + 1) (end-at rows e) x → Known rows c (e + 1) (end-at rows e) y
+  operand-known k x y behind inside earlier ev known =
+      let far : end-at rows k ≤ end-at rows e = nested rows e held k (omega arith) inside in
+      let some : k < end-at rows k =
+      let o = held-inside rows e held k (omega arith) inside in
+      omega (arith, written-end rows (o .written), size-some (o .subformula)) in
+      known-join k
+      (known-kept rows c (e + 1) k k (end-at rows k) x y (ev .kept) (λ j l h. inr (earlier j l h)) (known-part (e + 1) k (omega arith) (omega arith) known))
+      (known-join (end-at rows k) (ev .known (known-part k (end-at rows k) (omega arith) far known))
+      (known-kept rows c (end-at rows k) (end-at rows e) k (end-at rows k) x y (ev .kept) (λ j l h. inl l)
+      (known-part (end-at rows k) (end-at rows e) (omega arith) (omega arith) known)))
 
-  -- a sweep by the operator that the formula says
-  by-operator : (op : Operator) (y : List ℕ) → operator-at rows e ≡ op → Sweep (operator-at rows e) y → Sweep op y
-  by-operator op y q t = subst (λ (o : Operator). Sweep o y) q t
+  -- and where e's own column is
+  pub own-known : (f : ℕ → Bool) (x y : List ℕ) → m ≤ length x → Swept m e f x y → Known rows c (e + 1) (end-at rows e) x
+      → Known rows c (e + 1) (end-at rows e) y
+  own-known f x y long t known =
+      known-kept rows c (e + 1) (end-at rows e) e (e + 1) x y (swept-kept m e f x y t long) (λ j l h. inl l) known
 
-  pub leaf-evaluated : kind-of (operator-at rows e) ≡ Leaf → Sweep (operator-at rows e) w → Evaluated rows c again e w v
-  leaf-evaluated q t = by-done
-      λ s bs. by-kind rows e s bs Leaf q (Goal bs) (
-        (λ l h g. leaf-labelled c e bs w (room .words) l v (by-operator (Operator.leaf l) w (sits-first (h .operators)) t)),
-        (λ d h g.
+  module _ (v : List ℕ) where
+    abbrev Sweep : Operator → List ℕ → Type 0
+    Sweep op y = Swept m e (local-at c op y) y v
+
+    -- a sweep by the operator that the formula says
+    by-operator : (op : Operator) (y : List ℕ) → operator-at rows e ≡ op → Sweep (operator-at rows e) y → Sweep op y
+    by-operator op y q t = subst (λ (o : Operator). Sweep o y) q t
+
+    -- all but what is inside e is kept, where that holds of the operands
+    sweep-kept : (y : List ℕ) → Kept m (e + 1) (end-at rows e) w y → Sweep (operator-at rows e) y → Kept m e (end-at rows e) w v
+    sweep-kept y k t =
+        kept-then m k (swept-kept m e (local-at c (operator-at rows e) y) y v t (omega (arith, room .words, k .long)))
+        (omega arith) (omega arith) (omega arith) (omega (arith, last))
+
+    pub leaf-evaluated : kind-of (operator-at rows e) ≡ Leaf → Sweep (operator-at rows e) w → Evaluated rows c (e + 1) e w v
+    leaf-evaluated q t = record {
+      kept = sweep-kept w (kept-refl m (e + 1) (end-at rows e) w) t;
+      known = own-known (local-at c (operator-at rows e) w) w v (room .words) t;
+      done = λ known f s bs. by-kind rows e s bs Leaf q (λ f. Labelled c f e bs w v) (
+        (λ l h. leaf-labelled c e bs w (room .words) l v (by-operator (Operator.leaf l) w (sits-first (h .operators)) t)),
+        (λ d h.
             variable-labelled c e bs w (room .words) d v (omega (arith, h .guarded .0, h .scoped))
             (by-operator (Operator.variable (getD bs d 0)) w (sits-first (h .operators)) t)),
-      )
+      ) f;
+    }
 
-  pub next-evaluated : (y : List ℕ) → kind-of (operator-at rows e) ≡ Next → Evaluated rows c again (e + 1) w y → Sweep (operator-at rows e) y
-      → Evaluated rows c again e w v
-  next-evaluated y q ev t = by-done
-      λ s bs. by-kind rows e s bs Next q (Goal bs)
-      (λ a h g.
-      let d : Labelled c a (e + 1) bs w y =
-      ev .done a (map (λ _. true) s) bs (stands-next (operator-at rows) (end-at rows) 48 h) (λ z. before-next c a e w (g z)) in
-      next-labelled c e bs w (room .words) a y v (room .cycle) d (by-operator (Operator.next (e + 1)) y (sits-first (h .operators)) t))
+    pub next-evaluated : (y : List ℕ) → kind-of (operator-at rows e) ≡ Next → Evaluated rows c (e + 1) (e + 1) w y → Sweep (operator-at rows e) y
+        → Evaluated rows c (e + 1) e w v
+    next-evaluated y q ev t =
+        let inside : e + 1 < end-at rows e = next-operand rows e held q .inside in
+        let far : end-at rows (e + 1) ≤ end-at rows e = nested rows e held (e + 1) (omega arith) inside in
+        let kept : Kept m (e + 1) (end-at rows e) w y = kept-wide m (ev .kept) (omega arith) far in
+        record {
+          kept = sweep-kept y kept t;
+          known = λ known.
+              own-known (local-at c (operator-at rows e) y) y v (omega (arith, room .words, kept .long)) t
+              (operand-known (e + 1) w y (omega arith) inside (λ j l h. absurd (omega arith)) ev known);
+          done = λ known f s bs. by-kind rows e s bs Next q (λ f. Labelled c f e bs w v)
+              (λ a h.
+              let d : Labelled c a (e + 1) bs w y =
+              ev .done (known-part (e + 1) (end-at rows (e + 1)) (omega arith) far known) a (map (λ _. true) s) bs
+              (stands-next (operator-at rows) (end-at rows) 48 h) in
+              next-labelled c e bs w (room .words) a y v (room .cycle) d (by-operator (Operator.next (e + 1)) y (sits-first (h .operators)) t)) f;
+        }
 
-  pub pair-evaluated : (x y : List ℕ) (k : ℕ) → k ≡ getD rows (48 + e) 0 → kind-of (operator-at rows e) ≡ Pair → Evaluated rows c again (e + 1) w x
-      → Evaluated rows c again k x y → Sweep (operator-at rows e) y → Evaluated rows c again e w v
-  pair-evaluated x y k at q ea eb t = by-done
-      λ s bs. by-kind rows e s bs Pair q (Goal bs)
-      (λ o a b h g.
-      let r = e + 1 + size a in
-      let ev : Evaluated rows c again r x y = subst (λ (j : ℕ). Evaluated rows c again j x y) (at ∙ pair-argument rows e o a b h) eb in
-      let da : Labelled c a (e + 1) bs w x =
-      ea .done a s bs (stands-left (operator-at rows) (end-at rows) 48 h) (λ z. before-pair c o a b e w (g z) .0) in
-      let same : columns (length (c .letters)) x r (size b) ≡ columns (length (c .letters)) w r (size b) =
-      columns-above (length (c .letters)) (da .kept) r (size b) (omega arith) in
-      let db : Labelled c b r bs x y =
-      ev .done b s bs (stands-right (operator-at rows) (end-at rows) 48 h) (λ z. before-kept c b r w x same (before-pair c o a b e w (g z) .1)) in
-      pair-labelled c e bs w (room .words) o a b x y v (λ d l. h .enclosed d l .before) da db
-      (by-operator (Operator.pair o (e + 1) r) y (sits-first (h .operators)) t))
+    pub pair-evaluated : (x y : List ℕ) (k : ℕ) → k ≡ getD rows (48 + e) 0 → kind-of (operator-at rows e) ≡ Pair → Evaluated rows c (e + 1) (e + 1) w x
+        → Evaluated rows c k k x y → Sweep (operator-at rows e) y → Evaluated rows c (e + 1) e w v
+    pair-evaluated x y k at q ea eb t =
+        let p : Split rows e k = pair-split rows e held q k at in
+        let near : end-at rows (e + 1) ≤ end-at rows e = nested rows e held (e + 1) (omega arith) (omega (arith, p .inside, p .behind)) in
+        let far : end-at rows k ≤ end-at rows e = nested rows e held k (omega (arith, p .behind)) (p .inside) in
+        let kx : Kept m (e + 1) (end-at rows e) w x = kept-wide m (ea .kept) (omega arith) near in
+        let kept : Kept m (e + 1) (end-at rows e) w y =
+        kept-then m kx (eb .kept) (omega arith) (omega (arith, p .behind)) (omega arith) far in
+        let first : Held rows (e + 1) = held-inside rows e held (e + 1) (omega arith) (omega (arith, p .inside, p .behind)) in
+        let earlier : (j : ℕ) → e + 1 ≤ j → j < k → end-at rows j ≤ k =
+        λ j l h. omega (arith, nested rows (e + 1) first j l (omega (arith, p .begins)), p .begins) in
+        let once : Known rows c (e + 1) (end-at rows e) w → Known rows c (e + 1) (end-at rows e) x =
+        operand-known (e + 1) w x (omega arith) (omega (arith, p .inside, p .behind)) (λ j l h. absurd (omega arith)) ea in
+        record {
+          kept = sweep-kept y kept t;
+          known = λ known.
+              own-known (local-at c (operator-at rows e) y) y v (omega (arith, room .words, kept .long)) t
+              (operand-known k x y (omega (arith, p .behind)) (p .inside) earlier eb (once known));
+          done = λ known f s bs. by-kind rows e s bs Pair q (λ f. Labelled c f e bs w v)
+              (λ o a b h.
+              let r = e + 1 + size a in
+              let is : k ≡ r = at ∙ pair-argument rows e o a b h in
+              let da : Labelled c a (e + 1) bs w x =
+              ea .done (known-part (e + 1) (end-at rows (e + 1)) (omega arith) near known) a s bs (stands-left (operator-at rows) (end-at rows) 48 h) in
+              let db : Labelled c b k bs x y =
+              eb .done (known-part k (end-at rows k) (omega (arith, p .behind)) far (once known)) b s bs
+              (rw is (stands-right (operator-at rows) (end-at rows) 48 h)) in
+              pair-labelled c e bs w (room .words) o a b x y v (λ d l. h .enclosed d l .before) da (rw is at db)
+              (by-operator (Operator.pair o (e + 1) r) y (sits-first (h .operators)) t)) f;
+        }

@@ -1,108 +1,181 @@
--- A pass sets the fixpoint's bit of one word after another, each to what it was or what is seen of the body there. So at each word the
--- fixpoint's column moves on from the start of its rounds, and past no set that bounds what is seen. Assumes nothing.
+-- A pass takes one position after another, and at each one listed bit after another, which it moves where its operator says so. At each
+-- step bits only leave the value g; and if the operators keep some sets, then no bit goes past them, since an operator is monotone and
+-- what it says of bits that are not past the sets is not past what it says of the sets. Assumes nothing.
 use mathlib.Core.Path.{_≡_, refl, sym, ap, subst, _∙_}
-use mathlib.Core.Bool.{Bool, true, false, not, cond}
-use mathlib.Core.List.{List, _∷_}
+use mathlib.Core.Bool.{Bool, true, false, not, cond, _||_}
+use mathlib.Core.List.{List, []}
 use Prim.Native.Nat.{ℕ, _+_, _≤_, _<_}
 use native.Mathlib.Omega.{arith}
+use lib.Bits.{bitOr, bitXor}
 use lib.Dec.{eqb}
 use lib.ListN.{length, getD, set, length-set}
 use lib.Seq.{getD-set-same, getD-set-other}
-use borrow.Author.Tests.{eqb-true, eqb-false, eq-eqb}
+use borrow.Author.Tests.{eqb-true, eqb-false}
 use Rattle.base.specs.Bits.{bit}
-use Rattle.base.specs.Sets.{Toward}
-use Rattle.base.proofs.BitLaws.{changed}
-use Rattle.base.proofs.Inside.{toward-refl, toward-trans}
-use Rattle.formula.specs.Rows.{operator-at, end-at}
-use Rattle.formula.proofs.WellFormed.{stands-body}
-use Rattle.lasso.specs.Lasso.{Lasso, Positions, joined}
-use Rattle.lasso.specs.Promise.{Swept, column, Kept, seen, Seen, Passed}
-use Rattle.lasso.proofs.CodeColumns.{column-length, column-at, kept-refl, kept-then, swept-kept}
-use Rattle.lasso.proofs.Moves.{Moves, moves-same, moves-of, moves-on, moves-both, toward-at, toward-of}
+use Rattle.base.proofs.BitLaws.{bit-or, bit-xor, changed}
+use Rattle.formula.specs.Table.{Operator}
+use Rattle.formula.specs.Rows.{operator-at}
+use Rattle.lasso.specs.Lasso.{Lasso, Positions, leaf-at, joined}
+use Rattle.lasso.specs.Promise.{after, said, local, Filled, Names, Moves, Turned, Under, Keeps, Passed}
+use Rattle.lasso.proofs.CodeColumns.{after-below}
+use Rattle.lasso.proofs.Moves.{moves-refl, moves-trans, moves-joined, moves-on, moves-both}
 
--- one word is set, to one with another bit e
-module _ (n e i x : ℕ) (on : Bool) (v : List ℕ) (long : n ≤ length v) (fits : i < n)
-    (set-bit : (k : ℕ) → bit x k ≡ cond (eqb k e) on (bit (getD v i 0) k)) where
-  -- bit e of each word
-  abbrev bits : ℕ → Bool
-  bits j = cond (eqb j i) on (bit (getD v j 0) e)
+-- operators are monotone
+said-moves : (g : Bool) (op : Operator) (letter hi : ℕ) (a b x y : ℕ → Bool) → Names hi op → ((k : ℕ) → k < hi → Moves g (a k) (b k))
+    → ((k : ℕ) → k < hi → Moves g (x k) (y k)) → Moves g (said op letter a x) (said op letter b y)
+said-moves g (Operator.leaf l) letter hi a b x y n h t = moves-refl g (leaf-at l letter)
+said-moves g (Operator.variable m) letter hi a b x y n h t = h m n
+said-moves g (Operator.pair o l r) letter hi a b x y n h t = moves-joined g o (a l) (b l) (a r) (b r) (h l (n .0)) (h r (n .1))
+said-moves g (Operator.next l) letter hi a b x y n h t = t l n
+said-moves g (Operator.fix m l) letter hi a b x y n h t = h l n
 
-  stored : Swept n e bits v (set v i x)
-  stored = record {
-    long = length-set v i x;
-    bits = λ j l k. at j k (eqb j i) refl;
-    rest = λ j l. getD-set-other v i j x 0 (λ q. omega arith);
-  }
+-- one word is like another but for one bit
+module _ (k v x : ℕ) (new : Bool) (set-bit : (m : ℕ) → bit x m ≡ cond (eqb m k) new (bit v m)) where
+  by-bit : (P : ℕ → Bool → Type 0) → P k new → ((m : ℕ) → P m (bit v m)) → (m : ℕ) → P m (bit x m)
+  by-bit P p others m = subst (P m) (sym (set-bit m)) (by (eqb m k) refl)
     where
-      at : (j k : ℕ) (b : Bool) → eqb j i ≡ b → bit (getD (set v i x) j 0) k ≡ cond (eqb k e) (cond b on (bit (getD v j 0) e)) (bit (getD v j 0) k)
-      at j k true q =
-          let same : j ≡ i = eqb-true j i q in
-          rw same (ap (λ (y : ℕ). bit y k) (getD-set-same v i x 0 (omega arith)) ∙ set-bit k)
-      at j k false q =
-          ap (λ (y : ℕ). bit y k) (getD-set-other v i j x 0 (eqb-false j i q))
-          ∙ changed (λ (k : ℕ). bit (getD v j 0) k) (getD v j 0) e (bit (getD v j 0) e) refl (λ k r. refl) k
+      by : (b : Bool) → eqb m k ≡ b → P m (cond b new (bit v m))
+      by true q = let same : m ≡ k = eqb-true m k q in rw same p
+      by false q = others m
 
-  stored-kept : Kept n e (e + 1) v (set v i x)
-  stored-kept = swept-kept n e bits v (set v i x) stored long
+module _ (rows list : List ℕ) (letter there : ℕ) (g : Bool) (w : ℕ) where
+  pub turned-none : Turned rows list 0 letter there g w w
+  turned-none = record { kept = λ k h. refl; onward = λ k. moves-refl g (bit w k); within = λ hi here next keep past h k l. h k l }
 
-  stored-at : (j : ℕ) → j < n → bits j ≡ getD (column n (set v i x) e) j false
-  stored-at j l =
-      sym (column-at n e (set v i x) (omega (arith, length-set v i x)) j l
-      ∙ stored .bits j l e
-      ∙ ap (λ (b : Bool). cond b (bits j) (bit (getD v j 0) e)) (eq-eqb e e refl))
+  pub turned-more : (j v x k : ℕ) (on : Bool) → Turned rows list j letter there g w v → k ≡ getD list j 0
+      → on ≡ local (operator-at rows k) letter v there
+      → ((m : ℕ) → bit x m ≡ cond (eqb m k) (joined (not g) (bit v k) on) (bit v m)) → Turned rows list (j + 1) letter there g w x
+  turned-more j v x k on t at is put =
+      let new = joined (not g) (bit v k) on in
+      record {
+        kept = λ m h.
+            by-bit k v x new put (λ (i : ℕ) (b : Bool). (i ≡ m) → b ≡ bit w m) (λ q. absurd (h j (omega arith) (sym q ∙ at)))
+            (λ i q. ap (bit v) q ∙ t .kept m (λ n l. h n (omega arith))) m refl;
+        onward = by-bit k v x new put (λ m b. Moves g (bit w m) b)
+            (moves-trans g (bit w k) (bit v k) new (t .onward k) (moves-on g (bit v k) on)) (t .onward);
+        within = λ hi here next keep past h m.
+            let before = t .within hi here next (λ n l. keep n (omega arith)) past h in
+            let own = subst (λ (i : ℕ). (here i ≡ said (operator-at rows i) letter here next) × Names hi (operator-at rows i)) (sym at)
+            (keep j (omega arith)) in
+            by-bit k v x new put (λ m b. m < hi → Moves g b (here m))
+            (λ l. moves-both g (bit v k) on (here k) (before k l)
+            (subst (λ (b : Bool). Moves g b (here k)) (sym is)
+            (subst (Moves g (local (operator-at rows k) letter v there)) (sym (own .0))
+            (said-moves g (operator-at rows k) letter hi (bit v) here (bit there) next (own .1) before past))))
+            before m;
+      }
 
-  -- a fact of the new column's elements, by that of the one set and those of the others
-  by-element : (P : ℕ → Bool → Type 0) → P i on → ((j : ℕ) → j < n → P j (bit (getD v j 0) e)) → (j : ℕ) → j < n
-      → P j (getD (column n (set v i x) e) j false)
-  by-element P p others j l = subst (P j) (stored-at j l) (by (eqb j i) refl)
+  pub turned-end : {j count v : ℕ} → j ≤ count → count ≤ j → Turned rows list j letter there g w v → Turned rows list count letter there g w v
+  turned-end {j} {count} {v} h k = subst (λ (i : ℕ). Turned rows list i letter there g w v) {x = j} {y = count} (omega arith)
+
+-- one word of a list is set
+module _ (i x : ℕ) (v : List ℕ) (fits : i < length v) where
+  by-word : (P : ℕ → ℕ → Type 0) → P i x → ((m : ℕ) → (m ≡ i → ⊥) → P m (getD v m 0)) → (m : ℕ) → P m (getD (set v i x) m 0)
+  by-word P p others m = by (eqb m i) refl
     where
-      by : (b : Bool) → eqb j i ≡ b → P j (cond b on (bit (getD v j 0) e))
-      by true q = let same : j ≡ i = eqb-true j i q in rw same p
-      by false q = others j l
+      by : (b : Bool) → eqb m i ≡ b → P m (getD (set v i x) m 0)
+      by true q =
+          let same : m ≡ i = eqb-true m i q in
+          rw same (subst (P i) (sym (getD-set-same v i x 0 fits)) p)
+      by false q = subst (P m) (sym (getD-set-other v i m x 0 (eqb-false m i q))) (others m (eqb-false m i q))
 
-  module _ (g : Bool) where
-    onward : Moves g (bit (getD v i 0) e) on → Toward g (column n v e) (column n (set v i x) e)
-    onward m =
-        toward-of g (column n v e) (column n (set v i x) e)
-        (column-length n e v long ∙ sym (column-length n e (set v i x) (omega (arith, length-set v i x))))
-        (λ j h.
-        let l : j < n = omega (arith, column-length n e v long) in
-        by-element (λ j b. Moves g (getD (column n v e) j false) b)
-        (subst (λ (b : Bool). Moves g b on) (sym (column-at n e v long i fits)) m)
-        (λ k r. moves-same g (getD (column n v e) k false) (bit (getD v k 0) e) (column-at n e v long k r)) j l)
-
-    not-past : (t : Positions) → length t ≡ n → Toward g (column n v e) t → Moves g on (getD t i false) → Toward g (column n (set v i x) e) t
-    not-past t full h m =
-        let all : length (column n (set v i x) e) ≡ n = column-length n e (set v i x) (omega (arith, length-set v i x)) in
-        toward-of g (column n (set v i x) e) t (all ∙ sym full)
-        (λ j r.
-        by-element (λ j b. Moves g b (getD t j false)) m
-        (λ k l. subst (λ (b : Bool). Moves g b (getD t k false)) (column-at n e v long k l) (toward-at g (column n v e) t h k)) j (omega arith))
-
-module _ (rows : List ℕ) (c : Lasso) (g : Bool) (e : ℕ) (w : List ℕ) where
+module _ (rows : List ℕ) (c : Lasso) (list : List ℕ) (count : ℕ) (g : Bool) (w : List ℕ) where
   abbrev n : ℕ
   n = length (c .letters)
 
-  pub passed-none : Passed rows c g e w w
-  passed-none =
-      record { kept = kept-refl n e (e + 1) w; onward = toward-refl g (column n w e); within = λ a s bs h t b r. r }
+  pub passed-none : Passed rows c list count g w w
+  passed-none = record {
+    long = refl;
+    rest = λ i h. refl;
+    kept = λ i k h. refl;
+    onward = λ i k. moves-refl g (bit (getD w i 0) k);
+    within = λ hi ss keep h. h;
+  }
 
-  pub passed-more : (v : List ℕ) → n ≤ length w → Passed rows c g e w v → (i : ℕ) → i < n → (on was moved : Bool) → Seen rows c v (e + 1) i on
-      → was ≡ bit (getD v i 0) e → moved ≡ joined (not g) was on → (x : ℕ) → ((k : ℕ) → bit x k ≡ cond (eqb k e) moved (bit (getD v i 0) k))
-      → Passed rows c g e w (set v i x)
-  passed-more v long p i l on was moved sees had joins x put =
-      let longer : n ≤ length v = omega (arith, p .kept .long) in
+  pub passed-more : (v : List ℕ) (i j x : ℕ) → c .stem < n → n ≤ length w → Passed rows c list count g w v → i < n → j ≡ after n (c .stem) i
+      → Turned rows list count (getD (c .letters) i 0) (getD v j 0) g (getD v i 0) x → Passed rows c list count g w (set v i x)
+  passed-more v i j x cycle long p l at t =
+      let fits : i < length v = omega (arith, p .long) in
       record {
-        kept = kept-then n (p .kept) (stored-kept n e i x moved v longer l put) (omega arith) (omega arith) (omega arith) (omega arith);
-        onward = toward-trans g (column n w e) (column n v e) (column n (set v i x) e) (p .onward)
-            (onward n e i x moved v longer l put g
-            (subst (λ (y : Bool). Moves g y moved) had (subst (Moves g was) (sym joins) (moves-on g was on))));
-        within = λ a s bs h t bounds start.
-            let reached = p .within a s bs h t bounds start in
-            let is : on ≡ seen c v a (e + 1) (e ∷ bs) i = sees .is a (false ∷ s) (e ∷ bs) (stands-body (operator-at rows) (end-at rows) 48 h) in
-            not-past n e i x moved v longer l put g t (bounds .full) reached
-            (subst (λ (y : Bool). Moves g y (getD t i false)) (sym joins)
-            (moves-both g was on (getD t i false)
-            (subst (λ (y : Bool). Moves g y (getD t i false)) (column-at n e v longer i l ∙ sym had) (toward-at g (column n v e) t reached i))
-            (moves-of g on (getD t i false) (λ q. bounds .ahead v (p .kept) reached i l (sym is ∙ q)))));
+        long = length-set v i x ∙ p .long;
+        rest = λ m h. getD-set-other v i m x 0 (λ q. omega arith) ∙ p .rest m h;
+        kept = λ m k h. by-word i x v fits (λ (m y : ℕ). bit y k ≡ bit (getD w m 0) k) (t .kept k h ∙ p .kept i k h) (λ m _. p .kept m k h) m;
+        onward = λ m k.
+            by-word i x v fits (λ (m y : ℕ). Moves g (bit (getD w m 0) k) (bit y k))
+            (moves-trans g (bit (getD w i 0) k) (bit (getD v i 0) k) (bit x k) (p .onward i k) (t .onward k)) (λ m _. p .onward m k) m;
+        within = λ hi ss keep h.
+            let u = p .within hi ss keep h in
+            let here : ℕ → Bool = λ k. getD (getD ss k []) i false in
+            let next : ℕ → Bool = λ k. getD (getD ss k []) (after n (c .stem) i) false in
+            let past : (k : ℕ) → k < hi → Moves g (bit (getD v j 0) k) (next k) =
+            λ k q. rw at (u .at k q (after n (c .stem) i) (after-below n (c .stem) i l cycle)) in
+            let turn = t .within hi here next (λ m q. (keep .right m q i l, keep .names m q)) past (λ k q. u .at k q i l) in
+            record {
+              at = λ k q m.
+                  by-word i x v fits (λ (m y : ℕ). m < n → Moves g (bit y k) (getD (getD ss k []) m false)) (λ _. turn k q) (λ m _. u .at k q m) m;
+            };
       }
+
+-- a bit that an operator does not move, and one that it moves
+joined-stays : (g b : Bool) → joined (not g) b g ≡ b
+joined-stays true true = refl
+joined-stays true false = refl
+joined-stays false true = refl
+joined-stays false false = refl
+
+joined-leaves : (g b : Bool) → joined (not g) b (not g) ≡ not g
+joined-leaves true true = refl
+joined-leaves true false = refl
+joined-leaves false true = refl
+joined-leaves false false = refl
+
+module _ (g : Bool) (w k j : ℕ) where
+  pub moved-stays : bit w j ≡ cond (eqb j k) (joined (not g) (bit w k) g) (bit w j)
+  moved-stays = changed (λ i. bit w i) w k (joined (not g) (bit w k) g) (sym (joined-stays g (bit w k))) (λ i r. refl) j
+
+  pub moved-leaves : (x : Bool) → x ≡ cond (eqb j k) (not g) (bit w j) → x ≡ cond (eqb j k) (joined (not g) (bit w k) (not g)) (bit w j)
+  moved-leaves x q = q ∙ ap (λ (b : Bool). cond (eqb j k) b (bit w j)) (sym (joined-leaves g (bit w k)))
+
+-- all bits of a mask at once
+or-by : (a b : Bool) → (a || b) ≡ cond b true a
+or-by true true = refl
+or-by true false = refl
+or-by false true = refl
+or-by false false = refl
+
+xor-by : (a b : Bool) → cond (a || b) (not b) b ≡ cond b false a
+xor-by true true = refl
+xor-by true false = refl
+xor-by false true = refl
+xor-by false false = refl
+
+pub masked-on : (w m k : ℕ) → bit (bitOr w m) k ≡ cond (bit m k) true (bit w k)
+masked-on w m k = bit-or w m k ∙ or-by (bit w k) (bit m k)
+
+pub masked-off : (w m k : ℕ) → bit (bitXor (bitOr w m) m) k ≡ cond (bit m k) false (bit w k)
+masked-off w m k =
+    bit-xor (bitOr w m) m k ∙ ap (λ (b : Bool). cond b (not (bit m k)) (bit m k)) (bit-or w m k) ∙ xor-by (bit w k) (bit m k)
+
+module _ (mask : ℕ) (on : Bool) (w : List ℕ) where
+  pub filled-none : Filled 0 mask on w w
+  filled-none = record { long = refl; bits = λ i h. absurd (omega arith); rest = λ i h. refl }
+
+  pub filled-more : (i x : ℕ) (v : List ℕ) → i < length w → Filled i mask on w v
+      → ((k : ℕ) → bit x k ≡ cond (bit mask k) on (bit (getD v i 0) k)) → Filled (i + 1) mask on w (set v i x)
+  filled-more i x v l f put = record {
+    long = length-set v i x ∙ f .long;
+    bits = λ m h k.
+        by-word i x v (omega (arith, f .long)) (λ (m y : ℕ). m < i + 1 → bit y k ≡ cond (bit mask k) on (bit (getD w m 0) k))
+        (λ _. put k ∙ ap (λ (y : ℕ). cond (bit mask k) on (bit y k)) (f .rest i (omega arith))) (λ m other h. f .bits m (omega arith) k) m h;
+    rest = λ m h. getD-set-other v i m x 0 (λ q. omega arith) ∙ f .rest m (omega arith);
+  }
+
+  pub filled-end : {i n : ℕ} {v : List ℕ} → i ≤ n → n ≤ i → Filled i mask on w v → Filled n mask on w v
+  filled-end {i} {n} {v} h k = subst (λ (j : ℕ). Filled j mask on w v) {x = i} {y = n} (omega arith)
+
+-- the elements listed so far, and one more
+pub listed-more : (mask : ℕ) (list : List ℕ) (count x : ℕ) → count < length list → ((j : ℕ) → j < count → bit mask (getD list j 0) ≡ true)
+    → bit mask x ≡ true → (j : ℕ) → j < count + 1 → bit mask (getD (set list count x) j 0) ≡ true
+listed-more mask list count x l all new j h =
+    by-word count x list l (λ (j y : ℕ). j < count + 1 → bit mask y ≡ true) (λ _. new)
+    (λ m other q. all m (omega arith)) j h

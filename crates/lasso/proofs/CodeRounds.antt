@@ -1,199 +1,334 @@
--- The rounds of a fixpoint, a pass behind each: the column does not pass the fixpoint's set, and the rounds left bring it there at least.
--- A pass moves it on, within what bounds it, so it keeps both; where no round is left, or one changes nothing, column and set are equal.
--- The subformulas inside are then as the final set makes them. Assumes nothing.
-use mathlib.Core.Path.{_≡_, sym, ap, subst, _∙_}
-use mathlib.Core.Bool.{Bool, true, false}
+-- The rounds of a fixpoint, a pass before them and behind each: no column goes past its final set, and the rounds left bring the fixpoint's
+-- there at least. A pass moves columns on, within what their operators keep, so it keeps both; where no round is left, or one changes
+-- nothing, the fixpoint's column is its final set, and what is inside is as that set makes it. Assumes nothing.
+use mathlib.Core.Path.{_≡_, refl, sym, ap, subst, _∙_}
+use mathlib.Core.Logic.{inl}
+use mathlib.Core.Bool.{Bool, true, false, cond, true≢false}
 use mathlib.Core.List.{List, _∷_, map}
 use Prim.Native.Nat.{ℕ, suc, _+_, _-_, _≤_, _<_}
 use native.Mathlib.Omega.{arith}
-use lib.ListN.{length, getD, length-map}
+use lib.ListN.{length, getD, drop, length-map, length-drop}
+use lib.Seq.{ext-getD, getD-drop}
+use Rattle.base.specs.Bits.{bit}
 use Rattle.base.specs.Lists.{repeat}
 use Rattle.base.specs.Sets.{Toward}
 use Rattle.base.proofs.ListLaws.{getD-map, repeat-stays}
 use Rattle.base.proofs.NumberLaws.{values-cons}
 use Rattle.base.proofs.Inside.{toward-refl, toward-trans, toward-both, toward-start}
-use Rattle.formula.specs.Formula.{Leaf as Atom, Formula, size}
+use Rattle.formula.specs.Formula.{Formula, size}
 use Rattle.formula.specs.Table.{Operator}
-use Rattle.formula.specs.Reading.{Opcode, Scope}
-use Rattle.formula.specs.Rows.{operator-of, operator-at, end-at}
-use Rattle.formula.proofs.Closed.{Closed}
-use Rattle.formula.proofs.Guarded.{guarded-closed}
+use Rattle.formula.specs.Reading.{Scope}
+use Rattle.formula.specs.Rows.{operator-at, end-at}
+use Rattle.formula.proofs.Limits.{size-some}
 use Rattle.formula.proofs.WellFormed.{sits-first, stands-body}
 use Rattle.lasso.specs.Lasso.{Lasso, Positions, holds, sets}
-use Rattle.lasso.specs.Promise.{local-at, Swept, kind-of, Written, Room, column, columns, Kept, Labelled, Before, Bounds, Passed, Evaluated, Settled}
+use Rattle.lasso.specs.Promise.{local-at, Swept, kind-of, Written, Held, Room, Alone, Shut, Open, Listed, Movable, column, columns, Kept, Labelled, Known, Filled, Moves, Under, Passed, goal, Going, Begun, Evaluated, Outcome, Rounded}
 use Rattle.lasso.specs.declared.Kind.the-variants.{Fixpoint}
 use Rattle.lasso.proofs.Monotone.{Sized}
-use Rattle.lasso.proofs.Fixpoint.{body, body-mono, rounds-mono, length-approximant, fixed}
-use Rattle.lasso.proofs.CodeWritten.{by-kind}
-use Rattle.lasso.proofs.CodeColumns.{column-length, column-at, columns-sized, kept-refl, kept-then, outer-kept, columns-above, swept-kept, swept-is}
-use Rattle.lasso.proofs.CodeLabel.{before-kept, before-fix, first-shown}
-use Rattle.lasso.proofs.CodeSeen.{fixpoint-bounds}
+use Rattle.lasso.proofs.Fixpoint.{body, rounds-mono}
+use Rattle.lasso.proofs.CodeWritten.{by-kind, written-end, body-operand}
+use Rattle.lasso.proofs.CodeColumns.{column-length, column-at, column-is, columns-sized, kept-refl, kept-wide, kept-then, outer-kept, columns-above, swept-kept, swept-is}
+use Rattle.lasso.proofs.CodeClosed.{known-same, known-kept, known-part}
+use Rattle.lasso.proofs.CodeOpen.{nested, movable}
+use Rattle.lasso.proofs.CodeGoal.{final, final-length, own-within, closed, goal-keeps, goal-start, goal-round}
+use Rattle.lasso.proofs.CodeLabel.{first-shown, operand-known, own-known}
+use Rattle.lasso.proofs.Moves.{toward-of}
 
-module _ (rows : List ℕ) (c : Lasso) (again g : Bool) (e : ℕ) (w : List ℕ) where
+-- words of which some bits are as they were, by columns
+module _ (n : ℕ) (w v : List ℕ) (words : n ≤ length w) (long : length v ≡ length w) where
+  same-column : (k : ℕ) → ((i : ℕ) → i < n → bit (getD v i 0) k ≡ bit (getD w i 0) k) → column n v k ≡ column n w k
+  same-column k same =
+      column-is n k v (omega arith) (column n w k) (column-length n k w words) (λ i l. same i l ∙ sym (column-at n k w words i l))
+
+  kept-bits : (lo hi : ℕ) → ((i : ℕ) → n ≤ i → getD v i 0 ≡ getD w i 0)
+      → ((k : ℕ) → ((lo ≤ k) × (k < hi) → ⊥) → (i : ℕ) → i < n → bit (getD v i 0) k ≡ bit (getD w i 0) k) → Kept n lo hi w v
+  kept-bits lo hi rest same = record {
+    long = long;
+    below = λ k l. same-column k (same k (λ q. omega (arith, q .0)));
+    above = λ k l. same-column k (same k (λ q. omega (arith, q .1)));
+    rest = ext-getD 0 (drop n v) (drop n w) (length-drop n v ∙ omega arith ∙ sym (length-drop n w))
+        (λ i l. getD-drop n v i 0 ∙ rest (n + i) (omega arith) ∙ sym (getD-drop n w i 0));
+  }
+
+module _ (rows : List ℕ) (c : Lasso) (g : Bool) (e : ℕ) where
   abbrev n : ℕ
   n = length (c .letters)
 
-  -- a is the body of the fixpoint at e, whose rounds start from the words w
-  pub record Body (bs : List ℕ) (a : Formula) : Type 0 where
-    pub scope : Scope
-    pub written : Written rows e scope bs (Formula.fix g a)
-    pub earlier : again ≡ true → Before c a (e + 1) w
-    pub started : column n w e ≡ map (λ _. g) (c .letters)
+  -- a pass over columns that e's rounds move
+  module _ (list : List ℕ) (count : ℕ) (w v : List ℕ) (words : n ≤ length w) (m : Movable rows e list count) (p : Passed rows c list count g w v) where
+    pub passed-kept : Kept n e (end-at rows e) w v
+    passed-kept =
+        kept-bits n w v words (p .long) e (end-at rows e) (p .rest)
+        (λ k out i l. p .kept i k (λ j q same. out (rw same (m .inside j q))))
 
-  -- the sets of the enclosing fixpoints, one round, and the fixpoint's set
-  abbrev outer : List ℕ → List Positions
-  outer bs = map (column n w) bs
+    passed-shut : (k : ℕ) → Shut rows e k → column n v k ≡ column n w k
+    passed-shut k shut =
+        same-column n w v words (p .long) k
+        (λ i l. p .kept i k (λ j q same. m .apart j q (subst (Shut rows e) same shut)))
 
-  abbrev round : List ℕ → Formula → Positions → Positions
-  round bs a = body c a (outer bs)
+    passed-onward : (k : ℕ) → Toward g (column n w k) (column n v k)
+    passed-onward k =
+        let longer : n ≤ length v = omega (arith, p .long) in
+        toward-of g (column n w k) (column n v k) (column-length n k w words ∙ sym (column-length n k v longer))
+        (λ i l.
+        let few : i < n = omega (arith, column-length n k w words) in
+        subst (λ (b : Bool). Moves g b (getD (column n v k) i false)) (sym (column-at n k w words i few))
+        (subst (Moves g (bit (getD w i 0) k)) (sym (column-at n k v longer i few)) (p .onward i k)))
 
-  abbrev final : List ℕ → Formula → Positions
-  final bs a = holds c (Formula.fix g a) (outer bs)
+  -- the columns of a mask are made the start
+  module _ (mask : ℕ) (w v : List ℕ) (words : n ≤ length w) (o : Open rows e mask) (f : Filled n mask g w v) where
+    filled-out : (k : ℕ) → (bit mask k ≡ true → ⊥) → (i : ℕ) → i < n → bit (getD v i 0) k ≡ bit (getD w i 0) k
+    filled-out k out i l = f .bits i l k ∙ by (bit mask k) refl
+      where
+        by : (b : Bool) → bit mask k ≡ b → cond b g (bit (getD w i 0) k) ≡ bit (getD w i 0) k
+        by true q = absurd (out q)
+        by false q = refl
 
-  -- with so many rounds left and the words v; `known` says that the body was labelled before
-  pub record Going (known : Bool) (left : ℕ) (v bs : List ℕ) (a : Formula) : Type 0 where
-    pub reaches : Toward g (final bs a) (repeat left (round bs a) (column n v e))
-    pub within : Toward g (column n v e) (final bs a)
-    pub kept : Kept n e (e + size (Formula.fix g a)) w v
-    pub able : known ≡ true → Before c a (e + 1) v
+    filled-kept : Kept n e (end-at rows e) w v
+    filled-kept =
+        kept-bits n w v words (f .long) e (end-at rows e) (f .rest) (λ k out. filled-out k (λ q. out (o .inside k q)))
 
-  abbrev pub Rounded : Bool → ℕ → List ℕ → Type 0
-  Rounded known left v = (bs : List ℕ) (a : Formula) → Body bs a → Going known left v bs a
+    filled-shut : (k : ℕ) → Shut rows e k → column n v k ≡ column n w k
+    filled-shut k shut = same-column n w v words (f .long) k (filled-out k (λ q. o .apart k q shut))
 
-  by-body : (v : List ℕ) → ((bs : List ℕ) (a : Formula) → Body bs a → Labelled c (Formula.fix g a) e bs w v) → Settled rows c again g e w v
-  by-body v d = record { done = λ a s bs h q t. d bs a (record { scope = s; written = h; earlier = q; started = t }) }
+    filled-start : Held rows e → column n v e ≡ map (λ _. g) (c .letters)
+    filled-start held =
+        column-is n e v (omega (arith, f .long)) (map (λ _. g) (c .letters)) (length-map (c .letters) (λ _. g))
+        (λ i l.
+        f .bits i l e
+        ∙ ap (λ (b : Bool). cond b g (bit (getD w i 0) e)) (own (bit mask e) refl)
+        ∙ sym (getD-map (λ _. g) (c .letters) i 0 false l))
+      where
+        own : (b : Bool) → bit mask e ≡ b → bit mask e ≡ true
+        own true q = q
+        own false q =
+            let some : e < end-at rows e = omega (arith, written-end rows (held .written), size-some (held .subformula)) in
+            let s = o .others e (omega arith) some q in
+            absurd (omega (arith, s .behind, s .before))
 
-  module _ (room : Room n (c .stem) (length w)) where
-    some : 0 < n
-    some = omega (arith, room .cycle)
+  -- from both, the rounds are begun
+  pub begun : (mask : ℕ) (list : List ℕ) (count : ℕ) (w x v : List ℕ) → Room n (c .stem) (length w) → Held rows e → Open rows e mask
+      → Listed mask list count → Filled n mask g w x → Passed rows c list count g x v → Begun rows c g e list count w v
+  begun mask list count w x v room held o l f p =
+      let m : Movable rows e list count = movable rows e mask list count o l in
+      let longer : n ≤ length x = omega (arith, f .long, room .words) in
+      let kx = filled-kept mask w x (room .words) o f in
+      let kv = passed-kept list count x v longer m p in
+      let kept : Kept n e (end-at rows e) w v = kept-then n kx kv (omega arith) (omega arith) (omega arith) (omega arith) in
+      record {
+        movable = m;
+        kept = kept;
+        started = λ a s bs h known.
+            let outer = map (column n w) bs in
+            let F = Formula.fix g a in
+            let last : end-at rows e ≡ e + size F = written-end rows h in
+            let start : column n x e ≡ map (λ _. g) (c .letters) = filled-start mask w x (room .words) o f held in
+            record {
+              kept = subst (λ (k : ℕ). Kept n e k w v) last kept;
+              known = known-same rows c e (end-at rows e) x v (passed-shut list count x v longer m p)
+                  (known-same rows c e (end-at rows e) w x (filled-shut mask w x (room .words) o f) known);
+              under = p .within (e + size F) (goal c w e bs F) (goal-keeps rows c e w room F s bs h list count m)
+                  (goal-start rows c e w room F s bs h g mask x o f known);
+              reaches = subst (λ (t : Positions). Toward g (repeat n (body c a outer) t) (repeat n (body c a outer) (column n v e))) start
+                  (rounds-mono c (omega (arith, room .cycle)) a outer (closed rows c e w room F s bs h) (columns-sized n w (room .words) bs) g n
+                  (column n x e) (column n v e) (passed-onward list count x v longer m p e));
+            };
+      }
 
-    sized : (bs : List ℕ) → Sized n (outer bs)
-    sized = columns-sized n w (room .words)
+  -- no round, and some rounds behind others
+  pub rounded-none : (left : ℕ) (w : List ℕ) → left ≡ 0 → Rounded rows c g e left w w true
+  rounded-none left w none = record {
+    kept = kept-refl n e (end-at rows e) w;
+    done = λ a s bs h first more. subst (λ (k : ℕ). Going rows c g e first bs a k w) {x = left + more} {y = more} (omega arith);
+  }
 
-    closed : (bs : List ℕ) (a : Formula) → Body bs a → Closed (suc (length (outer bs))) a
-    closed bs a b =
-        let same : length (b .scope) ≡ length (outer bs) = b .written .scoped ∙ sym (length-map bs (column n w)) in
-        subst (λ (k : ℕ). Closed (suc k) a) same (guarded-closed (b .scope) (Formula.fix g a) (b .written .guarded))
+  -- the rounds that are left, those of the first part taken apart
+  apart : (half left : ℕ) → half ≤ left → (w first bs : List ℕ) (a : Formula) (more : ℕ) → Going rows c g e first bs a (left + more) w
+      → Going rows c g e first bs a (half + (left - half + more)) w
+  apart half left l w first bs a more =
+      subst (λ (k : ℕ). Going rows c g e first bs a k w) {x = left + more} {y = half + (left - half + more)} (omega arith)
 
-    pub rounded-start : Rounded again n w
-    rounded-start bs a b =
-        let all : length (final bs a) ≡ n = length-approximant c some a (outer bs) (closed bs a b) (sized bs) g n in
-        record {
-          reaches = subst (λ (s : Positions). Toward g (final bs a) (repeat n (round bs a) s)) (sym (b .started)) (toward-refl g (final bs a));
-          within = subst (λ (s : Positions). Toward g s (final bs a)) (sym (b .started)) (toward-start g (c .letters) (final bs a) all);
-          kept = kept-refl n e (e + size (Formula.fix g a)) w;
-          able = b .earlier;
-        }
+  pub rounded-both : (half left : ℕ) (w x v : List ℕ) (b r : Bool) → half ≤ left → b ≡ true → Rounded rows c g e half w x b
+      → Rounded rows c g e (left - half) x v r → Rounded rows c g e left w v r
+  rounded-both half left w x v b r l moves p q = record {
+    kept = kept-then n (p .kept) (q .kept) (omega arith) (omega arith) (omega arith) (omega arith);
+    done = λ a s bs h first more go.
+        q .done a s bs h first more
+        (subst (Outcome rows c g e first bs a (left - half + more) x) moves
+        (p .done a s bs h first (left - half + more) (apart half left l w first bs a more go)));
+  }
 
-    -- a round: the words v become x where the body is labelled, y where its column is copied to the fixpoint's, and z behind the pass
-    module _ (known : Bool) (left : ℕ) (v x : List ℕ) (ev : Evaluated rows c known (e + 1) v x) where
-      module _ (bs : List ℕ) (a : Formula) (b : Body bs a) (r : Going known left v bs a) where
-        labelled : Labelled c a (e + 1) (e ∷ bs) v x
-        labelled = ev .done a (false ∷ b .scope) (e ∷ bs) (stands-body (operator-at rows) (end-at rows) 48 (b .written)) (r .able)
+  pub rounded-early : (half left : ℕ) (w x : List ℕ) (b : Bool) → half ≤ left → b ≡ false → Rounded rows c g e half w x b
+      → Rounded rows c g e left w x false
+  rounded-early half left w x b l still p = record {
+    kept = p .kept;
+    done = λ a s bs h first more go.
+        subst (Outcome rows c g e first bs a (left - half + more) x) still
+        (p .done a s bs h first (left - half + more) (apart half left l w first bs a more go));
+  }
 
-        before : (d : ℕ) → d < length bs → getD bs d 0 < e
-        before d l = b .written .enclosed d l .before
+  -- The body is labelled in a round: the words w become x.
+  module _ (held : Held rows e) (is : kind-of (operator-at rows e) ≡ Fixpoint g) (w x : List ℕ) (room : Room n (c .stem) (length w))
+      (ev : Evaluated rows c (e + 1) (e + 1) w x) where
+    inside : e + 1 < end-at rows e
+    inside = body-operand rows e held g is .inside
 
-        around : map (column n v) bs ≡ outer bs
-        around = outer-kept n (r .kept) bs before
+    body-kept : Kept n (e + 1) (end-at rows e) w x
+    body-kept = kept-wide n (ev .kept) (omega arith) (nested rows e held (e + 1) (omega arith) inside)
 
-        round-kept : Kept n e (e + size (Formula.fix g a)) w x
-        round-kept = kept-then n (r .kept) (labelled .kept) (omega arith) (omega arith) (omega arith) (omega arith)
+    body-known : Known rows c (e + 1) (end-at rows e) w → Known rows c (e + 1) (end-at rows e) x
+    body-known = operand-known rows c e w room held (e + 1) w x (omega arith) inside (λ j l h. absurd (omega arith)) ev
 
-        round-shown : columns n x (e + 1) (size a) ≡ sets c a (column n v e ∷ outer bs)
-        round-shown = labelled .shown ∙ ap (λ (σ : List Positions). sets c a (column n v e ∷ σ)) around
+    longer : n ≤ length x
+    longer = omega (arith, room .words, body-kept .long)
 
-        -- where the column is the fixpoint's set, the fixpoint is labelled
-        settled : column n v e ≡ final bs a → Labelled c (Formula.fix g a) e bs w x
-        settled q = record {
-          shown = values-cons (column n x) e (size a) (final bs a) (sets c a (final bs a ∷ outer bs))
-              (labelled .kept .below e (omega arith) ∙ q) (round-shown ∙ ap (λ (s : Positions). sets c a (s ∷ outer bs)) q);
-          kept = round-kept;
-        }
+    module _ (a : Formula) (s : Scope) (bs : List ℕ) (h : Written rows e s bs (Formula.fix g a)) (first : List ℕ) (left : ℕ)
+        (go : Going rows c g e first bs a left w) where
+      abbrev f : Formula
+      f = Formula.fix g a
 
-        module _ (y : List ℕ) (long : n ≤ length x) (t : Swept n e (local-at c (operator-at rows e) x) x y) where
-          copied : column n y e ≡ round bs a (column n v e)
-          copied =
-              let f : ℕ → Bool = local-at c (Operator.fix g (e + 1)) x in
-              let s : Swept n e f x y = subst (λ (op : Operator). Swept n e (local-at c op x) x y) (sits-first (b .written .operators)) t in
-              swept-is n e f x y s long (column n x (e + 1)) (column-length n (e + 1) x long) (λ i l. sym (column-at n (e + 1) x long i l))
-              ∙ first-shown c a (e + 1) x (column n v e ∷ outer bs) round-shown
+      abbrev outer : List Positions
+      outer = map (column n first) bs
 
-          copy-kept : Kept n e (e + 1) x y
-          copy-kept = swept-kept n e (local-at c (operator-at rows e) x) x y t long
+      -- the fixpoint's set before the round
+      abbrev E : Positions
+      E = column n w e
 
-          -- the set behind the round does not pass the fixpoint's, which the body keeps
-          round-within : Toward g (column n y e) (final bs a)
-          round-within =
-              subst (λ (s : Positions). Toward g s (final bs a)) (sym copied)
-              (subst (Toward g (round bs a (column n v e))) (fixed c some a (outer bs) (closed bs a b) (sized bs) g)
-              (body-mono c some a (outer bs) (closed bs a b) (sized bs) g (column n v e) (final bs a) (r .within)))
+      first-room : Room n (c .stem) (length first)
+      first-room = record { cycle = room .cycle; words = omega (arith, room .words, go .kept .long) }
 
-          bounded-by : Bounds c g a e bs y (final bs a)
-          bounded-by =
-              let k : Kept n e (e + size (Formula.fix g a)) w y = kept-then n round-kept copy-kept (omega arith) (omega arith) (omega arith) (omega arith) in
-              fixpoint-bounds c g (outer bs) (room .cycle) (sized bs) a e bs y (column n v e) (closed bs a b) (omega (arith, copy-kept .long)) before
-              (outer-kept n k bs before) (columns-above n copy-kept (e + 1) (size a) (omega arith) ∙ round-shown) (r .within)
+      labelled : Labelled c a (e + 1) (e ∷ bs) w x
+      labelled =
+          ev .done (known-part (e + 1) (end-at rows (e + 1)) (omega arith) (nested rows e held (e + 1) (omega arith) inside) (go .known)) a (false ∷ s)
+          (e ∷ bs) (stands-body (operator-at rows) (end-at rows) 48 h)
 
-          going-on : (z : List ℕ) → Passed rows c g e y z → 0 < left → Going true (left - 1) z bs a
-          going-on z p h =
-              let k : Kept n e (e + 1) x z = kept-then n copy-kept (p .kept) (omega arith) (omega arith) (omega arith) (omega arith) in
-              let s = column n v e in
-              let more : repeat left (round bs a) s ≡ repeat (left - 1) (round bs a) (column n y e) =
-              ap (λ (k : ℕ). repeat k (round bs a) s) {x = left} {y = suc (left - 1)} (omega arith)
-              ∙ ap (repeat (left - 1) (round bs a)) (sym copied) in
-              record {
-                reaches = toward-trans g (final bs a) (repeat (left - 1) (round bs a) (column n y e)) (repeat (left - 1) (round bs a) (column n z e))
-                    (subst (Toward g (final bs a)) more (r .reaches))
-                    (rounds-mono c some a (outer bs) (closed bs a b) (sized bs) g (left - 1) (column n y e) (column n z e) (p .onward));
-                within = p .within a (b .scope) bs (b .written) (final bs a) bounded-by round-within;
-                kept = kept-then n round-kept k (omega arith) (omega arith) (omega arith) (omega arith);
-                able = λ q. record { around = s ∷ outer bs; shown = columns-above n k (e + 1) (size a) (omega arith) ∙ round-shown };
-              }
+      round-shown : columns n x (e + 1) (size a) ≡ sets c a (E ∷ outer)
+      round-shown =
+          labelled .shown ∙ ap (λ (σ : List Positions). sets c a (E ∷ σ)) (outer-kept n (go .kept) bs (λ d l. h .enclosed d l .before))
 
-          unchanged : y ≡ x → Labelled c (Formula.fix g a) e bs w x
-          unchanged same =
-              let s = column n v e in
-              let stays : round bs a s ≡ s = sym copied ∙ ap (λ (u : List ℕ). column n u e) same ∙ labelled .kept .below e (omega arith) in
-              settled (toward-both g s (final bs a) (r .within) (subst (Toward g (final bs a)) (repeat-stays left (round bs a) s stays) (r .reaches)))
+      near : Toward g E (final rows c g e first first-room a s bs h)
+      near = own-within rows c g e first first-room a s bs h w (room .words) (go .under)
 
-        none-left : left ≤ 0 → Labelled c (Formula.fix g a) e bs w x
-        none-left h =
-            let s = column n v e in
-            settled (toward-both g s (final bs a) (r .within)
-            (subst (λ (k : ℕ). Toward g (final bs a) (repeat k (round bs a) s)) {x = left} {y = 0} (omega arith) (r .reaches)))
+      -- where the set is the final one, the fixpoint is labelled
+      settled : E ≡ holds c f outer → Labelled c f e bs first x
+      settled q = record {
+        shown = values-cons (column n x) e (size a) (holds c f outer) (sets c a (holds c f outer ∷ outer))
+            (labelled .kept .below e (omega arith) ∙ q) (round-shown ∙ ap (λ (s : Positions). sets c a (s ∷ outer)) q);
+        kept = kept-then n (go .kept) (labelled .kept) (omega arith) (omega arith) (omega arith) (omega arith);
+      }
 
-      module _ (r : Rounded known left v) where
-        pub rounds-over : left ≤ 0 → Settled rows c again g e w x
-        rounds-over h = by-body x (λ bs a b. none-left bs a b (r bs a b) h)
+      -- its column is made that of its body: the words x become y
+      module _ (y : List ℕ) (t : Swept n e (local-at c (operator-at rows e) x) x y) where
+        copied : column n y e ≡ holds c a (E ∷ outer)
+        copied =
+            let p : ℕ → Bool = local-at c (Operator.fix g (e + 1)) x in
+            let s : Swept n e p x y = subst (λ (op : Operator). Swept n e (local-at c op x) x y) (sits-first (h .operators)) t in
+            swept-is n e p x y s longer (column n x (e + 1)) (column-length n (e + 1) x longer) (λ i l. sym (column-at n (e + 1) x longer i l))
+            ∙ first-shown c a (e + 1) x (E ∷ outer) round-shown
 
-        module _ (y : List ℕ) (long : n ≤ length x) (t : Swept n e (local-at c (operator-at rows e) x) x y) where
-          pub rounded-more : (z : List ℕ) → Passed rows c g e y z → 0 < left → Rounded true (left - 1) z
-          rounded-more z p h bs a b = going-on bs a b (r bs a b) y long t z p h
+        copy-kept : Kept n e (e + 1) x y
+        copy-kept = swept-kept n e (local-at c (operator-at rows e) x) x y t longer
 
-          -- a round that changes nothing is the last
-          pub rounds-still : y ≡ x → Settled rows c again g e w y
-          rounds-still same =
-              subst (λ (u : List ℕ). Settled rows c again g e w u) (sym same) (by-body x (λ bs a b. unchanged bs a b (r bs a b) y long t same))
+        round-under : Under n g (goal c first e bs f) (e + size f) y
+        round-under =
+            goal-round rows c g e first first-room a s bs h E y (omega (arith, longer, copy-kept .long)) near
+            (λ k l. copy-kept .below k l ∙ body-kept .below k (omega arith) ∙ go .kept .below k l) copied
+            (columns-above n copy-kept (e + 1) (size a) (omega arith) ∙ round-shown)
 
--- the fixpoint's column is made the start of its rounds, and they are run
-pub fixpoint-evaluated : (rows : List ℕ) (c : Lasso) (again g : Bool) (e : ℕ) (o : Opcode) (w x v : List ℕ) → length (c .letters) ≤ length w
-    → kind-of (operator-at rows e) ≡ Fixpoint g → o ≡ Opcode.constant g → Swept (length (c .letters)) e (local-at c (operator-of o 0 e) w) w x
-    → Settled rows c again g e x v → Evaluated rows c again e w v
-fixpoint-evaluated rows c again g e o w x v long is on t d =
-    let n = length (c .letters) in
-    let all = map (λ (_ : ℕ). g) (c .letters) in
-    let p : ℕ → Bool = local-at c (Operator.leaf (Atom.constant g)) w in
-    let s : Swept n e p w x = subst (λ (o : Opcode). Swept n e (local-at c (operator-of o 0 e) w) w x) on t in
-    let start : column n x e ≡ all = swept-is n e p w x s long all (length-map (c .letters) (λ _. g)) (λ i l. sym (getD-map (λ _. g) (c .letters) i 0 false l)) in
-    let k : Kept n e (e + 1) w x = swept-kept n e p w x s long in
-    record {
-      done = λ f sc bs. by-kind rows e sc bs (Fixpoint g) is (λ (f : Formula). (again ≡ true → Before c f e w) → Labelled c f e bs w v)
-          (λ a h b.
-          let r = d .done a sc bs h (λ q. before-kept c a (e + 1) w x (columns-above n k (e + 1) (size a) (omega arith)) (before-fix c g a e w (b q))) start in
-          record {
-            shown = r .shown ∙ ap (sets c (Formula.fix g a)) (outer-kept n k bs (λ d l. h .enclosed d l .before));
-            kept = kept-then n k (r .kept) (omega arith) (omega arith) (omega arith) (omega arith);
-          })
-          f;
+        round-known : Known rows c (e + 1) (end-at rows e) y
+        round-known = own-known rows c e w room held (local-at c (operator-at rows e) x) x y longer t (body-known (go .known))
+
+        -- and a pass moves on from there: the words y become z
+        going-on : (more : ℕ) → left ≡ 1 + more → (list : List ℕ) (count : ℕ) (z : List ℕ) → Movable rows e list count
+            → Passed rows c list count g y z → Going rows c g e first bs a more z
+        going-on more one list count z m p =
+            let last : end-at rows e ≡ e + size f = written-end rows h in
+            let long : n ≤ length y = omega (arith, longer, copy-kept .long) in
+            let round = body c a outer in
+            let ky : Kept n e (end-at rows e) w y =
+            kept-then n body-kept copy-kept (omega arith) (omega arith) (omega arith) (omega (arith, inside)) in
+            let kz : Kept n e (end-at rows e) w z =
+            kept-then n ky (passed-kept list count y z long m p) (omega arith) (omega arith) (omega arith) (omega arith) in
+            let taken : repeat left round E ≡ repeat more round (column n y e) =
+            ap (λ (k : ℕ). repeat k round E) {x = left} {y = suc more} (omega arith) ∙ ap (repeat more round) (sym copied) in
+            record {
+              kept = kept-then n (go .kept) kz (omega arith) (omega arith) (omega arith) (omega arith);
+              known = known-same rows c e (end-at rows e) y z (passed-shut list count y z long m p) round-known;
+              under = p .within (e + size f) (goal c first e bs f) (goal-keeps rows c e first first-room f s bs h list count m) round-under;
+              reaches = toward-trans g (holds c f outer) (repeat more round (column n y e)) (repeat more round (column n z e))
+                  (subst (Toward g (holds c f outer)) taken (go .reaches))
+                  (rounds-mono c (omega (arith, room .cycle)) a outer (closed rows c e first first-room f s bs h)
+                  (columns-sized n first (first-room .words) bs) g more (column n y e) (column n z e) (passed-onward list count y z long m p e));
+            }
+
+        unchanged : y ≡ x → Labelled c f e bs first x
+        unchanged same =
+            let stays : body c a outer E ≡ E = sym copied ∙ ap (λ (u : List ℕ). column n u e) same ∙ labelled .kept .below e (omega arith) in
+            settled (toward-both g E (holds c f outer) near
+            (subst (Toward g (holds c f outer)) (repeat-stays left (body c a outer) E stays) (go .reaches)))
+
+      none-left : left ≡ 0 → Labelled c f e bs first x
+      none-left none =
+          settled (toward-both g E (holds c f outer) near
+          (subst (λ (k : ℕ). Toward g (holds c f outer) (repeat k (body c a outer) E)) none (go .reaches)))
+
+    module _ (y : List ℕ) (t : Swept n e (local-at c (operator-at rows e) x) x y) where
+      round-kept : Kept n e (end-at rows e) w y
+      round-kept =
+          kept-then n body-kept (swept-kept n e (local-at c (operator-at rows e) x) x y t longer)
+          (omega arith) (omega arith) (omega arith) (omega (arith, inside))
+
+      pub rounded-more : (left : ℕ) → left ≡ 1 → (list : List ℕ) (count : ℕ) (z : List ℕ) → Movable rows e list count
+          → Passed rows c list count g y z → Rounded rows c g e left w z true
+      rounded-more left one list count z m p = record {
+        kept = kept-then n round-kept (passed-kept list count y z (omega (arith, room .words, round-kept .long)) m p)
+            (omega arith) (omega arith) (omega arith) (omega arith);
+        done = λ a s bs h first more go. going-on a s bs h first (left + more) go y t more (omega arith) list count z m p;
+      }
+
+      -- a round that changes nothing is the last
+      pub rounded-still : (left : ℕ) → y ≡ x → Rounded rows c g e left w y false
+      rounded-still left same = record {
+        kept = round-kept;
+        done = λ a s bs h first more go. (
+          subst (Labelled c (Formula.fix g a) e bs first) (sym same) (unchanged a s bs h first (left + more) go y t same),
+          round-known a s bs h first (left + more) go y t,
+        );
+      }
+
+  -- The fixpoint is labelled: its rounds are begun, the words w becoming x, and taken, x becoming u; and if the set moved to the end, the body is
+  -- labelled once more.
+  module _ (held : Held rows e) (is : kind-of (operator-at rows e) ≡ Fixpoint g) (list : List ℕ) (count : ℕ) (w x u : List ℕ)
+      (room : Room n (c .stem) (length w)) (begins : Begun rows c g e list count w x) where
+    outcome : (b r : Bool) → b ≡ r → Rounded rows c g e n x u b → (a : Formula) (s : Scope) (bs : List ℕ) → Written rows e s bs (Formula.fix g a)
+        → Known rows c (e + 1) (end-at rows e) w → Outcome rows c g e w bs a 0 u r
+    outcome b r same q a s bs h known =
+        subst (Outcome rows c g e w bs a 0 u) same
+        (q .done a s bs h w 0 (subst (λ (k : ℕ). Going rows c g e w bs a k x) {x = n} {y = n + 0} (omega arith) (begins .started a s bs h known)))
+
+    -- a fact of the rows, from the fixpoint that they have at e
+    by-fix : (A : Type 0) → ((a : Formula) → Written rows e (held .scope) (held .binders) (Formula.fix g a) → A) → A
+    by-fix A p = by-kind rows e (held .scope) (held .binders) (Fixpoint g) is (λ _. A) p (held .subformula) (held .written)
+
+    pub fixpoint-settled : (b : Bool) → b ≡ false → Rounded rows c g e n x u b → Evaluated rows c (e + 1) e w u
+    fixpoint-settled b still q = record {
+      kept = kept-then n (begins .kept) (q .kept) (omega arith) (omega arith) (omega arith) (omega arith);
+      known = λ known. by-fix (Known rows c (e + 1) (end-at rows e) u) (λ a h. outcome b false still q a (held .scope) (held .binders) h known .1);
+      done = λ known f s bs.
+          by-kind rows e s bs (Fixpoint g) is (λ f. Labelled c f e bs w u) (λ a h. outcome b false still q a s bs h known .0) f;
     }
+
+    pub fixpoint-last : (b : Bool) → b ≡ true → (v : List ℕ) → Rounded rows c g e n x u b → Evaluated rows c (e + 1) (e + 1) u v
+        → Evaluated rows c (e + 1) e w v
+    fixpoint-last b moves v q ev =
+        let k : Kept n e (end-at rows e) w u = kept-then n (begins .kept) (q .kept) (omega arith) (omega arith) (omega arith) (omega arith) in
+        let same : Room n (c .stem) (length u) = record { cycle = room .cycle; words = omega (arith, room .words, k .long) } in
+        record {
+          kept = kept-then n k (body-kept held is u v same ev) (omega arith) (omega arith) (omega arith) (omega arith);
+          known = λ known.
+              by-fix (Known rows c (e + 1) (end-at rows e) v)
+              (λ a h. body-known held is u v same ev (outcome b true moves q a (held .scope) (held .binders) h known .known));
+          done = λ known f s bs.
+              by-kind rows e s bs (Fixpoint g) is (λ f. Labelled c f e bs w v)
+              (λ a h. none-left held is u v same ev a s bs h w 0 (outcome b true moves q a s bs h known) refl) f;
+        }

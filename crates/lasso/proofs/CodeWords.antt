@@ -1,26 +1,65 @@
 -- From the columns of all subformulas to the words: a word has the bits of its position, and none past the subformulas since the words
 -- were cleared. Assumes nothing.
-use mathlib.Core.Path.{_≡_, sym, ap, _∙_}
-use mathlib.Core.Bool.{Bool, false, _&&_, false≢true}
+use mathlib.Core.Path.{_≡_, refl, sym, ap, subst, _∙_}
+use mathlib.Core.Bool.{Bool, false, _&&_}
 use mathlib.Core.List.{List, [], _++_}
 use Prim.Native.Nat.{ℕ, _+_, _≤_, _<_}
 use native.Mathlib.Omega.{arith}
 use native.Mathlib.Decide.{decLt}
 use lib.ListN.{length, getD, take, drop, replicate, length-append, take-append-drop, length-replicate, getD-replicate, List·getD-append}
 use lib.Seq.{ext-getD, length-take-le, getD-take, drop-at}
-use borrow.Author.Tests.{lt-ltb}
+use borrow.Author.Tests.{lt-ltb, le-ltb}
 use Rattle.base.specs.Bits.{bit}
 use Rattle.base.proofs.WordLaws.{no-bit, same-bits}
 use Rattle.base.proofs.NumberLaws.{values-at}
 use Rattle.formula.specs.Formula.{Formula, size}
+use Rattle.formula.specs.Table.{Operator}
+use Rattle.formula.specs.Rows.{operator-at, end-at}
+use Rattle.formula.proofs.Limits.{size-some}
 use Rattle.lasso.specs.Lasso.{Lasso, Positions, holds, labelling, meets}
-use Rattle.lasso.specs.Promise.{Written, Room, column, Labelled, Evaluated, Answered}
+use Rattle.lasso.specs.Promise.{Written, Held, Room, outside-of, column, Kept, Labelled, Known, Closing, Answered}
 use Rattle.lasso.proofs.Consistent.{length-labelling, labelling-bit, labelling-past}
-use Rattle.lasso.proofs.CodeColumns.{column-at}
+use Rattle.lasso.proofs.CodeWritten.{written-end}
+use Rattle.lasso.proofs.CodeColumns.{column-at, kept-refl, kept-then}
+use Rattle.lasso.proofs.CodeOpen.{nested}
 use Rattle.lasso.proofs.CodeLabel.{first-shown}
 
+-- Closed subformulas are labelled from the last to the first: those from k on are, in the words v, which were w at first.
+pub record Labelling (rows : List ℕ) (c : Lasso) (w : List ℕ) (k : ℕ) (v : List ℕ) : Type 0 where
+  pub few : k ≤ end-at rows 0
+  pub kept : Kept (length (c .letters)) 0 (end-at rows 0) w v
+  pub known : Known rows c k (end-at rows 0) v
+
+module _ (rows : List ℕ) (c : Lasso) (w : List ℕ) where
+  pub labelling-none : (k : ℕ) → k ≡ end-at rows 0 → Labelling rows c w k w
+  labelling-none k last = record {
+    few = omega arith;
+    kept = kept-refl (length (c .letters)) 0 (end-at rows 0) w;
+    known = record { shown = λ j l m. absurd (omega arith) };
+  }
+
+  pub labelling-more : (k j : ℕ) (v x : List ℕ) → Held rows 0 → k ≡ j + 1 → Labelling rows c w k v → Closing rows c j v x → Labelling rows c w j x
+  labelling-more k j v x held next so-far t =
+      let far : end-at rows j ≤ end-at rows 0 = nested rows 0 held j (omega arith) (omega (arith, so-far .few)) in
+      record {
+        few = omega (arith, so-far .few);
+        kept = kept-then (length (c .letters)) (so-far .kept) (t .kept) (omega arith) (omega arith) (omega arith) far;
+        known = t .known (end-at rows 0) far (subst (λ (i : ℕ). Known rows c i (end-at rows 0) v) next (so-far .known));
+      }
+
+  pub labelling-all : (k : ℕ) (v : List ℕ) → k ≤ 0 → Labelling rows c w k v → Labelling rows c w 0 v
+  labelling-all k v none = subst (λ (i : ℕ). Labelling rows c w i v) {x = k} {y = 0} (omega arith)
+
+-- no fixpoint stands before the first subformula
+nothing-outside : (op : Operator) → outside-of 0 op ≡ false
+nothing-outside (Operator.leaf l) = refl
+nothing-outside (Operator.variable m) = le-ltb m 0 (omega arith)
+nothing-outside (Operator.pair o l r) = refl
+nothing-outside (Operator.next l) = refl
+nothing-outside (Operator.fix g l) = refl
+
 module _ (rows : List ℕ) (c : Lasso) (b : Bool) (w v₀ v : List ℕ) (room : Room (length (c .letters)) (c .stem) (length w))
-    (cleared : v₀ ≡ replicate (length (c .letters)) 0 ++ drop (length (c .letters)) w) (ev : Evaluated rows c false 0 v₀ v)
+    (cleared : v₀ ≡ replicate (length (c .letters)) 0 ++ drop (length (c .letters)) w) (all : Labelling rows c v₀ 0 v)
     (is : b ≡ bit (getD v 0 0) 0) where
   abbrev n : ℕ
   n = length (c .letters)
@@ -30,7 +69,12 @@ module _ (rows : List ℕ) (c : Lasso) (b : Bool) (w v₀ v : List ℕ) (room : 
 
   module _ (f : Formula) (h : Written rows 0 [] [] f) where
     labelled : Labelled c f 0 [] v₀ v
-    labelled = ev .done f [] [] h (λ q. absurd (false≢true q))
+    labelled =
+        let last : end-at rows 0 ≡ 0 + size f = written-end rows h in
+        record {
+          shown = all .known .shown 0 (omega arith) (omega (arith, last, size-some f)) (λ k l m. nothing-outside (operator-at rows k)) f [] [] h;
+          kept = subst (λ (k : ℕ). Kept n 0 k v₀ v) last (all .kept);
+        }
 
     long : n ≤ length v
     long = omega (arith, labelled .kept .long, long₀)

@@ -5,6 +5,7 @@ use mathlib.Core.Path.{_≡_, refl, sym, ap, subst, _∙_}
 use mathlib.Core.Bool.{Bool}
 use mathlib.Core.List.{List}
 use Prim.Native.Nat.{ℕ, _+_, _-_, _*_, _≤_, _<_}
+use native.Mathlib.Nat.{mul-le-mul-left, mul-add}
 use native.Mathlib.Omega.{arith}
 use lib.ListN.{getD}
 use Rattle.formula.specs.Formula.{Leaf as Atom, Formula, size}
@@ -13,7 +14,7 @@ use Rattle.formula.specs.Reading.{Opcode, opcode, Scope}
 use Rattle.formula.specs.Rows.{operator-of, operator-at, end-at}
 use Rattle.formula.proofs.Limits.{size-some}
 use Rattle.formula.proofs.WellFormed.{sits-first, stands-left, stands-right, stands-next, stands-body, stands-end}
-use Rattle.lasso.specs.Promise.{kind-of, Written, Held, Room}
+use Rattle.lasso.specs.Promise.{kind-of, Written, Held, Room, Movable}
 use Rattle.lasso.specs.declared.Kind.{Kind}
 use Rattle.lasso.specs.declared.Kind.the-variants.{Leaf, Pair, Next, Fixpoint}
 
@@ -50,11 +51,16 @@ module _ (rows : List ℕ) where
   pub record Operand (k e : ℕ) : Type 0 where
     pub held : Held rows k
     pub smaller : size-at rows k < size-at rows e
+    pub inside : k < end-at rows e
 
   operand : {e k : ℕ} {s t : Scope} {bs cs : List ℕ} (f a : Formula) → Written rows e s bs f → Written rows k t cs a → size a < size f
-      → Operand k e
-  operand f a h w l =
-      record { held = record { scope = _; binders = _; subformula = a; written = w }; smaller = omega (arith, written-end h, written-end w) }
+      → k < e + size f → Operand k e
+  operand f a h w l m =
+      record {
+        held = record { scope = _; binders = _; subformula = a; written = w };
+        smaller = omega (arith, written-end h, written-end w);
+        inside = omega (arith, written-end h);
+      }
 
 -- the second operand's number, or else a
 abbrev right-or : ℕ → Operator → ℕ
@@ -94,12 +100,20 @@ module _ (rows : List ℕ) (e : ℕ) where
   pair-argument o a b h =
       argument-right (opcode (getD rows e 0)) (getD rows (48 + e) 0) e ∙ ap (right-or (getD rows (48 + e) 0)) (sits-first (h .operators))
 
+  pub record Split (k : ℕ) : Type 0 where
+    pub behind : e + 1 < k
+    pub begins : end-at rows (e + 1) ≡ k
+    pub inside : k < end-at rows e
+
   module _ (h : Held rows e) where
     pub few : e < 48
     few = omega (arith, h .written .fits, size-some (h .subformula))
 
     pub held-end : end-at rows e ≤ 48
     held-end = omega (arith, written-end rows (h .written), h .written .fits)
+
+    pub held-some : e < end-at rows e
+    held-some = omega (arith, written-end rows (h .written), size-some (h .subformula))
 
     by-held : (k : Kind) → kind-of (operator-at rows e) ≡ k → (A : Type 0)
         → Cases (λ (f : Formula). Written rows e (h .scope) (h .binders) f → A) k → A
@@ -108,41 +122,68 @@ module _ (rows : List ℕ) (e : ℕ) where
     pub first-operand : kind-of (operator-at rows e) ≡ Pair → Operand rows (e + 1) e
     first-operand q =
         by-held Pair q (Operand rows (e + 1) e)
-        (λ o a b w. operand rows (Formula.pair o a b) a w (stands-left (operator-at rows) (end-at rows) 48 w) (omega (arith, size-some b)))
+        (λ o a b w. operand rows (Formula.pair o a b) a w (stands-left (operator-at rows) (end-at rows) 48 w) (omega (arith, size-some b)) (omega (arith, size-some b)))
 
     pub second-operand : kind-of (operator-at rows e) ≡ Pair → Operand rows (getD rows (48 + e) 0) e
     second-operand q =
         by-held Pair q (Operand rows (getD rows (48 + e) 0) e)
         (λ o a b w.
         subst (λ (k : ℕ). Operand rows k e) (sym (pair-argument o a b w))
-        (operand rows (Formula.pair o a b) b w (stands-right (operator-at rows) (end-at rows) 48 w) (omega (arith, size-some a))))
+        (operand rows (Formula.pair o a b) b w (stands-right (operator-at rows) (end-at rows) 48 w) (omega (arith, size-some a)) (omega (arith, size-some b))))
+
+    -- the second operand k begins where the first ends
+    pub pair-split : kind-of (operator-at rows e) ≡ Pair → (k : ℕ) → k ≡ getD rows (48 + e) 0 → Split k
+    pair-split q k at =
+        by-held Pair q (Split k)
+        (λ o a b w.
+        let is : k ≡ e + 1 + size a = at ∙ pair-argument o a b w in
+        record {
+          behind = omega (arith, size-some a);
+          begins = written-end rows (stands-left (operator-at rows) (end-at rows) 48 w) ∙ sym is;
+          inside = omega (arith, written-end rows w, size-some b);
+        })
 
     pub next-operand : kind-of (operator-at rows e) ≡ Next → Operand rows (e + 1) e
     next-operand q =
         by-held Next q (Operand rows (e + 1) e)
-        (λ a w. operand rows (Formula.next a) a w (stands-next (operator-at rows) (end-at rows) 48 w) (omega arith))
+        (λ a w. operand rows (Formula.next a) a w (stands-next (operator-at rows) (end-at rows) 48 w) (omega arith) (omega (arith, size-some a)))
 
     pub body-operand : (g : Bool) → kind-of (operator-at rows e) ≡ Fixpoint g → Operand rows (e + 1) e
     body-operand g q =
         by-held (Fixpoint g) q (Operand rows (e + 1) e)
-        (λ a w. operand rows (Formula.fix g a) a w (stands-body (operator-at rows) (end-at rows) 48 w) (omega arith))
+        (λ a w. operand rows (Formula.fix g a) a w (stands-body (operator-at rows) (end-at rows) 48 w) (omega arith) (omega (arith, size-some a)))
 
 -- words that are as many
 pub same-room : (n stem m k : ℕ) → Room n stem m → n ≤ k → Room n stem k
 same-room n stem m k room h = record { cycle = room .cycle; words = h }
 
--- What a call asks. The measure is twice a subformula's size, one less in the rounds: it falls from a subformula to its rounds, and from
--- either to an operand.
-module _ (rows : List ℕ) (e t n stem m : ℕ) (room : Room n stem m) where
-  pub operand-call : (k j : ℕ) → k ≡ j → Operand rows j e → 2 * size-at rows e ≤ t + 1
-      → (2 * size-at rows k < t) × (Held rows k × Room n stem m)
-  operand-call k j q o h = rw q (omega (arith, o .smaller), (o .held, room))
+-- The measure of a call, as one number: a subformula's size, paired with the rounds left, of which there are at most n. Two numbers above
+-- n stand for a subformula whose rounds have not begun.
+unfoldable pub paired : (n size left : ℕ) → ℕ
+paired n size left = (n + 3) * size + left
 
-  pub rounds-call : (g : Bool) → Held rows e → kind-of (operator-at rows e) ≡ Fixpoint g → 2 * size-at rows e ≡ t
-      → (2 * size-at rows e - 1 < t) × (Held rows e × (Room n stem m × (kind-of (operator-at rows e) ≡ Fixpoint g)))
-  rounds-call g h q l = (omega (arith, body-operand rows e h g q .smaller), (h, (room, q)))
+paired-left : (n size i j : ℕ) → i < j → paired n size i < paired n size j
+unfolding paired
+paired-left n size i j h = omega arith
 
--- the same where only sizes are compared, and a position is asked for
-pub value-call : (rows : List ℕ) (e t n stem m : ℕ) → Room n stem m → (k j i : ℕ) → k ≡ j → Operand rows j e → size-at rows e ≡ t → i < n
-    → (size-at rows k < t) × (Held rows k × (Room n stem m × (i < n)))
-value-call rows e t n stem m room k j i q o h l = rw q (omega (arith, o .smaller), (o .held, (room, l)))
+paired-size : (n small large i : ℕ) → small < large → paired n small (n + 2) < paired n large i
+unfolding paired
+paired-size n small large i h =
+    let grown : (n + 3) * (small + 1) ≤ (n + 3) * large = mul-le-mul-left (n + 3) (omega arith) in
+    omega (arith, mul-add (n + 3) small 1)
+
+-- What a call asks.
+module _ (rows : List ℕ) (e n stem m : ℕ) (room : Room n stem m) (t : ℕ) where
+  pub operand-call : (k j left : ℕ) → k ≡ j → Operand rows j e → paired n (size-at rows e) left ≡ t
+      → (paired n (size-at rows k) (n + 2) < t) × (Held rows k × Room n stem m)
+  operand-call k j left q o h = rw (q, ← h) (paired-size n (size-at rows j) (size-at rows e) left (o .smaller), (o .held, room))
+
+  pub open-call : Held rows e → paired n (size-at rows e) (n + 2) ≡ t
+      → (paired n (size-at rows e) (n + 1) < t) × (Held rows e × Room n stem m)
+  open-call h q = rw (← q) (paired-left n (size-at rows e) (n + 1) (n + 2) (omega arith), (h, room))
+
+  pub rounds-call : (g : Bool) (list : List ℕ) (count i j : ℕ) → i < j → i ≤ n → Held rows e → kind-of (operator-at rows e) ≡ Fixpoint g
+      → Movable rows e list count → paired n (size-at rows e) j ≡ t
+      → (paired n (size-at rows e) i < t)
+      × (Held rows e × (Room n stem m × ((kind-of (operator-at rows e) ≡ Fixpoint g) × (Movable rows e list count × (i ≤ n)))))
+  rounds-call g list count i j l few h k m q = rw (← q) (paired-left n (size-at rows e) i j l, (h, (room, (k, (m, few)))))

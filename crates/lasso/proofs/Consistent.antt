@@ -83,7 +83,7 @@ around-at (Around.put q r) zero h = q
 around-at (Around.put q r) (suc d) h = around-at r d (omega arith)
 
 -- the truth of subformula e is what its operator says
-abbrev Right : Lasso → List Positions → ℕ → Operator → Type 0
+abbrev pub Right : Lasso → List Positions → ℕ → Operator → Type 0
 Right c ss e op = (i : ℕ) → i < span c → true-at ss e i ≡ says c ss i op
 
 -- a variable has its fixpoint's set, and a fixpoint its body's
@@ -118,7 +118,7 @@ module _ (c : Lasso) (some : 0 < span c) where
       (l, each-length a (e + 1) (holds c (Formula.fix g a) ρ ∷ ρ) k (l, z))
 
   -- the rows of a subformula f that stands at e in ss
-  right-from : (ss : List Positions) (f : Formula) (e : ℕ) (bs : List ℕ) (ρ : List Positions) → Closed (length ρ) f → Sized (span c) ρ
+  pub right-from : (ss : List Positions) (f : Formula) (e : ℕ) (bs : List ℕ) (ρ : List Positions) → Closed (length ρ) f → Sized (span c) ρ
       → Around ss bs ρ → Each (Stands ss) e (sets c f ρ) → Each (Right c ss) e (table-from e bs f)
   right-from ss (Formula.leaf l) e bs ρ k z out h = (right-leaf c ss l e (h .0), tt)
   right-from ss (Formula.variable d) e bs ρ k z out h =

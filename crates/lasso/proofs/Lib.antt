@@ -6,12 +6,12 @@ pub mod CodeOperators
 pub mod CodeSweep
 pub mod CodeWritten
 pub mod CodeColumns
-pub mod CodeClosed
-pub mod CodeLabel
 pub mod Moves
-pub mod CodeSeen
-pub mod CodeValue
 pub mod CodePass
+pub mod CodeClosed
+pub mod CodeOpen
+pub mod CodeGoal
+pub mod CodeLabel
 pub mod CodeRounds
 pub mod CodeWords
 pub mod CodeAsked

@@ -3,7 +3,7 @@
 -- fixpoint. Also: every set has an element for each letter of the lasso. Assumes nothing.
 use mathlib.Core.Path.{_≡_, refl, sym, ap, _∙_}
 use mathlib.Core.Bool.{Bool, true, false}
-use mathlib.Core.List.{List, [], _∷_, map}
+use mathlib.Core.List.{List, [], _∷_, _++_, map}
 use Prim.Native.Nat.{ℕ, zero, suc, _<_}
 use native.Mathlib.Omega.{arith}
 use lib.ListN.{length, getD, length-append, length-map}
@@ -12,7 +12,7 @@ use Rattle.base.specs.Sets.{Below, Inside}
 use Rattle.base.proofs.Inside.{below-least, below-greatest, inside-at, inside-refl, inside-append, inside-tail, inside-repeat}
 use Rattle.formula.specs.Formula.{Formula}
 use Rattle.formula.proofs.Closed.{Closed}
-use Rattle.lasso.specs.Lasso.{Lasso, Positions, leaf-at, joined, combine, before, holds}
+use Rattle.lasso.specs.Lasso.{Lasso, Positions, leaf-at, joined, combine, before, holds, sets}
 
 -- how many positions a lasso has: "a course of n places"
 abbrev pub span : Lasso → ℕ
@@ -49,7 +49,7 @@ pub data Within : List Positions → List Positions → Type 0 where
   none : Within [] []
   put : {s t : Positions} {ρ σ : List Positions} → Inside s t → Within ρ σ → Within (s ∷ ρ) (t ∷ σ)
 
-within-at : {ρ σ : List Positions} → Within ρ σ → (d : ℕ) → Inside (getD ρ d []) (getD σ d [])
+pub within-at : {ρ σ : List Positions} → Within ρ σ → (d : ℕ) → Inside (getD ρ d []) (getD σ d [])
 within-at Within.none d = Inside.none
 within-at (Within.put h r) zero = h
 within-at (Within.put h r) (suc d) = within-at r d
@@ -67,6 +67,20 @@ monotone c (Formula.next a) r = inside-before (c .stem) (monotone c a r)
 monotone c (Formula.fix g a) {ρ} {σ} r =
     inside-repeat (span c) (λ s. holds c a (s ∷ ρ)) (λ s. holds c a (s ∷ σ)) (λ s t h. monotone c a (Within.put h r))
     (inside-refl (map (λ _. g) (c .letters)))
+
+within-append : {ρ σ τ υ : List Positions} → Within ρ σ → Within τ υ → Within (ρ ++ τ) (σ ++ υ)
+within-append Within.none k = k
+within-append (Within.put h r) k = Within.put h (within-append r k)
+
+-- and so are the sets of all subformulas
+pub monotone-sets : (c : Lasso) (f : Formula) {ρ σ : List Positions} → Within ρ σ → Within (sets c f ρ) (sets c f σ)
+monotone-sets c (Formula.leaf l) r = Within.put (monotone c (Formula.leaf l) r) Within.none
+monotone-sets c (Formula.variable d) r = Within.put (monotone c (Formula.variable d) r) Within.none
+monotone-sets c (Formula.pair o a b) r = Within.put (monotone c (Formula.pair o a b) r) (within-append (monotone-sets c a r) (monotone-sets c b r))
+monotone-sets c (Formula.next a) r = Within.put (monotone c (Formula.next a) r) (monotone-sets c a r)
+monotone-sets c (Formula.fix g a) r =
+    let h = monotone c (Formula.fix g a) r in
+    Within.put h (monotone-sets c a (Within.put h r))
 
 -- each set has n elements
 abbrev pub Sized : ℕ → List Positions → Type 0

@@ -8,12 +8,8 @@ use lib.ListN.{length, getD}
 use Rattle.base.specs.Sets.{Below, Toward}
 use Rattle.base.proofs.Inside.{below-true, below-of, below-least, below-greatest, inside-at, inside-of}
 use Rattle.lasso.specs.Lasso.{Positions, joined}
+use Rattle.lasso.specs.Promise.{Moves}
 use Rattle.lasso.proofs.Monotone.{below-joined}
-
--- from a to b the value g is only left
-abbrev pub Moves : (g a b : Bool) → Type 0
-Moves false a b = Below a b
-Moves true a b = Below b a
 
 pub moves-refl : (g a : Bool) → Moves g a a
 moves-refl false a = Below.same
@@ -34,6 +30,14 @@ of-moves false a b h q = below-true h q
 of-moves true a false h q = refl
 of-moves true true true h q = q
 of-moves true false true h q = absurd (true≢false (sym (below-true h refl)))
+
+pub moves-trans : (g a b c : Bool) → Moves g a b → Moves g b c → Moves g a c
+moves-trans g a b c h k = moves-of g a c (λ q. of-moves g b c k (of-moves g a b h q))
+
+-- from g everything is a move
+pub moves-start : (g b : Bool) → Moves g g b
+moves-start false b = below-least b
+moves-start true b = below-greatest b
 
 pub moves-joined : (g o a b c d : Bool) → Moves g a b → Moves g c d → Moves g (joined o a c) (joined o b d)
 moves-joined false o a b c d h k = below-joined o h k

@@ -5,15 +5,15 @@ use mathlib.Core.List.{List, [], _∷_, _++_, map}
 use Prim.Native.Nat.{ℕ, _+_, _≤_, _<_}
 use lib.Dec.{eqb, ltb}
 use lib.ListN.{length, getD, take, drop}
-use Rattle.base.specs.Lists.{numbers}
+use Rattle.base.specs.Lists.{numbers, repeat}
 use Rattle.base.specs.Bits.{bit}
-use Rattle.base.specs.Sets.{Toward}
+use Rattle.base.specs.Sets.{Below, Toward}
 use Rattle.formula.specs.Formula.{Formula, size}
 use Rattle.formula.specs.Table.{Operator}
 use Rattle.formula.specs.Reading.{Scope}
 use Rattle.formula.specs.Rows.{operator-at, end-at}
 use Rattle.formula.specs.Stands.{Stands}
-use Rattle.lasso.specs.Lasso.{Lasso, Positions, leaf-at, joined, sets, labelling, meets}
+use Rattle.lasso.specs.Lasso.{Lasso, Positions, leaf-at, joined, holds, sets, labelling, meets}
 use Rattle.lasso.specs.Truth.{asked, written}
 use Rattle.lasso.specs.Answer.{answer}
 use Rattle.lasso.specs.declared.Truth as code
@@ -24,13 +24,17 @@ use Rattle.lasso.specs.declared.Kind.the-variants.{Leaf, Pair, Next, Fix
 abbrev pub after : (n stem i : ℕ) → ℕ
 after n stem i = cond (eqb (i + 1) n) stem (i + 1)
 
--- what an operator says of a position, by the letter there, the word there and the word of the successor; a fixpoint has its body's set
+-- what an operator says of a position by the letter there, where subformulas are true as told there and at the successor; a fixpoint has its
+-- body's truth. And the same of two words
+abbrev pub said : Operator → (letter : ℕ) → (here there : ℕ → Bool) → Bool
+said (Operator.leaf l) letter here there = leaf-at l letter
+said (Operator.variable m) letter here there = here m
+said (Operator.pair o l r) letter here there = joined o (here l) (here r)
+said (Operator.next l) letter here there = there l
+said (Operator.fix g l) letter here there = here l
+
 abbrev pub local : Operator → (letter here there : ℕ) → Bool
-local (Operator.leaf l) letter here there = leaf-at l letter
-local (Operator.variable m) letter here there = bit here m
-local (Operator.pair o l r) letter here there = joined o (bit here l) (bit here r)
-local (Operator.next l) letter here there = bit there l
-local (Operator.fix g l) letter here there = bit here l
+local op letter here there = said op letter (λ k. bit here k) (λ k. bit there k)
 
 abbrev pub local-at : Lasso → Operator → List ℕ → ℕ → Bool
 local-at c op w i = local op (getD (c .letters) i 0) (getD w i 0) (getD w (after (length (c .letters)) (c .stem) i) 0)
@@ -72,10 +76,41 @@ outside-of e (Operator.pair o l r) = false
 outside-of e (Operator.next l) = false
 outside-of e (Operator.fix g l) = false
 
--- what is inside e was labelled before, and no variable in it names a fixpoint around e
-pub record Finished (rows : List ℕ) (e : ℕ) (again : Bool) : Type 0 where
-  pub once : again ≡ true
-  pub alone : (k : ℕ) → e ≤ k → k < end-at rows e → outside-of e (operator-at rows k) ≡ false
+-- no variable inside e names a fixpoint around e; and r tells whether that is so
+abbrev pub Alone : List ℕ → ℕ → Type 0
+Alone rows e = (k : ℕ) → e ≤ k → k < end-at rows e → outside-of e (operator-at rows k) ≡ false
+
+pub record Closes (rows : List ℕ) (e : ℕ) (r : Bool) : Type 0 where
+  pub yes : r ≡ true → Alone rows e
+  pub no : r ≡ false → Alone rows e → ⊥
+
+-- k stands in a closed subformula inside e
+pub record Shut (rows : List ℕ) (e k : ℕ) : Type 0 where
+  pub number : ℕ
+  pub behind : e < number
+  pub before : number ≤ k
+  pub around : k < end-at rows number
+  pub alone : Alone rows number
+
+-- the bits of a mask are the subformulas of e that stand in no closed one inside e
+pub record Open (rows : List ℕ) (e mask : ℕ) : Type 0 where
+  pub inside : (k : ℕ) → bit mask k ≡ true → (e ≤ k) × (k < end-at rows e)
+  pub apart : (k : ℕ) → bit mask k ≡ true → Shut rows e k → ⊥
+  pub others : (k : ℕ) → e ≤ k → k < end-at rows e → bit mask k ≡ false → Shut rows e k
+
+-- the first `count` elements of a list are numbers of subformulas; they are bits of a mask; they stand in e, and in no closed one inside e
+pub record Few (list : List ℕ) (count : ℕ) : Type 0 where
+  pub counted : count ≤ 48
+  pub small : (j : ℕ) → j < count → getD list j 0 < 48
+
+pub record Listed (mask : ℕ) (list : List ℕ) (count : ℕ) : Type 0 where
+  pub counted : count ≤ 48
+  pub all : (j : ℕ) → j < count → bit mask (getD list j 0) ≡ true
+
+pub record Movable (rows : List ℕ) (e : ℕ) (list : List ℕ) (count : ℕ) : Type 0 where
+  pub counted : count ≤ 48
+  pub inside : (j : ℕ) → j < count → (e ≤ getD list j 0) × (getD list j 0 < end-at rows e)
+  pub apart : (j : ℕ) → j < count → Shut rows e (getD list j 0) → ⊥
 
 -- bit e of the first n words: the set of positions that they have for subformula e; and for the k subformulas from e on
 abbrev pub column : ℕ → List ℕ → ℕ → Positions
@@ -96,48 +131,103 @@ pub record Labelled (c : Lasso) (f : Formula) (e : ℕ) (binders w v : List ℕ)
   pub shown : columns (length (c .letters)) v e (size f) ≡ sets c f (map (column (length (c .letters)) w) binders)
   pub kept : Kept (length (c .letters)) e (e + size f) w v
 
--- f was labelled before, the enclosing fixpoints having some other sets
-pub record Before (c : Lasso) (f : Formula) (e : ℕ) (w : List ℕ) : Type 0 where
-  pub around : List Positions
-  pub shown : columns (length (c .letters)) w e (size f) ≡ sets c f around
+-- the closed subformulas from lo up to hi are labelled
+pub record Known (rows : List ℕ) (c : Lasso) (lo hi : ℕ) (w : List ℕ) : Type 0 where
+  pub shown : (k : ℕ) → lo ≤ k → k < hi → Alone rows k → (f : Formula) (scope : Scope) (binders : List ℕ) → Written rows k scope binders f
+      → columns (length (c .letters)) w k (size f) ≡ sets c f []
 
--- whether f, which stands at e inside the given fixpoints, holds at position i as far as the words tell: a fixpoint by its own column, a
--- variable by its binder's, all else by the truth of its operands
-abbrev pub seen : Lasso → List ℕ → Formula → (e : ℕ) → (binders : List ℕ) → (i : ℕ) → Bool
-seen c w (Formula.leaf l) e bs i = leaf-at l (getD (c .letters) i 0)
-seen c w (Formula.variable d) e bs i = bit (getD w i 0) (getD bs d 0)
-seen c w (Formula.pair o a b) e bs i = joined o (seen c w a (e + 1) bs i) (seen c w b (e + 1 + size a) bs i)
-seen c w (Formula.next a) e bs i = seen c w a (e + 1) bs (after (length (c .letters)) (c .stem) i)
-seen c w (Formula.fix g a) e bs i = bit (getD w i 0) e
+-- the first n words v are w with the bits of a mask as told
+pub record Filled (n mask : ℕ) (on : Bool) (w v : List ℕ) : Type 0 where
+  pub long : length v ≡ length w
+  pub bits : (i : ℕ) → i < n → (k : ℕ) → bit (getD v i 0) k ≡ cond (bit mask k) on (bit (getD w i 0) k)
+  pub rest : (i : ℕ) → n ≤ i → getD v i 0 ≡ getD w i 0
 
--- r says so of whatever formula the rows have at e
-pub record Seen (rows : List ℕ) (c : Lasso) (w : List ℕ) (e i : ℕ) (r : Bool) : Type 0 where
-  pub is : (f : Formula) (scope : Scope) (binders : List ℕ) → Written rows e scope binders f → r ≡ seen c w f e binders i
+-- from a to b the value g is only left
+abbrev pub Moves : (g a b : Bool) → Type 0
+Moves false a b = Below a b
+Moves true a b = Below b a
 
--- t bounds what can be seen of the fixpoint at e: as long as its column has left the start's value only where t has, so has its body
-pub record Bounds (c : Lasso) (g : Bool) (a : Formula) (e : ℕ) (binders w : List ℕ) (t : Positions) : Type 0 where
-  pub full : length t ≡ length (c .letters)
-  pub ahead : (v : List ℕ) → Kept (length (c .letters)) e (e + 1) w v → Toward g (column (length (c .letters)) v e) t
-      → (i : ℕ) → i < length (c .letters) → seen c v a (e + 1) (e ∷ binders) i ≡ not g → getD t i false ≡ not g
+-- the subformulas that an operator names are below hi
+abbrev pub Names : ℕ → Operator → Type 0
+Names hi (Operator.leaf l) = Unit {0}
+Names hi (Operator.variable m) = m < hi
+Names hi (Operator.pair o l r) = (l < hi) × (r < hi)
+Names hi (Operator.next l) = l < hi
+Names hi (Operator.fix g l) = l < hi
 
--- the column of the fixpoint at e moves on from the start of its rounds, and past no set that bounds it; all else is kept
-pub record Passed (rows : List ℕ) (c : Lasso) (greatest : Bool) (e : ℕ) (w v : List ℕ) : Type 0 where
-  pub kept : Kept (length (c .letters)) e (e + 1) w v
-  pub onward : Toward greatest (column (length (c .letters)) w e) (column (length (c .letters)) v e)
-  pub within : (a : Formula) (scope : Scope) (binders : List ℕ) → Written rows e scope binders (Formula.fix greatest a) → (t : Positions)
-      → Bounds c greatest a e binders w t → Toward greatest (column (length (c .letters)) w e) t
-      → Toward greatest (column (length (c .letters)) v e) t
+-- one position of a pass, whose word w becomes v: bits leave the value g only, and only listed ones; and if their operators keep some truth of
+-- the position and its successor, of which no bit below hi is past, then none of v is
+pub record Turned (rows list : List ℕ) (count letter there : ℕ) (g : Bool) (w v : ℕ) : Type 0 where
+  pub kept : (k : ℕ) → ((j : ℕ) → j < count → k ≡ getD list j 0 → ⊥) → bit v k ≡ bit w k
+  pub onward : (k : ℕ) → Moves g (bit w k) (bit v k)
+  pub within : (hi : ℕ) (here next : ℕ → Bool)
+      → ((j : ℕ) → j < count → (here (getD list j 0) ≡ said (operator-at rows (getD list j 0)) letter here next)
+      × Names hi (operator-at rows (getD list j 0)))
+      → ((k : ℕ) → k < hi → Moves g (bit there k) (next k)) → ((k : ℕ) → k < hi → Moves g (bit w k) (here k))
+      → (k : ℕ) → k < hi → Moves g (bit v k) (here k)
 
--- whatever formula the rows have at e is labelled, where it was labelled before if `again` says so
-pub record Evaluated (rows : List ℕ) (c : Lasso) (again : Bool) (e : ℕ) (w v : List ℕ) : Type 0 where
-  pub done : (f : Formula) (scope : Scope) (binders : List ℕ) → Written rows e scope binders f → (again ≡ true → Before c f e w)
+-- no column below hi is past the set that ss has for it
+pub record Under (n : ℕ) (g : Bool) (ss : List Positions) (hi : ℕ) (w : List ℕ) : Type 0 where
+  pub at : (k : ℕ) → k < hi → (i : ℕ) → i < n → Moves g (bit (getD w i 0) k) (getD (getD ss k []) i false)
+
+-- each listed operator, which names numbers below hi, keeps the sets ss
+pub record Keeps (rows : List ℕ) (c : Lasso) (list : List ℕ) (count hi : ℕ) (ss : List Positions) : Type 0 where
+  pub names : (j : ℕ) → j < count → Names hi (operator-at rows (getD list j 0))
+  pub right : (j : ℕ) → j < count → (i : ℕ) → i < length (c .letters)
+      → getD (getD ss (getD list j 0) []) i false
+      ≡ said (operator-at rows (getD list j 0)) (getD (c .letters) i 0) (λ k. getD (getD ss k []) i false)
+      (λ k. getD (getD ss k []) (after (length (c .letters)) (c .stem) i) false)
+
+-- a pass: the words w become v. Columns that are not listed are kept, the others move on, and past no sets that the operators keep.
+pub record Passed (rows : List ℕ) (c : Lasso) (list : List ℕ) (count : ℕ) (g : Bool) (w v : List ℕ) : Type 0 where
+  pub long : length v ≡ length w
+  pub rest : (i : ℕ) → length (c .letters) ≤ i → getD v i 0 ≡ getD w i 0
+  pub kept : (i k : ℕ) → ((j : ℕ) → j < count → k ≡ getD list j 0 → ⊥) → bit (getD v i 0) k ≡ bit (getD w i 0) k
+  pub onward : (i k : ℕ) → Moves g (bit (getD w i 0) k) (bit (getD v i 0) k)
+  pub within : (hi : ℕ) (ss : List Positions) → Keeps rows c list count hi ss → Under (length (c .letters)) g ss hi w
+      → Under (length (c .letters)) g ss hi v
+
+-- the final sets of f, which stands at e, behind the columns of the numbers before it
+abbrev pub goal : Lasso → List ℕ → (e : ℕ) → List ℕ → Formula → List Positions
+goal c w e bs f = columns (length (c .letters)) w 0 e ++ sets c f (map (column (length (c .letters)) w) bs)
+
+-- the rounds of the fixpoint at e, with the body a, that were begun with the words w and have come to v: no column is past its final set, and
+-- so many rounds more bring the fixpoint's column there
+pub record Going (rows : List ℕ) (c : Lasso) (g : Bool) (e : ℕ) (w bs : List ℕ) (a : Formula) (left : ℕ) (v : List ℕ) : Type 0 where
+  pub kept : Kept (length (c .letters)) e (e + size (Formula.fix g a)) w v
+  pub known : Known rows c (e + 1) (end-at rows e) v
+  pub under : Under (length (c .letters)) g (goal c w e bs (Formula.fix g a)) (e + size (Formula.fix g a)) v
+  pub reaches : Toward g (holds c (Formula.fix g a) (map (column (length (c .letters)) w) bs))
+      (repeat left (λ s. holds c a (s ∷ map (column (length (c .letters)) w) bs)) (column (length (c .letters)) v e))
+
+-- the rounds are begun, all of them left
+pub record Begun (rows : List ℕ) (c : Lasso) (g : Bool) (e : ℕ) (list : List ℕ) (count : ℕ) (w v : List ℕ) : Type 0 where
+  pub movable : Movable rows e list count
+  pub kept : Kept (length (c .letters)) e (end-at rows e) w v
+  pub started : (a : Formula) (scope : Scope) (binders : List ℕ) → Written rows e scope binders (Formula.fix g a)
+      → Known rows c (e + 1) (end-at rows e) w → Going rows c g e w binders a (length (c .letters)) v
+
+-- whatever formula the rows have at e is labelled, where the closed subformulas inside it from lo on are
+pub record Evaluated (rows : List ℕ) (c : Lasso) (lo e : ℕ) (w v : List ℕ) : Type 0 where
+  pub kept : Kept (length (c .letters)) e (end-at rows e) w v
+  pub known : Known rows c lo (end-at rows e) w → Known rows c lo (end-at rows e) v
+  pub done : Known rows c lo (end-at rows e) w → (f : Formula) (scope : Scope) (binders : List ℕ) → Written rows e scope binders f
       → Labelled c f e binders w v
 
--- the same of a fixpoint whose column is the set that its rounds start from: of none where it is a least one, else of all positions
-pub record Settled (rows : List ℕ) (c : Lasso) (again greatest : Bool) (e : ℕ) (w v : List ℕ) : Type 0 where
-  pub done : (a : Formula) (scope : Scope) (binders : List ℕ) → Written rows e scope binders (Formula.fix greatest a)
-      → (again ≡ true → Before c a (e + 1) w) → column (length (c .letters)) w e ≡ map (λ _. greatest) (c .letters)
-      → Labelled c (Formula.fix greatest a) e binders w v
+-- so many rounds are taken, or one of them changed nothing and the fixpoint is labelled
+abbrev pub Outcome : List ℕ → Lasso → (g : Bool) → (e : ℕ) → (w bs : List ℕ) → Formula → (left : ℕ) → (v : List ℕ) → Bool → Type 0
+Outcome rows c g e w bs a left v true = Going rows c g e w bs a left v
+Outcome rows c g e w bs a left v false = Labelled c (Formula.fix g a) e bs w v × Known rows c (e + 1) (end-at rows e) v
+
+pub record Rounded (rows : List ℕ) (c : Lasso) (g : Bool) (e left : ℕ) (w v : List ℕ) (r : Bool) : Type 0 where
+  pub kept : Kept (length (c .letters)) e (end-at rows e) w v
+  pub done : (a : Formula) (scope : Scope) (binders : List ℕ) → Written rows e scope binders (Formula.fix g a) → (first : List ℕ) (more : ℕ)
+      → Going rows c g e first binders a (left + more) w → Outcome rows c g e first binders a more v r
+
+-- the closed subformulas from e on are labelled, where those behind e are
+pub record Closing (rows : List ℕ) (c : Lasso) (e : ℕ) (w v : List ℕ) : Type 0 where
+  pub kept : Kept (length (c .letters)) e (end-at rows e) w v
+  pub known : (hi : ℕ) → end-at rows e ≤ hi → Known rows c (e + 1) hi w → Known rows c e hi v
 
 -- the truth at position 0 of the formula that the rows have, and the words
 pub record Answered (rows : List ℕ) (c : Lasso) (b : Bool) (w v : List ℕ) : Type 0 where

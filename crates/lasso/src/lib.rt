@@ -4,17 +4,18 @@ use formula::Refusal;
 use formula::Subformula;
 use formula::Table;
 ghost use mathlib.Core.Path.{_≡_};
-ghost use mathlib.Core.Bool.{true, false};
+ghost use mathlib.Core.Bool.{false, cond, not};
 ghost use mathlib.Core.List.{_++_};
 ghost use Prim.Native.Nat.{ℕ, _+_, _≤_, _<_};
+ghost use lib.Dec.{eqb};
 ghost use lib.ListN.{length, drop, replicate};
 ghost use Rattle.base.specs.Bits.{bit};
-ghost use Rattle.formula.specs.Reading.{Opcode, opcode};
+ghost use Rattle.formula.specs.Reading.{opcode};
 ghost use Rattle.formula.specs.Rows.{operator-of, operator-at};
 ghost use Rattle.lasso.specs.Truth.{truth, written};
 ghost use Rattle.lasso.specs.Answer.{lasso, answer};
 ghost use Rattle.lasso.specs.Lasso.{joined};
-ghost use Rattle.lasso.specs.Promise.{after, local, local-at, Swept, kind-of, Held, Room, outside-of, Finished, Seen, Passed, Evaluated, Settled, Answered, Judged};
+ghost use Rattle.lasso.specs.Promise.{after, local, local-at, Swept, kind-of, Held, Room, outside-of, Closes, Open, Few, Listed, Filled, Turned, Passed, Movable, Begun, Evaluated, Rounded, Closing, Answered, Judged};
 
 // The number of a position on a lasso (document 01: a place), kept apart from subformulas.
 pub struct Position(pub usize);
@@ -45,13 +46,6 @@ fn classify(op: u8) -> Kind
         10 => Kind::Fixpoint(true),
         _ => Kind::Leaf,
     }
-}
-
-// The opcode of true or false.
-fn constant(on: bool) -> u8
-    ensures { λ r. ⌜ opcode r ≡ Opcode.constant on ⌝ }
-{
-    if on { 1 } else { 2 }
 }
 
 // A bit of a word; from 64 on there are none.
@@ -150,118 +144,268 @@ fn outside(op: u8, argument: u8, s: Subformula) -> bool
     false
 }
 
-// Whether s can be left as it is: it was labelled before, and no variable in it names a fixpoint around it.
-fn finished(rows: &[u8; 144], s: Subformula, again: bool) -> bool
+// Whether no variable in s names a fixpoint around it.
+fn closed(rows: &[u8; 144], s: Subformula) -> bool
     requires { ⌜ Held (now rows) (s .0) ⌝ }
-    ensures { λ r. ⌜ (r ≡ true → Finished (now (rows .entry)) (s .0) again) ⌝ }
-{
-    if again {
-        let e = s.0;
-        let end = base::wide(rows[96 + e]);
-        let mut k = e;
-        while k < end {
-            if outside(rows[k], rows[48 + k], s) {
-                return false;
-            }
-            k += 1;
-        }
-        return true;
-    }
-    false
-}
-
-// Or of a and b if `either` says so, else and.
-fn join(either: bool, a: bool, b: bool) -> bool
-    ensures { λ r. ⌜ r ≡ joined either a b ⌝ }
-{
-    if either {
-        return a | b;
-    }
-    a & b
-}
-
-// Whether s holds at a position as far as the words tell: a fixpoint by its own bit, a variable by its binder's, all else worked out from
-// these. So it sees at once what the rounds would carry from word to word.
-fn value(
-    rows: &[u8; 144],
-    letters: &[u16],
-    stem: usize,
-    words: &[u64],
-    s: Subformula,
-    p: Position,
-) -> bool
-    requires { ⌜ Held (now rows) (s .0) ⌝ }
-    requires { ⌜ Room (length (now letters)) stem (length (now words)) ⌝ }
-    requires { ⌜ p .0 < length (now letters) ⌝ }
-    ensures { λ r. ⌜ Seen (now (rows .entry)) (lasso (now (letters .entry)) stem) (now (words .entry)) (s .0) (p .0) r ⌝ }
+    ensures { λ r. ⌜ Closes (now (rows .entry)) (s .0) r ⌝ }
 {
     let e = s.0;
-    let i = p.0;
-    let op = rows[e];
-    let argument = rows[48 + e];
-    let kind = classify(op);
-    match kind {
-        Kind::Leaf => {
-            return holds_at(op, argument, s, letters[i], words[i], 0);
+    let end = base::wide(rows[96 + e]);
+    let mut k = e;
+    while k < end {
+        if outside(rows[k], rows[48 + k], s) {
+            return false;
         }
-        Kind::Next => {
-            let next = successor(Position(i), letters.len(), stem);
-            return value(rows, letters, stem, words, Subformula(e + 1), next);
+        k += 1;
+    }
+    true
+}
+
+// The columns that the rounds of a fixpoint move, as a list in which each stands behind those that it needs at the same position.
+struct Moving {
+    list: [u8; 48],
+    count: usize,
+}
+
+// The subformulas of s that stand in no closed subformula inside it, as the bits of a word.
+fn open_in(rows: &[u8; 144], s: Subformula) -> u64
+    requires { ⌜ Held (now rows) (s .0) ⌝ }
+    ensures { λ r. ⌜ Open (now (rows .entry)) (s .0) r ⌝ }
+{
+    let e = s.0;
+    let end = base::wide(rows[96 + e]);
+    let mut mask = base::power(e);
+    let mut k = e + 1;
+    while k < end {
+        if closed(rows, Subformula(k)) {
+            k = base::wide(rows[96 + k]);
+        } else {
+            mask = mask | base::power(k);
+            k += 1;
         }
-        Kind::Pair => {
-            let a = value(rows, letters, stem, words, Subformula(e + 1), Position(i));
-            let right = Subformula(base::wide(argument));
-            let b = value(rows, letters, stem, words, right, Position(i));
-            return join(op == 6, a, b);
+    }
+    mask
+}
+
+// Whether an operator is a next that reaches past subformula s.
+fn spans(op: u8, end: u8, s: Subformula) -> usize
+    ensures { λ r. ⌜ r ≤ 1 ⌝ }
+{
+    base::one_if((op == 8) & (s.0 < base::wide(end)))
+}
+
+// How many nexts stand around s.
+fn depth(rows: &[u8; 144], s: Subformula) -> usize
+    requires { ⌜ s .0 < 48 ⌝ }
+    ensures { λ r. ⌜ r ≤ s .0 ⌝ }
+{
+    let e = s.0;
+    let mut count = 0usize;
+    let mut k = 0;
+    while k < e {
+        count += spans(rows[k], rows[96 + k], s);
+        k += 1;
+    }
+    count
+}
+
+// Puts a key among the first `count` keys, which rise.
+fn insert(keys: &mut [usize], count: usize, key: usize)
+    requires { ⌜ count < length (now keys) ⌝ }
+{
+    let mut carried = key;
+    let mut j = 0;
+    while j < count {
+        let held = keys[j];
+        if carried < held {
+            keys[j] = carried;
+            carried = held;
+            j += 1;
+        } else {
+            j += 1;
         }
-        Kind::Fixpoint(_) => {
-            return base::has(words[i], e);
+    }
+    keys[count] = carried;
+}
+
+// The order in which a pass takes subformulas: fewer nexts around first, and then the later number. Since a next stands between a fixpoint
+// and its variables, each then stands behind what it needs at the same position. A key is 64 times the nexts, and 63 less the number.
+fn order(rows: &[u8; 144]) -> [usize; 48]
+    requires { ⌜ Held (now rows) 0 ⌝ }
+{
+    let end = base::wide(rows[96]);
+    let mut keys = [0usize; 48];
+    let mut k = 0;
+    while k < end {
+        let key = 64 * depth(rows, Subformula(k)) + (63 - k);
+        insert(&mut keys, k, key);
+        k += 1;
+    }
+    keys
+}
+
+// The subformulas of a mask, in the order of the keys.
+fn listed(keys: &[usize; 48], mask: u64) -> Moving
+    ensures { λ r. ⌜ Listed mask (r .list) (r .count) ⌝ }
+{
+    let mut list = [0u8; 48];
+    let mut count = 0usize;
+    let mut j = 0;
+    while j < 48 {
+        let k = 63 - keys[j] % 64;
+        if base::has(mask, k) {
+            list[count] = k as u8;
+            count += 1;
+            j += 1;
+        } else {
+            j += 1;
         }
+    }
+    Moving { list, count }
+}
+
+// A word with the bits of a mask as told.
+fn with_all(word: u64, mask: u64, on: bool) -> u64
+    ensures { λ r. ⌜ ((k : ℕ) → bit r k ≡ cond (bit mask k) on (bit word k)) ⌝ }
+{
+    if on {
+        return word | mask;
+    }
+    (word | mask) ^ mask
+}
+
+// The first n words with the bits of a mask as told.
+fn fill(words: &mut [u64], n: usize, mask: u64, on: bool)
+    requires { ⌜ n ≤ length (now words) ⌝ }
+    ensures { λ _. ⌜ Filled n mask on (now (words .entry)) (now (words .exit)) ⌝ }
+{
+    let mut i = 0;
+    while i < n {
+        words[i] = with_all(words[i], mask, on);
+        i += 1;
     }
 }
 
-// Moves the set of the fixpoint s on, from the last position to the first, wherever its body says so of the words as they stand. A round
-// would move a position only by its successor's word before the round; this moves a whole chain of positions at once.
+// The word with bit k moved away from the value that the rounds start from, where its operator says so.
+fn moved(word: u64, k: usize, on: bool, greatest: bool) -> u64
+    requires { ⌜ k < 64 ⌝ }
+    ensures { λ r. ⌜ ((j : ℕ) → bit r j ≡ cond (eqb j k) (joined (not greatest) (bit word k) on) (bit word j)) ⌝ }
+{
+    if greatest {
+        if on {
+            return word;
+        }
+        return base::with(word, k, false);
+    }
+    if on {
+        return base::with(word, k, true);
+    }
+    word
+}
+
+// One position of a pass: each listed bit of the word there is moved where its operator says so, the bits before it already moved.
+fn turned(
+    rows: &[u8; 144],
+    list: &[u8; 48],
+    count: usize,
+    letter: u16,
+    word: u64,
+    there: u64,
+    greatest: bool,
+) -> u64
+    requires { ⌜ Few (now list) count ⌝ }
+    ensures { λ r. ⌜ Turned (now (rows .entry)) (now (list .entry)) count letter there greatest word r ⌝ }
+{
+    let mut here = word;
+    let mut j = 0;
+    while j < count {
+        let k = base::wide(list[j]);
+        let on = holds_at(rows[k], rows[48 + k], Subformula(k), letter, here, there);
+        here = moved(here, k, on, greatest);
+        j += 1;
+    }
+    here
+}
+
+// Moves the listed columns on, from the last position to the first, wherever their operators say so of the words as they stand. A round
+// would move a position only by its successor's word before the round; this carries a change along the whole stem and round the cycle.
 fn pass(
     rows: &[u8; 144],
     letters: &[u16],
     stem: usize,
     words: &mut [u64],
-    s: Subformula,
+    list: &[u8; 48],
+    count: usize,
     greatest: bool,
 )
-    requires { ⌜ Held (now rows) (s .0) ⌝ }
+    requires { ⌜ Few (now list) count ⌝ }
     requires { ⌜ Room (length (now letters)) stem (length (now words)) ⌝ }
-    requires { ⌜ kind-of (operator-at (now rows) (s .0)) ≡ Kind.Fixpoint greatest ⌝ }
-    ensures { λ _. ⌜ Passed (now (rows .entry)) (lasso (now (letters .entry)) stem) greatest (s .0) (now (words .entry)) (now (words .exit)) ⌝ }
+    ensures { λ _. ⌜ Passed (now (rows .entry)) (lasso (now (letters .entry)) stem) (now (list .entry)) count greatest (now (words .entry)) (now (words .exit)) ⌝ }
 {
-    let e = s.0;
     let mut i = letters.len();
     while 0 < i {
         i -= 1;
-        let on = value(rows, letters, stem, words, Subformula(e + 1), Position(i));
-        let here = words[i];
-        let moved = join(!greatest, base::has(here, e), on);
-        words[i] = base::with(here, e, moved);
+        let next = successor(Position(i), letters.len(), stem);
+        let j = next.0;
+        let there = words[j];
+        words[i] = turned(rows, list, count, letters[i], words[i], there, greatest);
     }
 }
 
-// Labels s and every subformula inside it. Where again holds, they were labelled before, with other sets of the fixpoints around s.
-fn label(
+// Makes the columns that the rounds of the fixpoint s move the set from which they start, and takes the first pass.
+fn begin(
     rows: &[u8; 144],
+    keys: &[usize; 48],
     letters: &[u16],
     stem: usize,
     words: &mut [u64],
     s: Subformula,
-    again: bool,
+    greatest: bool,
+) -> Moving
+    requires { ⌜ Held (now rows) (s .0) ⌝ }
+    requires { ⌜ Room (length (now letters)) stem (length (now words)) ⌝ }
+    ensures { λ r. ⌜ Begun (now (rows .entry)) (lasso (now (letters .entry)) stem) greatest (s .0) (r .list) (r .count) (now (words .entry)) (now (words .exit)) ⌝ }
+{
+    let mask = open_in(rows, s);
+    let moving = listed(keys, mask);
+    let list = moving.list;
+    fill(words, letters.len(), mask, greatest);
+    pass(rows, letters, stem, words, &list, moving.count, greatest);
+    moving
+}
+
+// Labels s and every subformula inside it, where closed ones are labelled already.
+fn label(
+    rows: &[u8; 144],
+    keys: &[usize; 48],
+    letters: &[u16],
+    stem: usize,
+    words: &mut [u64],
+    s: Subformula,
 )
     requires { ⌜ Held (now rows) (s .0) ⌝ }
     requires { ⌜ Room (length (now letters)) stem (length (now words)) ⌝ }
-    ensures { λ _. ⌜ Evaluated (now (rows .entry)) (lasso (now (letters .entry)) stem) again (s .0) (now (words .entry)) (now (words .exit)) ⌝ }
+    ensures { λ _. ⌜ Evaluated (now (rows .entry)) (lasso (now (letters .entry)) stem) (s .0) (s .0) (now (words .entry)) (now (words .exit)) ⌝ }
 {
-    if finished(rows, s, again) {
+    if closed(rows, s) {
         return;
     }
+    label_open(rows, keys, letters, stem, words, s);
+}
+
+// The same where only the closed subformulas inside s are labelled.
+fn label_open(
+    rows: &[u8; 144],
+    keys: &[usize; 48],
+    letters: &[u16],
+    stem: usize,
+    words: &mut [u64],
+    s: Subformula,
+)
+    requires { ⌜ Held (now rows) (s .0) ⌝ }
+    requires { ⌜ Room (length (now letters)) stem (length (now words)) ⌝ }
+    ensures { λ _. ⌜ Evaluated (now (rows .entry)) (lasso (now (letters .entry)) stem) (s .0 + 1) (s .0) (now (words .entry)) (now (words .exit)) ⌝ }
+{
     let e = s.0;
     let op = rows[e];
     let argument = rows[48 + e];
@@ -271,54 +415,83 @@ fn label(
             sweep(letters, stem, words, s, op, argument);
         }
         Kind::Next => {
-            label(rows, letters, stem, words, Subformula(e + 1), again);
+            label(rows, keys, letters, stem, words, Subformula(e + 1));
             sweep(letters, stem, words, s, op, argument);
         }
         Kind::Pair => {
-            label(rows, letters, stem, words, Subformula(e + 1), again);
+            label(rows, keys, letters, stem, words, Subformula(e + 1));
             let right = Subformula(base::wide(argument));
-            label(rows, letters, stem, words, right, again);
+            label(rows, keys, letters, stem, words, right);
             sweep(letters, stem, words, s, op, argument);
         }
         Kind::Fixpoint(greatest) => {
-            sweep(letters, stem, words, s, constant(greatest), 0);
-            rounds(rows, letters, stem, words, s, greatest, again);
+            let moving = begin(rows, keys, letters, stem, words, s, greatest);
+            if rounds(
+                rows,
+                keys,
+                letters,
+                stem,
+                words,
+                s,
+                greatest,
+                moving,
+                letters.len(),
+            ) {
+                label(rows, keys, letters, stem, words, Subformula(e + 1));
+                return;
+            }
         }
     }
 }
 
-// The rounds of the fixpoint s, from the set that the words have for it: as many as there are positions, or fewer where a round changes
-// nothing. After each a pass moves the set further toward the fixpoint's. What is inside is left as the final set makes it.
+// So many rounds of the fixpoint s, a pass behind each: one half of them, and the other if the set still moves. True if it does to the end;
+// false if a round changed nothing, which leaves s and all inside it labelled.
 fn rounds(
     rows: &[u8; 144],
+    keys: &[usize; 48],
     letters: &[u16],
     stem: usize,
     words: &mut [u64],
     s: Subformula,
     greatest: bool,
-    again: bool,
-)
+    moving: Moving,
+    left: usize,
+) -> bool
     requires { ⌜ Held (now rows) (s .0) ⌝ }
     requires { ⌜ Room (length (now letters)) stem (length (now words)) ⌝ }
     requires { ⌜ kind-of (operator-at (now rows) (s .0)) ≡ Kind.Fixpoint greatest ⌝ }
-    ensures { λ _. ⌜ Settled (now (rows .entry)) (lasso (now (letters .entry)) stem) again greatest (s .0) (now (words .entry)) (now (words .exit)) ⌝ }
+    requires { ⌜ Movable (now rows) (s .0) (moving .list) (moving .count) ⌝ }
+    requires { ⌜ left ≤ length (now letters) ⌝ }
+    ensures { λ r. ⌜ Rounded (now (rows .entry)) (lasso (now (letters .entry)) stem) greatest (s .0) left (now (words .entry)) (now (words .exit)) r ⌝ }
 {
-    let e = s.0;
-    let op = rows[e];
-    let argument = rows[48 + e];
-    let mut known = again;
-    let mut left = letters.len();
-    while 0 < left {
-        label(rows, letters, stem, words, Subformula(e + 1), known);
-        if sweep(letters, stem, words, s, op, argument) {
-            pass(rows, letters, stem, words, s, greatest);
-            known = true;
-            left -= 1;
-        } else {
-            return;
-        }
+    if left == 0 {
+        return true;
     }
-    label(rows, letters, stem, words, Subformula(e + 1), known);
+    if left == 1 {
+        let e = s.0;
+        label(rows, keys, letters, stem, words, Subformula(e + 1));
+        if sweep(letters, stem, words, s, rows[e], rows[48 + e]) {
+            let list = moving.list;
+            pass(rows, letters, stem, words, &list, moving.count, greatest);
+            return true;
+        }
+        return false;
+    }
+    let half = left / 2;
+    if rounds(rows, keys, letters, stem, words, s, greatest, moving, half) {
+        return rounds(
+            rows,
+            keys,
+            letters,
+            stem,
+            words,
+            s,
+            greatest,
+            moving,
+            left - half,
+        );
+    }
+    false
 }
 
 fn clear(words: &mut [u64], n: usize)
@@ -332,14 +505,37 @@ fn clear(words: &mut [u64], n: usize)
     }
 }
 
-// Labels the whole formula and tells its truth at position 0.
+// Labels s if it is closed.
+fn close(
+    rows: &[u8; 144],
+    keys: &[usize; 48],
+    letters: &[u16],
+    stem: usize,
+    words: &mut [u64],
+    s: Subformula,
+)
+    requires { ⌜ Held (now rows) (s .0) ⌝ }
+    requires { ⌜ Room (length (now letters)) stem (length (now words)) ⌝ }
+    ensures { λ _. ⌜ Closing (now (rows .entry)) (lasso (now (letters .entry)) stem) (s .0) (now (words .entry)) (now (words .exit)) ⌝ }
+{
+    if closed(rows, s) {
+        label_open(rows, keys, letters, stem, words, s);
+    }
+}
+
+// Labels the whole formula, each closed subformula after those inside it, and tells its truth at position 0.
 fn whole(rows: &[u8; 144], letters: &[u16], stem: usize, words: &mut [u64]) -> bool
     requires { ⌜ Held (now rows) 0 ⌝ }
     requires { ⌜ Room (length (now letters)) stem (length (now words)) ⌝ }
     ensures { λ r. ⌜ Answered (now (rows .entry)) (lasso (now (letters .entry)) stem) r (now (words .entry)) (now (words .exit)) ⌝ }
 {
     clear(words, letters.len());
-    label(rows, letters, stem, words, Subformula(0), false);
+    let keys = order(rows);
+    let mut k = base::wide(rows[96]);
+    while 0 < k {
+        k -= 1;
+        close(rows, &keys, letters, stem, words, Subformula(k));
+    }
     base::has(words[0], 0)
 }
 

@@ -32,16 +32,26 @@ loop-less c = search needs
 
 loop-again : tie.Need-loop-again Inv-loop μ-loop
 loop-again c =
-    let inv = c .before .loop .inv in
-    (omega arith, (length-set (c .before .loop .words) (c .before .loop .i) 0 ∙ inv .1 .0, ap (λ (l : List ℕ). set l (c .before .loop .i) 0) (inv .1 .1) ∙ fill-more (c .before .loop .i) 0 (c .before .before .args .words .now) (omega (arith, c .before .before .pre))))
+    let start = c .before .before in
+    let inv = c .before .loop .inv in (
+      omega arith,
+      (
+        length-set (c .before .loop .words) (c .before .loop .i) 0 ∙ inv .1 .0,
+        ap
+            (λ (l : List ℕ). set l (c .before .loop .i) 0) (inv .1 .1) ∙ fill-more (c .before .loop .i) 0 (start .args .words .now)
+            (omega (arith, start .pre)),
+      ),
+    )
 
 same-length : tie.Need-same-length Inv-loop μ-loop
 same-length c = search needs
 
 returns : tie.Need-returns Inv-loop μ-loop
 returns c =
+    let start = c .before .before in
     let inv = c .before .loop .inv in
-    inv .1 .1 ∙ ap (λ (k : ℕ). replicate k 0 ++ drop k (c .before .before .args .words .now)) {x = c .before .loop .i} {y = c .before .before .args .n} (omega (arith, c .loop-test .left))
+    inv .1 .1 ∙ ap (λ (k : ℕ). replicate k 0 ++ drop k (start .args .words .now)) {x = c .before .loop .i} {y = start .args .n}
+    (omega (arith, c .loop-test .left))
 
 pub clear-spec : {M : Type 1} → statement M
 clear-spec =

@@ -14,16 +14,24 @@ enum-told : tie.Need-enum-told
 enum-told c = search needs
 
 judge-requires : tie.Need-judge-requires
-judge-requires c κs = read-held _ _ (c .before .before .before .before .read .ensures .0) (c .before .enum-told .given .1)
+judge-requires c κs =
+    let read = c .before .before .before .before .read in
+    read-held _ _ (read .ensures .0) (c .before .enum-told .given .1)
 
 returns : tie.Need-returns
-returns c = truth-unread _ _ _ (c .before .before .before .before .read .result) (c .before .before .before .before .read .ensures .0) _ (c .before .outcome .given .1)
+returns c =
+    let read = c .before .before .before .before .read in
+    truth-unread _ _ _ (read .result) (read .ensures .0) _ (c .before .outcome .given .1)
 
 same-length : tie.Need-same-length
 same-length c = search needs
 
 returns-2 : tie.Need-returns-2
-returns-2 c = truth-read _ _ _ (c .before .before .before .before .before .before .before .read .result) (c .before .before .before .before .before .before .before .read .ensures .0) (c .before .before .before .before .enum-told .given .1) _ _ (c .before .before .judge .ensures)
+returns-2 c =
+    let read = c .before .before .before .before .before .before .before .read in
+    let enum-told = c .before .before .before .before .enum-told in
+    let judge = c .before .before .judge in
+    truth-read _ _ _ (read .result) (read .ensures .0) (enum-told .given .1) _ _ (judge .ensures)
 
 pub evaluate-spec : {M : Type 1} → statement M
 evaluate-spec =

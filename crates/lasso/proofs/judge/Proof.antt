@@ -20,7 +20,12 @@ same-length : tie.Need-same-length
 same-length c = search needs
 
 returns-4 : tie.Need-returns-4
-returns-4 c = judged _ _ _ _ _ (c .before .before .before .before .before .before .before .before .if1 .left) (c .before .before .before .before .before .before .before .if2 .left) (c .before .before .before .before .before .before .if3 .left) (c .before .before .whole .ensures)
+returns-4 c =
+    let if1 = c .before .before .before .before .before .before .before .before .if1 in
+    let if2 = c .before .before .before .before .before .before .before .if2 in
+    let if3 = c .before .before .before .before .before .before .if3 in
+    let whole = c .before .before .whole in
+    judged _ _ _ _ _ (if1 .left) (if2 .left) (if3 .left) (whole .ensures)
 
 pub judge-spec : {M : Type 1} → statement M
 judge-spec = tie.close (tie.spec returns returns-2 returns-3 whole-requires same-length returns-4)

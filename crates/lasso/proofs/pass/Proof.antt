@@ -1,62 +1,83 @@
--- `lasso::pass`: each word passed keeps the promise, so the loop's invariant is the promise of the words so far. Assumes nothing.
+-- `lasso::pass`: each position keeps the promise, so the loop's invariant is the promise of the words so far. Assumes nothing.
 use borrow.Author.Needs.{needs}
 use native.Mathlib.Omega.{arith}
-use Prim.Native.Nat.{_≤_}
+use Prim.Native.Nat.{_-_, _≤_}
 use lib.ListN.{length}
 use Rattle.lasso.specs.Answer.{lasso}
 use Rattle.lasso.specs.Promise.{Passed}
-use Rattle.lasso.proofs.CodeWritten.{few, body-operand, same-room}
 use Rattle.lasso.proofs.CodePass.{passed-none, passed-more}
 use Rattle.lasso.proofs.pass.Statement.{statement}
 use Rattle.lasso.proofs.pass.Tie as tie
 
 abbrev Inv-loop : tie.InvT-loop
-Inv-loop rows letters stem words₀ greatest e i₀ words i = (i ≤ length letters) × Passed rows (lasso letters stem) greatest e words₀ words
+Inv-loop rows letters stem words₀ list count greatest i₀ words i =
+    (i ≤ length letters) × Passed rows (lasso letters stem) list count greatest words₀ words
 
 abbrev μ-loop : tie.MeasureT-loop
-μ-loop rows letters stem words₀ greatest e i₀ words i = i
+μ-loop rows letters stem words₀ list count greatest i₀ words i = i
 
 loop-holds : tie.Need-loop-holds Inv-loop μ-loop
-loop-holds c = (omega arith, passed-none _ _ _ _ _)
+loop-holds c = (omega arith, passed-none _ _ _ _ _ _)
 
 sub-i : tie.Need-sub-i Inv-loop μ-loop
 sub-i c = search needs
 
-add-here : tie.Need-add-here Inv-loop μ-loop
-add-here c = omega (arith, few _ _ (c .before .before .before .before .before .pre .0))
+successor-requires : tie.Need-successor-requires Inv-loop μ-loop
+successor-requires c κs = (omega (arith, c .before .loop .inv .0), c .before .before .before .before .pre .1 .cycle)
 
-value-requires : tie.Need-value-requires Inv-loop μ-loop
-value-requires c κs = let p = c .before .before .before .before .before .pre in (body-operand _ _ (p .0) _ (p .1 .1) .held, (same-room _ _ _ _ (p .1 .0) (omega (arith, p .1 .0 .words, c .before .before .loop .inv .1 .kept .long)), omega arith))
+mul-there : tie.Need-mul-there Inv-loop μ-loop
+mul-there c = search needs
 
-mul-here : tie.Need-mul-here Inv-loop μ-loop
-mul-here c = search needs
+slice-read-there : tie.Need-slice-read-there Inv-loop μ-loop
+slice-read-there c =
+    let start = c .before .before .before .before .before .before in
+    let loop = c .before .before .before .loop in
+    omega (arith, c .before .successor .ensures .1, start .pre .1 .words, loop .inv .1 .long)
 
-slice-read-here : tie.Need-slice-read-here Inv-loop μ-loop
-slice-read-here c = omega (arith, c .before .before .before .before .before .before .before .pre .1 .0 .words, c .before .before .before .before .loop .inv .0, c .before .before .before .before .loop .inv .1 .kept .long)
+mul-turned : tie.Need-mul-turned Inv-loop μ-loop
+mul-turned c = search needs
 
-has-requires : tie.Need-has-requires Inv-loop μ-loop
-has-requires c κs = omega (arith, few _ _ (c .before .before .before .before .before .before .before .pre .0))
+shared-slice-read-turned : tie.Need-shared-slice-read-turned Inv-loop μ-loop
+shared-slice-read-turned c = omega (arith, c .before .before .before .before .loop .inv .0)
 
-join-requires : tie.Need-join-requires Inv-loop μ-loop
-join-requires c κs = search needs
+mul-turned-2 : tie.Need-mul-turned-2 Inv-loop μ-loop
+mul-turned-2 c = search needs
 
-with-requires : tie.Need-with-requires Inv-loop μ-loop
-with-requires c κs = omega (arith, few _ _ (c .before .before .before .before .before .before .before .before .before .pre .0))
+slice-read-turned : tie.Need-slice-read-turned Inv-loop μ-loop
+slice-read-turned c =
+    let loop = c .before .before .before .before .before .loop in
+    let start = c .before .before .before .before .before .before .before .before in
+    omega (arith, loop .inv .0, start .pre .1 .words, loop .inv .1 .long)
+
+turned-requires : tie.Need-turned-requires Inv-loop μ-loop
+turned-requires c κs =
+    let start = c .before .before .before .before .before .before .before .before in
+    start .pre .0
 
 mul-words : tie.Need-mul-words Inv-loop μ-loop
 mul-words c = search needs
 
 slice-write-words : tie.Need-slice-write-words Inv-loop μ-loop
-slice-write-words c = omega (arith, c .before .before .before .before .before .before .before .before .before .before .pre .1 .0 .words, c .before .before .before .before .before .before .before .loop .inv .0, c .before .before .before .before .before .before .before .loop .inv .1 .kept .long)
+slice-write-words c =
+    let loop = c .before .before .before .before .before .before .loop in
+    let start = c .before .before .before .before .before .before .before .before .before in
+    omega (arith, loop .inv .0, start .pre .1 .words, loop .inv .1 .long)
 
 loop-less : tie.Need-loop-less Inv-loop μ-loop
 loop-less c = search needs
 
 loop-again : tie.Need-loop-again Inv-loop μ-loop
-loop-again c = (omega (arith, c .before .before .before .before .before .before .before .loop .inv .0), passed-more _ _ _ _ _ _ (c .before .before .before .before .before .before .before .before .before .before .pre .1 .0 .words) (c .before .before .before .before .before .before .before .loop .inv .1) _ (omega (arith, c .before .before .before .before .before .before .before .loop .inv .0)) _ _ _ (c .before .before .before .before .value .ensures) (c .before .before .has .ensures) (c .before .join .ensures) _ (c .with .ensures))
+loop-again c =
+    let loop = c .before .before .before .before .before .before .loop in
+    let start = c .before .before .before .before .before .before .before .before .before in
+    let successor = c .before .before .before .before .successor in (
+      omega (arith, loop .inv .0),
+      passed-more _ _ _ _ _ _ _ _ _ _ (start .pre .1 .cycle) (start .pre .1 .words) (loop .inv .1)
+          (omega (arith, loop .inv .0)) (successor .ensures .0) (c .turned .ensures),
+    )
 
 same-length : tie.Need-same-length Inv-loop μ-loop
-same-length c = c .before .loop .inv .1 .kept .long
+same-length c = c .before .loop .inv .1 .long
 
 returns : tie.Need-returns Inv-loop μ-loop
 returns c = c .before .loop .inv .1
@@ -69,13 +90,14 @@ pass-spec =
     μ-loop
     loop-holds
     sub-i
-    add-here
-    value-requires
-    mul-here
-    slice-read-here
-    has-requires
-    join-requires
-    with-requires
+    successor-requires
+    mul-there
+    slice-read-there
+    mul-turned
+    shared-slice-read-turned
+    mul-turned-2
+    slice-read-turned
+    turned-requires
     mul-words
     slice-write-words
     loop-less

@@ -13,7 +13,9 @@ use Rattle.lasso.proofs.sweep.Statement.{statement}
 use Rattle.lasso.proofs.sweep.Tie as tie
 
 abbrev Inv-loop : tie.InvT-loop
-Inv-loop letters stem words₀ s op argument e n changed₀ i₀ words changed i = (i ≤ n) × (Swept i e (local-at (lasso letters stem) (operator-of (opcode op) argument e) words₀) words₀ words × (changed ≡ false → words ≡ words₀))
+Inv-loop letters stem words₀ s op argument e n changed₀ i₀ words changed i =
+    (i ≤ n) × (Swept i e (local-at (lasso letters stem) (operator-of (opcode op) argument e) words₀) words₀ words ×
+    (changed ≡ false → words ≡ words₀))
 
 abbrev μ-loop : tie.MeasureT-loop
 μ-loop letters stem words₀ s op argument e n changed₀ i₀ words changed i = n - i
@@ -56,9 +58,20 @@ loop-less c = search needs
 
 loop-again : tie.Need-loop-again Inv-loop μ-loop
 loop-again c =
-    let inv = c .before .before .before .before .before .before .before .before .loop .inv in
-    let start = c .before .before .before .before .before .before .before .before .before .before .before .args in
-    (omega arith, (swept-same _ _ _ _ _ (inv .1 .0) _ _ (omega arith) (c .before .with .ensures) (as-before (lasso (start .letters .now) (start .stem)) (opcode (start .op)) (start .argument) _ _ _ _ _ _ _ (inv .1 .0) (c .before .before .before .before .before .before .successor .ensures .0) (c .before .before .holds-at .ensures)) (c .if1 .taken), inv .1 .1))
+    let loop = c .before .before .before .before .before .before .before .before .loop in
+    let start = c .before .before .before .before .before .before .before .before .before .before .before in
+    let successor = c .before .before .before .before .before .before .successor in
+    let holds-at = c .before .before .holds-at in
+    let inv = loop .inv in
+    let start = start .args in (
+      omega arith,
+      (
+        swept-same _ _ _ _ _ (inv .1 .0) _ _ (omega arith) (c .before .with .ensures)
+            (as-before (lasso (start .letters .now) (start .stem)) (opcode (start .op)) (start .argument) _ _ _ _ _ _ _ (inv .1 .0)
+            (successor .ensures .0) (holds-at .ensures)) (c .if1 .taken),
+        inv .1 .1,
+      ),
+    )
 
 mul-words : tie.Need-mul-words Inv-loop μ-loop
 mul-words c = search needs
@@ -74,15 +87,27 @@ loop-less-2 c = search needs
 
 loop-again-2 : tie.Need-loop-again-2 Inv-loop μ-loop
 loop-again-2 c =
-    let inv = c .before .before .before .before .before .before .before .before .loop .inv in
-    let start = c .before .before .before .before .before .before .before .before .before .before .before .args in
-    (omega arith, (swept-put _ _ _ _ _ (inv .1 .0) _ _ (omega arith) (c .before .with .ensures) (as-before (lasso (start .letters .now) (start .stem)) (opcode (start .op)) (start .argument) _ _ _ _ _ _ _ (inv .1 .0) (c .before .before .before .before .before .before .successor .ensures .0) (c .before .before .holds-at .ensures)), λ q. absurd (true≢false q)))
+    let loop = c .before .before .before .before .before .before .before .before .loop in
+    let start = c .before .before .before .before .before .before .before .before .before .before .before in
+    let successor = c .before .before .before .before .before .before .successor in
+    let holds-at = c .before .before .holds-at in
+    let inv = loop .inv in
+    let start = start .args in (
+      omega arith,
+      (
+        swept-put _ _ _ _ _ (inv .1 .0) _ _ (omega arith) (c .before .with .ensures)
+            (as-before (lasso (start .letters .now) (start .stem)) (opcode (start .op)) (start .argument) _ _ _ _ _ _ _ (inv .1 .0)
+            (successor .ensures .0) (holds-at .ensures)),
+        λ q. absurd (true≢false q),
+      ),
+    )
 
 same-length : tie.Need-same-length Inv-loop μ-loop
 same-length c = search needs
 
 returns : tie.Need-returns Inv-loop μ-loop
-returns c = (swept-end _ _ _ (c .before .loop .inv .0) (c .loop-test .left) (c .before .loop .inv .1 .0), c .before .loop .inv .1 .1)
+returns c =
+    (swept-end _ _ _ (c .before .loop .inv .0) (c .loop-test .left) (c .before .loop .inv .1 .0), c .before .loop .inv .1 .1)
 
 pub sweep-spec : {M : Type 1} → statement M
 sweep-spec =

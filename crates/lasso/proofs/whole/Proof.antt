@@ -1,28 +1,90 @@
--- `lasso::whole`: the words are cleared, and the formula labelled in them. Assumes nothing.
-use Rattle.lasso.proofs.CodeWords.{answered}
+-- `lasso::whole`: the words are cleared, and closed subformulas labelled from the last to the first, which is the whole formula. Assumes nothing.
 use borrow.Author.Needs.{needs}
+use native.Mathlib.Omega.{arith}
+use Prim.Native.Nat.{_-_}
+use Rattle.lasso.specs.Answer.{lasso}
+use Rattle.lasso.proofs.CodeWritten.{same-room}
+use Rattle.lasso.proofs.CodeOpen.{held-inside}
+use Rattle.lasso.proofs.CodeWords.{Labelling, labelling-none, labelling-more, labelling-all, answered}
 use Rattle.lasso.proofs.whole.Statement.{statement}
 use Rattle.lasso.proofs.whole.Tie as tie
 
-clear-requires : tie.Need-clear-requires
+abbrev Inv-loop : tie.InvT-loop
+Inv-loop rows letters stem words₀ keys k₀ words k = Labelling rows (lasso letters stem) words₀ k words
+
+abbrev μ-loop : tie.MeasureT-loop
+μ-loop rows letters stem words₀ keys k₀ words k = k
+
+clear-requires : tie.Need-clear-requires Inv-loop μ-loop
 clear-requires c κs = search needs
 
-label-requires : tie.Need-label-requires
-label-requires c κs = search needs
+order-requires : tie.Need-order-requires Inv-loop μ-loop
+order-requires c κs = search needs
 
-slice-read-has : tie.Need-slice-read-has
+element-copy-out-wide : tie.Need-element-copy-out-wide Inv-loop μ-loop
+element-copy-out-wide c = search needs
+
+wide-requires : tie.Need-wide-requires Inv-loop μ-loop
+wide-requires c κs = search needs
+
+loop-holds : tie.Need-loop-holds Inv-loop μ-loop
+loop-holds c = labelling-none _ _ _ _ (c .wide .ensures)
+
+sub-k : tie.Need-sub-k Inv-loop μ-loop
+sub-k c = search needs
+
+close-requires : tie.Need-close-requires Inv-loop μ-loop
+close-requires c κs =
+    let start = c .before .before .before .before .before .before .before .before .before .before .before .before .before in
+    let loop = c .before .before .before .loop in (
+      held-inside _ _ (start .pre .0) _ (omega arith) (omega (arith, loop .inv .few)),
+      same-room _ _ _ _ (start .pre .1)
+          (omega (arith, start .pre .1 .words)),
+    )
+
+loop-less : tie.Need-loop-less Inv-loop μ-loop
+loop-less c = search needs
+
+loop-again : tie.Need-loop-again Inv-loop μ-loop
+loop-again c =
+    let start = c .before .before .before .before .before .before .before .before .before .before .before .before .before .before .before .before in
+    let loop = c .before .before .before .before .before .before .loop in
+    let close = c .before .before .close in
+    labelling-more _ _ _ _ _ _ _ (start .pre .0) (omega arith) (loop .inv) (close .ensures)
+
+slice-read-has : tie.Need-slice-read-has Inv-loop μ-loop
 slice-read-has c = search needs
 
-has-requires : tie.Need-has-requires
+has-requires : tie.Need-has-requires Inv-loop μ-loop
 has-requires c κs = search needs
 
-same-length : tie.Need-same-length
+same-length : tie.Need-same-length Inv-loop μ-loop
 same-length c = search needs
 
-returns : tie.Need-returns
-returns c = answered _ _ _ _ _ _ (c .before .before .before .before .before .before .before .before .before .before .before .before .pre .1) (c .before .before .before .before .before .before .before .before .clear .ensures) (c .before .before .before .before .label .ensures) (c .has .ensures)
+returns : tie.Need-returns Inv-loop μ-loop
+returns c =
+    let start = c .before .before .before .before .before .before .before .before .before .before .before .before .before in
+    let clear = c .before .before .before .before .before .before .before .before .before .clear in
+    let test = c .before .before .loop-test in
+    let loop = c .before .before .before .loop in
+    answered _ _ _ _ _ _ (start .pre .1) (clear .ensures) (labelling-all _ _ _ _ _ (test .left) (loop .inv)) (c .has .ensures)
 
 pub whole-spec : {M : Type 1} → statement M
 whole-spec =
     tie.close
-    (tie.spec clear-requires label-requires slice-read-has has-requires same-length returns)
+    (tie.spec
+    Inv-loop
+    μ-loop
+    clear-requires
+    order-requires
+    element-copy-out-wide
+    wide-requires
+    loop-holds
+    sub-k
+    close-requires
+    loop-less
+    loop-again
+    slice-read-has
+    has-requires
+    same-length
+    returns)
