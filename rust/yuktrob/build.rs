@@ -3,7 +3,7 @@
 use std::path::Path;
 
 fn main() {
-    let folder = Path::new(env!("CARGO_MANIFEST_DIR")).join("../target/staticlib");
+    let folder = Path::new(env!("CARGO_MANIFEST_DIR")).join("../../target/staticlib");
     let library = folder.join("libyuktrob_c.a");
     println!("cargo:rerun-if-changed={}", library.display());
     if !library.exists() {

@@ -1,0 +1,37 @@
+//! Runs the proved library and the independent implementation on the same random inputs, and reports every difference.
+//! `compare [INPUTS [SEED [LONGEST]]]`, where no course that both work out is longer than LONGEST places.
+
+use std::time::Instant;
+use yuktrob_plain::compared::{self, Areas, Truths, LONG};
+use yuktrob_plain::random::Random;
+
+fn main() {
+    let words: Vec<u64> = std::env::args().skip(1).map(|w| w.parse().expect("a number")).collect();
+    let word = |i: usize, otherwise: u64| words.get(i).copied().unwrap_or(otherwise);
+    let (inputs, seed, longest) = (word(0, 100_000), word(1, 1), word(2, 8192).clamp(60, 8192) as usize);
+    let mut random = Random::new(seed);
+    let (mut areas, mut truths) = (Areas::new(), Truths::default());
+    let (mut differences, mut other) = (0u64, 0u64);
+    let start = Instant::now();
+    for i in 0..inputs {
+        let rule = compared::rule(&mut random);
+        let result = match i % 3 {
+            0 => compared::reading(&rule),
+            1 => compared::truth(&mut random, &rule, longest, &mut truths),
+            _ => compared::decision(&mut random, &rule, &mut areas, &mut other),
+        };
+        if let Err(what) = result {
+            differences += 1;
+            println!("{what}");
+        }
+    }
+    let seconds = start.elapsed().as_secs_f64();
+    let (readings, decisions) = (inputs.div_ceil(3), inputs / 3);
+    println!("compared: {readings} readings, {} truths, {decisions} decisions in {seconds:.1} s", truths.all);
+    println!("truths of rules with alternating fixpoints: {}, of these on {LONG} places or more: {}", truths.alternating, truths.long);
+    println!("decisions with another course, as short: {other}");
+    println!("differences: {differences}");
+    if differences > 0 {
+        std::process::exit(1);
+    }
+}

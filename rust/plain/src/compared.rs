@@ -1,0 +1,234 @@
+//! One input through the proved library and the independent implementation: what differs, if anything.
+
+use crate::random::{alternates, Random};
+use crate::reading::{self, Unreadable};
+use crate::truth::{self, Truth};
+use crate::{decision, decision::Verdict};
+use yuktrob::{course_len, work_len, Command, Refusal, Rule};
+
+/// A refusal's number, with the byte's place where it has one.
+type Refused = (u8, Option<usize>);
+
+fn ours(why: Refusal) -> Refused {
+    (why.number, why.place)
+}
+
+fn theirs(why: Unreadable) -> Refused {
+    (why.number, Some(why.place))
+}
+
+/// The rule's bytes: at random, damaged, short, long, or with alternating fixpoints.
+pub fn rule(random: &mut Random) -> Vec<u8> {
+    let most = [4, 12, 24, 48, 60][random.below(5)];
+    let size = 1 + random.below(most);
+    match random.below(10) {
+        0..=1 => random.damaged(size),
+        2..=4 => random.alternating(),
+        _ => random.rule(size),
+    }
+}
+
+fn command(c: reading::Command) -> Command {
+    match c {
+        reading::Command::True => Command::True,
+        reading::Command::False => Command::False,
+        reading::Command::Present(j) => Command::Present(j),
+        reading::Command::Absent(j) => Command::Absent(j),
+        reading::Command::Variable(m) => Command::Variable(m),
+        reading::Command::Or(l, r) => Command::Or(l, r),
+        reading::Command::And(l, r) => Command::And(l, r),
+        reading::Command::Next(f) => Command::Next(f),
+        reading::Command::Least(f) => Command::Least(f),
+        reading::Command::Greatest(f) => Command::Greatest(f),
+    }
+}
+
+/// Reading: the outcome, the entries, and where each ends.
+pub fn reading(rule: &[u8]) -> Result<(), String> {
+    let listed = |r: Rule| r.entries().map(|entry| (entry.command, entry.end)).collect::<Vec<_>>();
+    let expected = |c: Vec<reading::Command>| c.iter().map(|&c| command(c)).zip(reading::ends(&c)).collect::<Vec<_>>();
+    let ours = Rule::read(rule).map(listed).map_err(ours);
+    let theirs = reading::read(rule).map(expected).map_err(theirs);
+    if ours == theirs { Ok(()) } else { Err(format!("read {rule:02x?}: {ours:?}, not {theirs:?}")) }
+}
+
+/// How many truths there were, of those how many of a rule with alternating fixpoints, and of these how many on a long course.
+#[derive(Default)]
+pub struct Truths {
+    pub all: u64,
+    pub alternating: u64,
+    pub long: u64,
+}
+
+/// What counts as a long course.
+pub const LONG: usize = 1000;
+
+/// Courses up to this length are worked out by rounds too.
+const SHORT: usize = 40;
+
+/// How many places: mostly few, now and then many, up to `longest`, and now and then more than a course may have.
+fn length(random: &mut Random, longest: usize) -> usize {
+    match random.below(1000) {
+        0 => longest - random.below(2),
+        1..=4 => random.below(longest),
+        5..=9 => 8193 + random.below(100),
+        10..=29 => random.below(longest.min(400)),
+        _ => {
+            let most = [2, 6, 20, 60][random.below(4)];
+            random.below(most)
+        }
+    }
+}
+
+/// A course with the words lent for it.
+struct Asked {
+    places: Vec<u16>,
+    lead_len: usize,
+    lent: Vec<u64>,
+}
+
+fn asked(random: &mut Random, longest: usize) -> Asked {
+    let n = length(random, longest);
+    let lead_len = match random.below(20) {
+        0 => n + random.below(2),
+        1..=4 => 0,
+        5..=8 => n.saturating_sub(1),
+        _ => random.below(n.max(1)),
+    };
+    let room = if random.one_in(20) { n.saturating_sub(1) } else { n + random.below(3) };
+    Asked { places: random.course(n), lead_len, lent: (0..room as u64).map(|i| i ^ 0xdead_beef).collect() }
+}
+
+/// What the independent implementation answers, with what the words are afterwards. The two methods must agree on a short course.
+fn expected(rule: &[u8], x: &Asked) -> Result<(Result<bool, Refused>, Vec<u64>), String> {
+    let by_laps = truth::by_laps(rule, &x.places, x.lead_len, x.lent.len());
+    if x.places.len() <= SHORT && by_laps != truth::by_rounds(rule, &x.places, x.lead_len, x.lent.len()) {
+        return Err(format!("truth {rule:02x?} on {:04x?} lead-in {}: by laps is not by rounds", x.places, x.lead_len));
+    }
+    Ok(match by_laps {
+        Truth::Unread(why) => (Err(theirs(why)), x.lent.clone()),
+        Truth::Refused(number) => (Err((number, None)), x.lent.clone()),
+        Truth::Told(b, words) => (Ok(b), [&words[..], &x.lent[words.len()..]].concat()),
+    })
+}
+
+/// Truth: the answer, the words, and the words past the course, which has at most `longest` places unless it is refused.
+pub fn truth(random: &mut Random, rule: &[u8], longest: usize, truths: &mut Truths) -> Result<(), String> {
+    let x = asked(random, longest);
+    let mut words = x.lent.clone();
+    let ours = yuktrob::truth(rule, &x.places, x.lead_len, &mut words).map_err(ours);
+    let (theirs, after) = expected(rule, &x)?;
+    let alternating = theirs.is_ok() && reading::read(rule).is_ok_and(|entries| alternates(&entries));
+    truths.all += 1;
+    truths.alternating += alternating as u64;
+    truths.long += (alternating && x.places.len() >= LONG) as u64;
+    if ours == theirs && words == after {
+        return Ok(());
+    }
+    let (course, lead_len, room) = (&x.places, x.lead_len, x.lent.len());
+    Err(format!("truth {rule:02x?} on {course:04x?} lead-in {lead_len} room {room}: {ours:?} {words:?}, not {theirs:?} {after:?}"))
+}
+
+/// The areas that are lent again and again.
+pub struct Areas {
+    work: Vec<u8>,
+    course: Vec<u16>,
+}
+
+impl Areas {
+    #[allow(clippy::new_without_default)]
+    pub fn new() -> Self {
+        Areas { work: vec![0; work_len(1025, 4097) + 64], course: vec![0; course_len(1025, 4097) + 64] }
+    }
+}
+
+/// Room for nodes and profiles, and how much of the areas is lent.
+#[derive(Clone, Copy, Debug)]
+struct Lent {
+    n: usize,
+    m: usize,
+    work: usize,
+    course: usize,
+}
+
+fn room(random: &mut Random, most: usize) -> usize {
+    match random.below(8) {
+        0 => random.below(4),
+        1 => most + random.below(2),
+        2 => most,
+        _ => 1 + random.below(most / 8),
+    }
+}
+
+fn lent(random: &mut Random) -> Lent {
+    let (n, m) = (room(random, 1024), room(random, 4096));
+    let short = |random: &mut Random, need: usize, more: usize| if random.one_in(30) { need.saturating_sub(1) } else { need + random.below(more) };
+    Lent { n, m, work: short(random, work_len(n, m), 40), course: short(random, course_len(n, m), 4) }
+}
+
+/// The answer without the course.
+#[derive(Debug, PartialEq)]
+enum Settled {
+    Met { lead_len: usize, loop_len: usize, nodes: usize, profiles: usize },
+    Not { nodes: usize, profiles: usize },
+    Refused(Refused),
+}
+
+fn our_verdict(answer: Result<yuktrob::Verdict, Refusal>) -> Settled {
+    match answer {
+        Ok(yuktrob::Verdict::Met { lead_len, loop_len, nodes, profiles, .. }) => Settled::Met { lead_len, loop_len, nodes, profiles },
+        Ok(yuktrob::Verdict::Not { nodes, profiles }) => Settled::Not { nodes, profiles },
+        Err(why) => Settled::Refused(ours(why)),
+    }
+}
+
+fn their_verdict(answer: Verdict) -> (Settled, Vec<u16>) {
+    match answer {
+        Verdict::Unread(why) => (Settled::Refused(theirs(why)), Vec::new()),
+        Verdict::Refused(number) => (Settled::Refused((number, None)), Vec::new()),
+        Verdict::Not { nodes, profiles } => (Settled::Not { nodes, profiles }, Vec::new()),
+        Verdict::Met { lead_len, loop_len, nodes, profiles, course } => (Settled::Met { lead_len, loop_len, nodes, profiles }, course),
+    }
+}
+
+/// How many bytes of the work area are zero afterwards; the others are as they were.
+fn zeros(settled: &Settled, lent: Lent) -> usize {
+    match settled {
+        Settled::Refused((number, _)) if *number < 14 => 0,
+        _ => work_len(lent.n, lent.m),
+    }
+}
+
+/// Whether a course other than expected meets the rule as well.
+fn meets(rule: &[u8], course: &[u16], settled: &Settled) -> bool {
+    let Settled::Met { lead_len, .. } = *settled else { return false };
+    matches!(truth::by_laps(rule, course, lead_len, course.len()), Truth::Told(true, _))
+}
+
+/// The decision: the answer, the work area, and the course buffer. Another course of the same two lengths is as right, if it meets the rule;
+/// `other` counts these.
+pub fn decision(random: &mut Random, rule: &[u8], areas: &mut Areas, other: &mut u64) -> Result<(), String> {
+    let lent = lent(random);
+    let (work, buffer) = (&mut areas.work[..lent.work], &mut areas.course[..lent.course]);
+    work.fill(0xa5);
+    buffer.fill(0x5a5a);
+    let ours = our_verdict(yuktrob::decide(rule, lent.n, lent.m, work, buffer));
+    let (theirs, course) = their_verdict(decision::decide(rule, lent.n, lent.m, lent.work, lent.course));
+    let fail = |what: &str| Err(format!("decide {rule:02x?} {lent:?}: {what}: {ours:?}, not {theirs:?}"));
+    if ours != theirs {
+        return fail("answer");
+    }
+    let (cleared, kept) = work.split_at(zeros(&theirs, lent));
+    if cleared.iter().any(|&b| b != 0) || kept.iter().any(|&b| b != 0xa5) {
+        return fail("work area");
+    }
+    let (found, rest) = buffer.split_at(course.len());
+    if rest.iter().any(|&p| p != 0x5a5a) {
+        return fail("course buffer");
+    }
+    *other += (found != course) as u64;
+    if found != course && !meets(rule, found, &ours) {
+        return fail("course");
+    }
+    Ok(())
+}

@@ -1,0 +1,328 @@
+//! The decision: the graph of a rule, its profiles, and a shortest course.
+
+use crate::reading::{read, Command, Unreadable};
+use std::collections::{HashMap, HashSet};
+
+/// What the decision answers.
+#[derive(Clone, Debug, PartialEq, Eq)]
+pub enum Verdict {
+    Unread(Unreadable),
+    Refused(u8),
+    Met { lead_len: usize, loop_len: usize, nodes: usize, profiles: usize, course: Vec<u16> },
+    Not { nodes: usize, profiles: usize },
+}
+
+/// Whether any course meets the rule; `work` and `buffer` are the lengths of the areas lent.
+pub fn decide(rule: &[u8], n: usize, m: usize, work: usize, buffer: usize) -> Verdict {
+    let entries = match read(rule) {
+        Ok(entries) => entries,
+        Err(why) => return Verdict::Unread(why),
+    };
+    if !(1..=1024).contains(&n) || !(1..=4096).contains(&m) {
+        return Verdict::Refused(11);
+    }
+    if work < 8 * n + 192 * m {
+        return Verdict::Refused(12);
+    }
+    if buffer < n + m {
+        return Verdict::Refused(13);
+    }
+    let graph = Graph::new(&entries);
+    let Some(nodes) = graph.nodes(n) else {
+        return Verdict::Refused(14);
+    };
+    let Some(profiles) = graph.profiles(&nodes, m) else {
+        return Verdict::Refused(15);
+    };
+    let (k, p) = (nodes.order.len(), profiles.len());
+    match profiles.iter().position(|x| x.first == x.last && !graph.bad(&x.triples)) {
+        None => Verdict::Not { nodes: k, profiles: p },
+        Some(found) => {
+            let (lead, around) = (lead_to(&nodes, profiles[found].first), around(&profiles, found));
+            Verdict::Met { lead_len: lead.len(), loop_len: around.len(), nodes: k, profiles: p, course: [lead, around].concat() }
+        }
+    }
+}
+
+/// The places of the steps from the root to a node.
+fn lead_to(nodes: &Nodes, mut node: usize) -> Vec<u16> {
+    let mut lead = Vec::new();
+    while let Some((parent, place)) = nodes.came[node] {
+        lead.push(place);
+        node = parent;
+    }
+    lead.reverse();
+    lead
+}
+
+/// The places of a profile's run.
+fn around(profiles: &[Profile], found: usize) -> Vec<u16> {
+    let mut around = Vec::new();
+    let mut at = Some(found);
+    while let Some(i) = at {
+        around.push(profiles[i].place);
+        at = profiles[i].parent;
+    }
+    around.reverse();
+    around
+}
+
+/// One step: its pick (the ors whose right operand is taken), its place and where it leads.
+struct Step {
+    pick: u64,
+    place: u16,
+    to: u64,
+}
+
+struct Nodes {
+    order: Vec<u64>,
+    number: HashMap<u64, usize>,
+    came: Vec<Option<(usize, u16)>>,
+    steps: Vec<Vec<Step>>,
+}
+
+/// Row f, column g: bit k for a trace with the k-th fixpoint's weight, bit 7 for none.
+type Triples = Vec<u8>;
+
+struct Profile {
+    first: usize,
+    last: usize,
+    triples: Triples,
+    parent: Option<usize>,
+    place: u16,
+}
+
+/// The profiles found so far.
+struct Found {
+    all: Vec<Profile>,
+    known: HashSet<(usize, usize, Triples)>,
+    room: usize,
+}
+
+impl Found {
+    /// Adds a profile if it is new; nothing if there is no room for it.
+    fn add(&mut self, x: Profile) -> Option<()> {
+        let key = (x.first, x.last, x.triples.clone());
+        if self.known.contains(&key) {
+            return Some(());
+        }
+        if self.all.len() == self.room {
+            return None;
+        }
+        self.known.insert(key);
+        self.all.push(x);
+        Some(())
+    }
+}
+
+struct Graph<'a> {
+    entries: &'a [Command],
+    ors: Vec<usize>,
+    /// The next commands, by entry.
+    nexts: Vec<usize>,
+    /// For each fixpoint's entry its number among the fixpoints.
+    rank: HashMap<usize, u32>,
+    /// A bit for each least fixpoint's number.
+    least: u8,
+}
+
+impl<'a> Graph<'a> {
+    fn new(entries: &'a [Command]) -> Self {
+        let of = |test: fn(&Command) -> bool| -> Vec<usize> {
+            (0..entries.len()).filter(|&e| test(&entries[e])).collect()
+        };
+        let fixpoints = of(|c| matches!(c, Command::Least(_) | Command::Greatest(_)));
+        let least = fixpoints
+            .iter()
+            .enumerate()
+            .filter(|(_, &e)| matches!(entries[e], Command::Least(_)))
+            .fold(0, |mask, (k, _)| mask | 1 << k);
+        Graph {
+            entries,
+            ors: of(|c| matches!(c, Command::Or(..))),
+            nexts: of(|c| matches!(c, Command::Next(_))),
+            rank: fixpoints.iter().enumerate().map(|(k, &e)| (e, k as u32)).collect(),
+            least,
+        }
+    }
+
+    fn moves(&self, e: usize, pick: u64, mut visit: impl FnMut(usize)) {
+        match self.entries[e] {
+            Command::Variable(m) => visit(m),
+            Command::Or(l, r) => visit(if pick >> e & 1 == 1 { r } else { l }),
+            Command::And(l, r) => {
+                visit(l);
+                visit(r);
+            }
+            Command::Least(l) | Command::Greatest(l) => visit(l),
+            _ => {}
+        }
+    }
+
+    fn closure(&self, node: u64, pick: u64) -> u64 {
+        let mut set = node;
+        let mut fringe = node;
+        while fringe != 0 {
+            let e = fringe.trailing_zeros() as usize;
+            fringe &= fringe - 1;
+            self.moves(e, pick, |m| {
+                if set >> m & 1 == 0 {
+                    set |= 1 << m;
+                    fringe |= 1 << m;
+                }
+            });
+        }
+        set
+    }
+
+    fn step(&self, node: u64, pick: u64) -> Option<Step> {
+        let set = self.closure(node, pick);
+        if pick & !set != 0 {
+            return None;
+        }
+        let (mut present, mut absent, mut to) = (0u16, 0u16, 0u64);
+        let mut rest = set;
+        while rest != 0 {
+            let e = rest.trailing_zeros() as usize;
+            rest &= rest - 1;
+            match self.entries[e] {
+                Command::False => return None,
+                Command::Present(j) => present |= 1 << j,
+                Command::Absent(j) => absent |= 1 << j,
+                Command::Next(g) => to |= 1 << g,
+                _ => {}
+            }
+        }
+        if present & absent != 0 { None } else { Some(Step { pick, place: present, to }) }
+    }
+
+    /// The steps of a node, by rising pick word.
+    fn steps(&self, node: u64) -> Vec<Step> {
+        (0..1u64 << self.ors.len())
+            .filter_map(|word| {
+                let pick = self.ors.iter().enumerate().fold(0, |p, (j, &e)| p | (word >> j & 1) << e);
+                self.step(node, pick)
+            })
+            .collect()
+    }
+
+    /// The reachable nodes, breadth first, if there are at most `room`.
+    fn nodes(&self, room: usize) -> Option<Nodes> {
+        let mut all = Nodes { order: vec![1], number: HashMap::from([(1, 0)]), came: vec![None], steps: Vec::new() };
+        let mut i = 0;
+        while i < all.order.len() {
+            let steps = self.steps(all.order[i]);
+            for s in &steps {
+                if !all.number.contains_key(&s.to) {
+                    if all.order.len() == room {
+                        return None;
+                    }
+                    all.number.insert(s.to, all.order.len());
+                    all.order.push(s.to);
+                    all.came.push(Some((i, s.place)));
+                }
+            }
+            all.steps.push(steps);
+            i += 1;
+        }
+        Some(all)
+    }
+
+    /// The weights with which traces from entry f reach each next, in a step with this pick.
+    fn traces(&self, f: usize, pick: u64) -> Vec<u8> {
+        let mut weights = vec![0u8; self.entries.len()];
+        let mut fringe = vec![(f, 7u32)];
+        while let Some((e, weight)) = fringe.pop() {
+            let weight = self.rank.get(&e).map_or(weight, |&k| weight.min(k));
+            if weights[e] >> weight & 1 == 1 {
+                continue;
+            }
+            weights[e] |= 1 << weight;
+            self.moves(e, pick, |m| fringe.push((m, weight)));
+        }
+        self.nexts.iter().map(|&e| weights[e]).collect()
+    }
+
+    fn triples(&self, node: u64, pick: u64) -> Triples {
+        let n = self.nexts.len();
+        let mut all = vec![0; n * n];
+        for (row, &e) in self.nexts.iter().enumerate() {
+            // the operand of a next is the entry after it
+            if node >> (e + 1) & 1 == 1 {
+                all[row * n..][..n].copy_from_slice(&self.traces(e + 1, pick));
+            }
+        }
+        all
+    }
+
+    fn join(&self, a: &[u8], b: &[u8]) -> Triples {
+        let n = self.nexts.len();
+        let mut all = vec![0; n * n];
+        for f in 0..n {
+            for m in 0..n {
+                let x = a[f * n + m];
+                if x == 0 {
+                    continue;
+                }
+                for g in 0..n {
+                    let y = b[m * n + g];
+                    if y != 0 {
+                        all[f * n + g] |= smaller(x, y);
+                    }
+                }
+            }
+        }
+        all
+    }
+
+    /// The steps of a node: where each leads, its triples, its place.
+    fn ones(&self, nodes: &Nodes, first: usize) -> Vec<(usize, Triples, u16)> {
+        let one = |s: &Step| (nodes.number[&s.to], self.triples(nodes.order[first], s.pick), s.place);
+        nodes.steps[first].iter().map(one).collect()
+    }
+
+    /// The profiles, breadth first by length, if there are at most `room`.
+    fn profiles(&self, nodes: &Nodes, room: usize) -> Option<Vec<Profile>> {
+        let mut found = Found { all: Vec::new(), known: HashSet::new(), room };
+        // no run of a profile starts at the root
+        let mut ones = vec![Vec::new()];
+        for first in 1..nodes.order.len() {
+            ones.push(self.ones(nodes, first));
+            for (last, triples, place) in &ones[first] {
+                found.add(Profile { first, last: *last, triples: triples.clone(), parent: None, place: *place })?;
+            }
+        }
+        let mut i = 0;
+        while i < found.all.len() {
+            let (first, last) = (found.all[i].first, found.all[i].last);
+            for (to, triples, place) in &ones[last] {
+                let triples = self.join(&found.all[i].triples, triples);
+                found.add(Profile { first, last: *to, triples, parent: Some(i), place: *place })?;
+            }
+            i += 1;
+        }
+        Some(found.all)
+    }
+
+    /// Whether some power has a least fixpoint's weight on its diagonal.
+    fn bad(&self, triples: &[u8]) -> bool {
+        let n = self.nexts.len();
+        let mut sum = triples.to_vec();
+        loop {
+            if (0..n).any(|f| sum[f * n + f] & self.least != 0) {
+                return true;
+            }
+            let more: Triples = self.join(&sum, triples).iter().zip(&sum).map(|(a, b)| a | b).collect();
+            if more == sum {
+                return false;
+            }
+            sum = more;
+        }
+    }
+}
+
+/// The minima of all pairs of a weight in x and a weight in y.
+fn smaller(x: u8, y: u8) -> u8 {
+    let below = |w: u8| 0xffu8 >> w.leading_zeros();
+    (x & below(y)) | (y & below(x))
+}

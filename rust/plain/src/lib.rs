@@ -1,0 +1,11 @@
+//! An independent implementation of reading, truth and decision in plain Rust, written from the defining paper ("document 01") with Rust's
+//! own collections. It shares nothing with the proved library and is there to be compared with it: `compared` runs one input through both,
+//! the programs `compare` and `bench` many. Not published.
+
+pub mod compared;
+pub mod decision;
+mod laps;
+pub mod random;
+pub mod reading;
+mod rounds;
+pub mod truth;

@@ -1,0 +1,183 @@
+//! Random rules, whole and damaged, and random courses, for comparing and timing. The same seed gives the same ones.
+
+use crate::reading::{ends, read, Command};
+
+pub struct Random(u64);
+
+/// Whether a variable names a fixpoint outside of one of the other kind that it stands in.
+pub fn alternates(entries: &[Command]) -> bool {
+    let ends = ends(entries);
+    let is_least = |f: usize| match entries[f] {
+        Command::Least(_) => Some(true),
+        Command::Greatest(_) => Some(false),
+        _ => None,
+    };
+    let crosses = |e: usize, m: usize| (m + 1..e).any(|f| ends[f] > e && is_least(f).is_some_and(|least| Some(least) != is_least(m)));
+    entries.iter().enumerate().any(|(e, command)| matches!(*command, Command::Variable(m) if crosses(e, m)))
+}
+
+impl Random {
+    pub fn new(seed: u64) -> Self {
+        Random(seed.wrapping_mul(0x9e37_79b9_7f4a_7c15) | 1)
+    }
+
+    fn next(&mut self) -> u64 {
+        self.0 ^= self.0 << 13;
+        self.0 ^= self.0 >> 7;
+        self.0 ^= self.0 << 17;
+        self.0.wrapping_mul(0x2545_f491_4f6c_dd1d)
+    }
+
+    /// A number below n.
+    pub fn below(&mut self, n: usize) -> usize {
+        (self.next() >> 33) as usize % n
+    }
+
+    pub fn one_in(&mut self, n: usize) -> bool {
+        self.below(n) == 0
+    }
+
+    /// A rule of at most `size` commands, over few signals, that reading accepts nearly always.
+    pub fn rule(&mut self, size: usize) -> Vec<u8> {
+        let mut rule = Vec::new();
+        let signals = 1 + self.below(3);
+        self.part(size, &mut Vec::new(), signals, &mut rule);
+        rule
+    }
+
+    fn part(&mut self, size: usize, scope: &mut Vec<bool>, signals: usize, rule: &mut Vec<u8>) {
+        let guarded: Vec<usize> = (0..scope.len()).filter(|&d| scope[scope.len() - 1 - d]).collect();
+        if size <= 1 {
+            return match self.below(8) {
+                0 => rule.push(1 + self.below(2) as u8),
+                1..=3 if !guarded.is_empty() => {
+                    let depth = guarded[self.below(guarded.len())];
+                    rule.extend([5, depth as u8]);
+                }
+                _ => {
+                    let signal = self.below(signals) as u8;
+                    rule.extend([3 + self.below(2) as u8, signal]);
+                }
+            };
+        }
+        match self.below(7) {
+            0..=2 if size >= 3 => {
+                rule.push(6 + self.below(2) as u8);
+                let left = 1 + self.below(size - 2);
+                self.part(left, scope, signals, rule);
+                self.part(size - 1 - left, scope, signals, rule);
+            }
+            3 | 4 => {
+                rule.push(8);
+                let mut inner = vec![true; scope.len()];
+                self.part(size - 1, &mut inner, signals, rule);
+            }
+            _ => {
+                rule.push(9 + self.below(2) as u8);
+                scope.push(false);
+                self.part(size - 1, scope, signals, rule);
+                scope.pop();
+            }
+        }
+    }
+
+    /// A rule with 2 to 7 fixpoints, one in the other and mostly by turns least and greatest, with a variable of an outer one inside an
+    /// inner one of the other kind.
+    pub fn alternating(&mut self) -> Vec<u8> {
+        loop {
+            let (deep, size) = (2 + self.below(6), 6 + self.below(38));
+            let mut draft = Draft { signals: 1 + self.below(3), least: self.one_in(2), rule: Vec::new() };
+            self.nest(deep, size, &mut Vec::new(), &mut draft);
+            if read(&draft.rule).is_ok_and(|entries| alternates(&entries)) {
+                return draft.rule;
+            }
+        }
+    }
+
+    /// A part with so many fixpoints, one in the other; `scope` has of each fixpoint around whether a next stands between.
+    fn nest(&mut self, deep: usize, size: usize, scope: &mut Vec<bool>, draft: &mut Draft) {
+        match self.below(6) {
+            _ if deep == 0 && (size < 3 || self.one_in(3)) => self.leaf(scope, draft),
+            0..=2 if deep > 0 => {
+                draft.least ^= !self.one_in(4);
+                draft.rule.push(if draft.least { 9 } else { 10 });
+                scope.push(false);
+                self.nest(deep - 1, size.saturating_sub(1), scope, draft);
+                scope.pop();
+            }
+            3 => {
+                draft.rule.push(8);
+                self.nest(deep, size.saturating_sub(1), &mut vec![true; scope.len()], draft);
+            }
+            _ => self.pair(deep, size, scope, draft),
+        }
+    }
+
+    /// An or, an and: the fixpoints go to one of its operands.
+    fn pair(&mut self, deep: usize, size: usize, scope: &mut Vec<bool>, draft: &mut Draft) {
+        draft.rule.push(6 + self.below(2) as u8);
+        let left = 1 + self.below(size.max(3) - 2);
+        let sizes = [left, size.max(3) - 1 - left];
+        let deep_left = self.one_in(2);
+        self.nest(if deep_left { deep } else { 0 }, sizes[0], scope, draft);
+        self.nest(if deep_left { 0 } else { deep }, sizes[1], scope, draft);
+    }
+
+    /// A variable, with a next where it needs one; now and then a signal.
+    fn leaf(&mut self, scope: &[bool], draft: &mut Draft) {
+        if scope.is_empty() || self.one_in(3) {
+            return draft.rule.extend([3 + self.below(2) as u8, self.below(draft.signals) as u8]);
+        }
+        let depth = self.below(scope.len());
+        if !scope[scope.len() - 1 - depth] {
+            draft.rule.push(8);
+        }
+        draft.rule.extend([5, depth as u8]);
+    }
+
+    /// Bytes that are nearly a rule, or no rule at all.
+    pub fn damaged(&mut self, size: usize) -> Vec<u8> {
+        let mut bytes = self.rule(size);
+        for _ in 0..1 + self.below(3) {
+            let at = self.below(bytes.len() + 1);
+            match self.below(5) {
+                0 => bytes.truncate(at),
+                1 => bytes.insert(at, self.below(12) as u8),
+                2 if at < bytes.len() => bytes[at] = self.below(256) as u8,
+                3 if at < bytes.len() => {
+                    bytes.remove(at);
+                }
+                _ => bytes.extend((0..self.below(120)).map(|_| 7)),
+            }
+        }
+        bytes
+    }
+
+    /// A course of which long stretches are the same, or random places.
+    pub fn course(&mut self, n: usize) -> Vec<u16> {
+        if self.one_in(2) {
+            return self.places(n);
+        }
+        let mut places = vec![0; n];
+        for _ in 0..1 + self.below(4) {
+            let (a, b) = (self.below(n + 1), self.below(n + 1));
+            let place = [0, 1, 2, 3, 0xffff][self.below(5)];
+            let end = if self.one_in(3) { n.min(a + 1) } else { a.max(b) };
+            places[a.min(end)..end].fill(place);
+        }
+        places
+    }
+
+    /// Places over few signals, and now and then over all.
+    pub fn places(&mut self, n: usize) -> Vec<u16> {
+        let mask = if self.one_in(10) { 0xffff } else { 0x7 };
+        (0..n).map(|_| self.below(0x10000) as u16 & mask).collect()
+    }
+}
+
+/// An alternating rule as far as it is written: how many signals it has, and whether its last fixpoint is a least one.
+struct Draft {
+    signals: usize,
+    least: bool,
+    rule: Vec<u8>,
+}

@@ -1,0 +1,123 @@
+use crate::{exported, Refusal};
+
+/// The most nodes for which room may be asked.
+pub const MOST_NODES: usize = 1024;
+
+/// The most profiles for which room may be asked.
+pub const MOST_PROFILES: usize = 4096;
+
+/// How many bytes the work area of a decision must have.
+///
+/// ```
+/// assert_eq!(yuktrob::work_len(256, 300), 59_648);
+/// ```
+pub const fn work_len(nodes: usize, profiles: usize) -> usize {
+    nodes.saturating_mul(8).saturating_add(profiles.saturating_mul(192))
+}
+
+/// How many places the course buffer of a decision must have.
+///
+/// ```
+/// assert_eq!(yuktrob::course_len(256, 300), 556);
+/// ```
+pub const fn course_len(nodes: usize, profiles: usize) -> usize {
+    nodes.saturating_add(profiles)
+}
+
+/// What the decision answers.
+///
+/// ```
+/// use yuktrob::{Areas, Rule, Verdict};
+/// let mut areas = Areas::new(256, 300);
+/// let told = match Rule::read(&[0x03, 0x02])?.decide(&mut areas)? {
+///     Verdict::Met { lead_len, course, .. } => format!("lead-in {:04x?}, loop {:04x?}", &course[..lead_len], &course[lead_len..]),
+///     Verdict::Not { .. } => "no course".to_string(),
+/// };
+/// assert_eq!(told, "lead-in [0004], loop [0000]");
+/// # Ok::<(), yuktrob::Refusal>(())
+/// ```
+#[derive(Clone, Copy, Debug, PartialEq, Eq, Hash)]
+pub enum Verdict<'c> {
+    /// Some course meets the rule.
+    Met {
+        /// How many places of the course come before its loop.
+        lead_len: usize,
+        /// How many places the loop has.
+        loop_len: usize,
+        /// The paper's K: the nodes of the rule's graph.
+        nodes: usize,
+        /// The paper's P: its profiles.
+        profiles: usize,
+        /// A shortest such course, in the buffer's first places: the lead-in, then the loop.
+        course: &'c [u16],
+    },
+    /// No course meets the rule.
+    Not {
+        /// The paper's K: the nodes of the rule's graph.
+        nodes: usize,
+        /// The paper's P: its profiles.
+        profiles: usize,
+    },
+}
+
+/// Whether any course meets the rule, with room for `nodes` nodes and `profiles` profiles. The work area needs
+/// [`work_len`] bytes, the course buffer [`course_len`] places; they need not be cleared. Refused: 1 to 9, 11 to 15.
+///
+/// ```
+/// use yuktrob::{course_len, decide, work_len, Verdict};
+/// let (mut work, mut course) = (vec![0; work_len(1, 1)], vec![0; course_len(1, 1)]);
+/// assert_eq!(decide(&[0x02], 1, 1, &mut work, &mut course), Ok(Verdict::Not { nodes: 1, profiles: 0 }));
+/// assert_eq!(decide(&[0x02], 0, 1, &mut work, &mut course).unwrap_err().number, 11);
+/// ```
+pub fn decide<'c>(
+    rule: &[u8],
+    nodes: usize,
+    profiles: usize,
+    work: &mut [u8],
+    course: &'c mut [u16],
+) -> Result<Verdict<'c>, Refusal> {
+    let told = exported::decide(rule, nodes, profiles, work, course)?;
+    let size = |k: u32| ((told / 2) >> (13 * k) & 8191) as usize;
+    let (lead_len, loop_len, nodes, profiles) = (size(0), size(1), size(2), size(3));
+    if told % 2 == 0 {
+        return Ok(Verdict::Not { nodes, profiles });
+    }
+    Ok(Verdict::Met { lead_len, loop_len, nodes, profiles, course: &course[..lead_len + loop_len] })
+}
+
+/// A work area and a course buffer with room for so many nodes and profiles, for any number of decisions.
+///
+/// ```
+/// use yuktrob::{Areas, Rule};
+/// let mut areas = Areas::new(256, 300);
+/// for rule in [&[0x01][..], &[0x02], &[0x03, 0x00]] {
+///     assert!(Rule::read(rule)?.decide(&mut areas).is_ok());
+/// }
+/// # Ok::<(), yuktrob::Refusal>(())
+/// ```
+#[derive(Clone, Debug)]
+pub struct Areas {
+    nodes: usize,
+    profiles: usize,
+    work: Vec<u8>,
+    course: Vec<u16>,
+}
+
+impl Areas {
+    /// Areas for so many nodes and profiles. A room that no decision takes (below 1, above [`MOST_NODES`] or [`MOST_PROFILES`]) is kept as
+    /// it is, and each decision in these areas is refused with 11.
+    ///
+    /// ```
+    /// let mut none = yuktrob::Areas::new(0, 300);
+    /// assert_eq!(yuktrob::Rule::read(&[0x01])?.decide(&mut none).unwrap_err().number, 11);
+    /// # Ok::<(), yuktrob::Refusal>(())
+    /// ```
+    pub fn new(nodes: usize, profiles: usize) -> Areas {
+        let (n, m) = (nodes.min(MOST_NODES), profiles.min(MOST_PROFILES));
+        Areas { nodes, profiles, work: vec![0; work_len(n, m)], course: vec![0; course_len(n, m)] }
+    }
+}
+
+pub(crate) fn decide_in<'a>(rule: &[u8], areas: &'a mut Areas) -> Result<Verdict<'a>, Refusal> {
+    decide(rule, areas.nodes, areas.profiles, &mut areas.work, &mut areas.course)
+}

@@ -1,0 +1,59 @@
+//! The exported functions of the proved library, called with Rust's slices: the one module with `unsafe`.
+//!
+//! Why each call is sound. The library asks two things of its caller (`include/yuktrob.h`): that each pointer has as many elements as the
+//! length behind it says, and that what is written overlaps nothing else. A slice's pointer has its length's elements, all initialised; it
+//! is aligned and not null, even where the slice is empty; and a `&mut` slice overlaps nothing. The library is proved to stay inside its
+//! slices, for any values in them. It keeps no pointer after it returns, and it does not unwind: it has no panics.
+
+use crate::Refusal;
+
+extern "C" {
+    fn yuktrob_read(rule: *const u8, rule_len: usize, rows: *mut u8, rows_len: usize) -> u64;
+    fn yuktrob_truth(
+        rule: *const u8,
+        rule_len: usize,
+        places: *const u16,
+        places_len: usize,
+        lead_len: usize,
+        words: *mut u64,
+        words_len: usize,
+    ) -> u64;
+    fn yuktrob_decide(
+        rule: *const u8,
+        rule_len: usize,
+        nodes: usize,
+        profiles: usize,
+        work: *mut u8,
+        work_len: usize,
+        course: *mut u16,
+        course_len: usize,
+    ) -> u64;
+}
+
+/// What an answer carries, or the refusal: the lowest byte is the number of a refusal, or 0; the rest stands above it.
+fn carried(answer: u64) -> Result<u64, Refusal> {
+    match (answer % 256) as u8 {
+        0 => Ok(answer / 256),
+        number => Err(Refusal::new(number, answer / 256)),
+    }
+}
+
+pub fn read(rule: &[u8], rows: &mut [u8; 144]) -> Result<u64, Refusal> {
+    // SAFETY: pointers and lengths are those of slices; see above.
+    carried(unsafe { yuktrob_read(rule.as_ptr(), rule.len(), rows.as_mut_ptr(), rows.len()) })
+}
+
+pub fn truth(rule: &[u8], places: &[u16], lead_len: usize, words: &mut [u64]) -> Result<u64, Refusal> {
+    // SAFETY: pointers and lengths are those of slices; see above.
+    carried(unsafe {
+        yuktrob_truth(rule.as_ptr(), rule.len(), places.as_ptr(), places.len(), lead_len, words.as_mut_ptr(), words.len())
+    })
+}
+
+pub fn decide(rule: &[u8], nodes: usize, profiles: usize, work: &mut [u8], course: &mut [u16]) -> Result<u64, Refusal> {
+    let (work_len, course_len) = (work.len(), course.len());
+    // SAFETY: pointers and lengths are those of slices; see above.
+    carried(unsafe {
+        yuktrob_decide(rule.as_ptr(), rule.len(), nodes, profiles, work.as_mut_ptr(), work_len, course.as_mut_ptr(), course_len)
+    })
+}

@@ -1,0 +1,35 @@
+//! Rules of tractor-guidance terminals: reading a rule, its truth on a repeating course, and the decision whether any course meets it,
+//! with a shortest example. A rule is a formula of the linear-time mu-calculus in bytes; `docs/FORMULAS.md` shows how to write one.
+//!
+//! The work is done by a library whose every function is proved to meet its contract. This crate wraps its exported functions and takes
+//! their numbers apart.
+//!
+//! An accepted [`Rule`] is made by reading. It is decided in [`Areas`] that can be used again and again:
+//!
+//! ```
+//! use yuktrob::{Areas, Rule, Verdict};
+//! // sooner or later signal 0
+//! let rule = Rule::read(&[0x09, 0x06, 0x03, 0x00, 0x08, 0x05, 0x00])?;
+//! let mut areas = Areas::new(256, 300);
+//! let Verdict::Met { lead_len, course, .. } = rule.decide(&mut areas)? else { panic!("some course meets it") };
+//! assert_eq!((lead_len, course), (1, &[0x0001, 0x0000][..]));
+//! let mut words = [0; 2];
+//! assert!(rule.truth(course, lead_len, &mut words)?);
+//! # Ok::<(), yuktrob::Refusal>(())
+//! ```
+//!
+//! [`truth`] and [`decide`] take the rule's bytes and areas that the caller lends, as the functions of `include/yuktrob.h` do.
+
+#![deny(unsafe_code, missing_docs)]
+
+mod decision;
+#[allow(unsafe_code)]
+mod exported;
+mod refusal;
+mod rule;
+mod truth;
+
+pub use decision::{course_len, decide, work_len, Areas, Verdict, MOST_NODES, MOST_PROFILES};
+pub use refusal::Refusal;
+pub use rule::{Command, Entry, Rule};
+pub use truth::{truth, words_len, MOST_PLACES};

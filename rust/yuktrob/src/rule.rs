@@ -1,0 +1,172 @@
+use crate::{decision, exported, truth, Areas, Refusal, Verdict};
+
+/// What an entry is, with the numbers of the entries that it leads to.
+#[derive(Clone, Copy, Debug, PartialEq, Eq, Hash)]
+pub enum Command {
+    /// True at every place.
+    True,
+    /// False at every place.
+    False,
+    /// This signal is present.
+    Present(u8),
+    /// This signal is absent.
+    Absent(u8),
+    /// A variable, with the entry of its fixpoint.
+    Variable(usize),
+    /// One of two entries or both.
+    Or(usize, usize),
+    /// Both of two entries.
+    And(usize, usize),
+    /// The entry at the next place.
+    Next(usize),
+    /// A least fixpoint, with its body.
+    Least(usize),
+    /// A greatest fixpoint, with its body.
+    Greatest(usize),
+}
+
+/// One entry of a rule.
+#[derive(Clone, Copy, Debug, PartialEq, Eq, Hash)]
+#[non_exhaustive]
+pub struct Entry {
+    /// What it is.
+    pub command: Command,
+    /// The entry after its last one: an entry e holds the entries from e up to this.
+    pub end: usize,
+}
+
+/// An accepted rule: its bytes, of which reading has said that they are one.
+///
+/// ```
+/// use yuktrob::{Command, Rule};
+/// let rule = Rule::read(&[0x07, 0x03, 0x02, 0x01])?;
+/// assert_eq!(rule.as_bytes(), [0x07, 0x03, 0x02, 0x01]);
+/// let commands: Vec<Command> = rule.entries().map(|entry| entry.command).collect();
+/// assert_eq!(commands, [Command::And(1, 2), Command::Present(2), Command::True]);
+/// # Ok::<(), yuktrob::Refusal>(())
+/// ```
+#[derive(Clone, Debug, PartialEq, Eq, Hash)]
+pub struct Rule {
+    bytes: Box<[u8]>,
+    count: usize,
+    rows: [u8; 144],
+}
+
+impl Rule {
+    /// Reads a rule.
+    ///
+    /// ```
+    /// use yuktrob::Rule;
+    /// assert_eq!(Rule::read(&[0x03, 0x0f])?.entry_count(), 1);
+    /// assert_eq!(Rule::read(&[0x03, 0x10]).unwrap_err().number, 6);
+    /// # Ok::<(), yuktrob::Refusal>(())
+    /// ```
+    pub fn read(bytes: &[u8]) -> Result<Rule, Refusal> {
+        let mut rows = [0; 144];
+        let count = exported::read(bytes, &mut rows)? as usize;
+        Ok(Rule { bytes: bytes.into(), count, rows })
+    }
+
+    /// The rule's bytes.
+    ///
+    /// ```
+    /// assert_eq!(yuktrob::Rule::read(&[0x08, 0x01])?.as_bytes(), [0x08, 0x01]);
+    /// # Ok::<(), yuktrob::Refusal>(())
+    /// ```
+    pub fn as_bytes(&self) -> &[u8] {
+        &self.bytes
+    }
+
+    /// How many entries there are: 1 to 48.
+    ///
+    /// ```
+    /// assert_eq!(yuktrob::Rule::read(&[0x08, 0x01])?.entry_count(), 2);
+    /// # Ok::<(), yuktrob::Refusal>(())
+    /// ```
+    pub fn entry_count(&self) -> usize {
+        self.count
+    }
+
+    /// Entry e, if there is one.
+    ///
+    /// ```
+    /// use yuktrob::{Command, Rule};
+    /// let always = Rule::read(&[0x0a, 0x07, 0x03, 0x00, 0x08, 0x05, 0x00])?;
+    /// let variable = always.entry(4).expect("five entries");
+    /// assert_eq!((variable.command, variable.end), (Command::Variable(0), 5));
+    /// assert_eq!(always.entry(5), None);
+    /// # Ok::<(), yuktrob::Refusal>(())
+    /// ```
+    pub fn entry(&self, e: usize) -> Option<Entry> {
+        if e >= self.count {
+            return None;
+        }
+        let argument = self.rows[48 + e];
+        let other = argument.into();
+        let command = match self.rows[e] {
+            1 => Command::True,
+            2 => Command::False,
+            3 => Command::Present(argument),
+            4 => Command::Absent(argument),
+            5 => Command::Variable(other),
+            6 => Command::Or(e + 1, other),
+            7 => Command::And(e + 1, other),
+            8 => Command::Next(e + 1),
+            9 => Command::Least(e + 1),
+            _ => Command::Greatest(e + 1),
+        };
+        Some(Entry { command, end: self.rows[96 + e].into() })
+    }
+
+    /// The entries in order.
+    ///
+    /// ```
+    /// let rule = yuktrob::Rule::read(&[0x07, 0x03, 0x02, 0x01])?;
+    /// let ends: Vec<usize> = rule.entries().map(|entry| entry.end).collect();
+    /// assert_eq!(ends, [3, 2, 3]);
+    /// # Ok::<(), yuktrob::Refusal>(())
+    /// ```
+    pub fn entries(&self) -> impl Iterator<Item = Entry> + '_ {
+        (0..self.count).filter_map(|e| self.entry(e))
+    }
+
+    /// Truth on a course, as [`truth`](crate::truth()) has it.
+    ///
+    /// ```
+    /// let eventually = yuktrob::Rule::read(&[0x09, 0x06, 0x03, 0x00, 0x08, 0x05, 0x00])?;
+    /// let mut words = [0; 3];
+    /// assert_eq!(eventually.truth(&[0, 0, 1], 2, &mut words), Ok(true));
+    /// assert_eq!(eventually.truth(&[0, 0, 0], 2, &mut words), Ok(false));
+    /// # Ok::<(), yuktrob::Refusal>(())
+    /// ```
+    pub fn truth(&self, places: &[u16], lead_len: usize, words: &mut [u64]) -> Result<bool, Refusal> {
+        truth::truth(&self.bytes, places, lead_len, words)
+    }
+
+    /// Whether any course meets the rule, as [`decide`](crate::decide) has it, with the room that the areas have.
+    ///
+    /// ```
+    /// use yuktrob::{Areas, Rule, Verdict};
+    /// let mut areas = Areas::new(1, 1);
+    /// assert_eq!(Rule::read(&[0x02])?.decide(&mut areas), Ok(Verdict::Not { nodes: 1, profiles: 0 }));
+    /// assert_eq!(Rule::read(&[0x01])?.decide(&mut areas).unwrap_err().number, 14);
+    /// # Ok::<(), yuktrob::Refusal>(())
+    /// ```
+    pub fn decide<'a>(&self, areas: &'a mut Areas) -> Result<Verdict<'a>, Refusal> {
+        decision::decide_in(&self.bytes, areas)
+    }
+}
+
+impl AsRef<[u8]> for Rule {
+    fn as_ref(&self) -> &[u8] {
+        &self.bytes
+    }
+}
+
+impl TryFrom<&[u8]> for Rule {
+    type Error = Refusal;
+
+    fn try_from(bytes: &[u8]) -> Result<Rule, Refusal> {
+        Rule::read(bytes)
+    }
+}
