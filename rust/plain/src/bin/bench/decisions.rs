@@ -1,0 +1,142 @@
+//! The decision's tables.
+
+use crate::shapes::{always, each, eventually, until};
+use crate::timing::{head, once, row, time, BOTH};
+use std::hint::black_box;
+use std::time::Duration;
+use yuktrob::{course_len, work_len};
+use yuktrob_plain::decision::{decide, Verdict};
+use yuktrob_plain::random::Random;
+
+struct Areas {
+    work: Vec<u8>,
+    course: Vec<u16>,
+}
+
+pub fn tables() {
+    let mut areas = Areas { work: vec![0; work_len(1024, 4096)], course: vec![0; course_len(1024, 4096)] };
+    typical(&mut areas);
+    let timed = random_rules(&mut areas);
+    heaviest(&mut areas, &timed);
+    shapes(&mut areas);
+    by_size(&mut areas, &timed);
+}
+
+/// A rule with the time of each implementation.
+struct Timed {
+    ours: Duration,
+    theirs: Duration,
+    rule: Vec<u8>,
+}
+
+fn decision(areas: &mut Areas, rule: &[u8], n: usize, m: usize) -> (Duration, Duration) {
+    let (work, course) = (&mut areas.work[..work_len(n, m)], &mut areas.course[..course_len(n, m)]);
+    let ours = time(|| {
+        black_box(yuktrob::decide(black_box(rule), n, m, work, course)).ok();
+    });
+    let theirs = time(|| plain(rule, n, m, work));
+    (ours, theirs)
+}
+
+/// A decision of the independent implementation, which leaves the work area zero as the proved one does.
+fn plain(rule: &[u8], n: usize, m: usize, work: &mut [u8]) {
+    black_box(decide(black_box(rule), n, m, work.len(), n + m));
+    work.fill(0);
+    black_box(work);
+}
+
+fn typical(areas: &mut Areas) {
+    head("Decision, typical rules, N = 256, M = 300", &BOTH);
+    let (s0, s1): (&[u8], &[u8]) = (&[3, 0], &[3, 1]);
+    let infinitely_often = vec![10, 7, 9, 6, 3, 0, 8, 5, 0, 8, 5, 0];
+    let rules: [(&str, Vec<u8>); 5] = [
+        ("true", vec![1]),
+        ("F s0", eventually(s0)),
+        ("G F s0", infinitely_often.clone()),
+        ("s0 U s1 and G F s0", [&[7][..], &until(s0, s1), &infinitely_often].concat()),
+        ("case H", vec![10, 7, 3, 0, 7, 8, 4, 0, 8, 8, 5, 0]),
+    ];
+    for (name, rule) in &rules {
+        let (ours, theirs) = decision(areas, rule, 256, 300);
+        row(name, ours, theirs);
+    }
+}
+
+/// Each of 10,000 random rules once, the heaviest last.
+fn random_rules(areas: &mut Areas) -> Vec<Timed> {
+    let mut random = Random::new(7);
+    let mut timed = Vec::new();
+    for _ in 0..10_000 {
+        let size = 1 + random.below(47);
+        let rule = random.rule(size);
+        let (work, course) = (&mut areas.work[..], &mut areas.course[..]);
+        let ours = once(|| {
+            black_box(yuktrob::decide(&rule, 1024, 4096, work, course)).ok();
+        });
+        let theirs = once(|| plain(&rule, 1024, 4096, work));
+        timed.push(Timed { ours, theirs, rule });
+    }
+    timed.sort_by_key(|t| t.ours);
+    timed
+}
+
+/// The verdict of the independent implementation with the largest room.
+fn settled(rule: &[u8]) -> Verdict {
+    decide(rule, 1024, 4096, work_len(1024, 4096), course_len(1024, 4096))
+}
+
+fn heaviest(areas: &mut Areas, timed: &[Timed]) {
+    head("Decision, N = 1,024, M = 4,096: the ten heaviest of 10,000 random rules, and the sum over all of them", &BOTH);
+    for Timed { rule, .. } in timed.iter().rev().take(10) {
+        let (ours, theirs) = decision(areas, rule, 1024, 4096);
+        let sizes = match settled(rule) {
+            Verdict::Met { nodes, profiles, .. } => format!("MET, K {nodes}, P {profiles}"),
+            Verdict::Not { nodes, profiles } => format!("NOT, K {nodes}, P {profiles}"),
+            Verdict::Refused(k) => format!("refused {k}"),
+            Verdict::Unread(_) => "unread".into(),
+        };
+        row(&format!("{} bytes, {sizes}", rule.len()), ours, theirs);
+    }
+    row("all 10,000", timed.iter().map(|t| t.ours).sum(), timed.iter().map(|t| t.theirs).sum());
+}
+
+fn shapes(areas: &mut Areas) {
+    head("Decision, N = 1,024, M = 4,096: rules of one shape", &BOTH);
+    let signal_or = |j: u8, limit: u8, part: Vec<u8>| if j < limit { part } else { vec![2] };
+    let later = |steps: usize| [&[6, 3, 0][..], &vec![8; steps], &[4, 0]].concat();
+    let rules: [(&str, Vec<u8>); 10] = [
+        ("F of 3 signals, all", each(3, 7, |j| eventually(&[3, j]))),
+        ("F of 5 signals, all", each(5, 7, |j| eventually(&[3, j]))),
+        ("F of 7 signals, all", each(7, 7, |j| eventually(&[3, j]))),
+        ("G F of 3 signals, all", each(3, 7, |j| vec![10, 7, 9, 6, 3, j, 8, 5, 0, 8, 5, 0])),
+        ("G of one of 12 signals", always(&each(13, 6, |j| signal_or(j, 12, vec![3, j])))),
+        ("G of one of 11 signals next", always(&each(12, 6, |j| signal_or(j, 11, vec![8, 3, j])))),
+        ("G of each of 4 signals or its absence next", always(&each(4, 7, |j| vec![6, 3, j, 8, 4, j]))),
+        ("G of each of 7 signals or its absence next", always(&each(7, 7, |j| vec![6, 3, j, 8, 4, j]))),
+        ("G of each of 9 signals or true next", always(&each(9, 7, |j| vec![6, 3, j, 8, 1]))),
+        ("G of a signal or its absence 11 places on", always(&later(11))),
+    ];
+    for (name, rule) in &rules {
+        let (ours, theirs) = decision(areas, rule, 1024, 4096);
+        row(name, ours, theirs);
+    }
+}
+
+fn by_size(areas: &mut Areas, timed: &[Timed]) {
+    head("Decision by K and P, N = 1,024, M = 4,096: the median rule of those whose P is near", &BOTH);
+    let sizes = |rule: &[u8]| match settled(rule) {
+        Verdict::Met { nodes, profiles, .. } | Verdict::Not { nodes, profiles } => Some((nodes, profiles)),
+        _ => None,
+    };
+    for near in [10, 30, 100, 300, 1000, 3000] {
+        let group: Vec<_> = timed
+            .iter()
+            .filter_map(|t| sizes(&t.rule).map(|(k, p)| (k, p, &t.rule)))
+            .filter(|(_, p, _)| p * 4 >= near * 3 && p * 4 <= near * 5)
+            .collect();
+        if let Some((k, p, rule)) = group.get(group.len() / 2) {
+            let (ours, theirs) = decision(areas, rule, 1024, 4096);
+            row(&format!("K {k}, P {p}"), ours, theirs);
+        }
+    }
+}

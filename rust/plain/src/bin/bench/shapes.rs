@@ -1,0 +1,20 @@
+//! Rules of the usual shapes, in bytes.
+
+/// F, G, U, R in bytes, over what they are applied to.
+pub fn eventually(f: &[u8]) -> Vec<u8> {
+    [&[9, 6][..], f, &[8, 5, 0]].concat()
+}
+pub fn always(f: &[u8]) -> Vec<u8> {
+    [&[10, 7][..], f, &[8, 5, 0]].concat()
+}
+pub fn until(f: &[u8], g: &[u8]) -> Vec<u8> {
+    [&[9, 6][..], g, &[7], f, &[8, 5, 0]].concat()
+}
+pub fn release(f: &[u8], g: &[u8]) -> Vec<u8> {
+    [&[10, 7][..], g, &[6], f, &[8, 5, 0]].concat()
+}
+
+/// The same kind of part for each of the first signals, joined by an or (6) or an and (7).
+pub fn each(signals: u8, joint: u8, part: impl Fn(u8) -> Vec<u8>) -> Vec<u8> {
+    (0..signals).map(part).rev().reduce(|all, one| [&[joint][..], &one, &all].concat()).unwrap_or(vec![1])
+}
