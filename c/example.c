@@ -1,14 +1,56 @@
-/* Decides "sooner or later signal 0" and prints the course. */
+/* Reads, decides and tries a few rules. Each answer is asked for a refusal before it is taken apart. */
 #include "../include/yuktrob.h"
 #include <stdio.h>
 
-int main(void) {
-    static uint8_t work[8 * 256 + 192 * 300];
-    uint16_t course[556];
-    const uint8_t rule[] = {0x09, 0x06, 0x03, 0x00, 0x08, 0x05, 0x00};
-    uint64_t answer = yuktrob_decide(rule, sizeof rule, 256, 300, work, sizeof work, course, 556);
-    printf("%s, lead-in %u, loop %u:", yuktrob_is_met(answer) ? "MET" : "not met", yuktrob_lead(answer), yuktrob_loop(answer));
-    for (unsigned i = 0; i < yuktrob_lead(answer) + yuktrob_loop(answer); i++) printf(" %04x", (unsigned)course[i]);
+enum { NODES = 256, PROFILES = 300 };
+
+static uint8_t work[YUKTROB_WORK_LEN(NODES, PROFILES)];
+static uint16_t course[YUKTROB_COURSE_LEN(NODES, PROFILES)];
+
+static void print_refusal(uint64_t answer) {
+    printf("refused %u", yuktrob_refusal(answer));
+    if (yuktrob_has_place(answer)) printf(" at byte %u", yuktrob_place(answer));
     printf("\n");
+}
+
+static void print_course(uint64_t answer) {
+    unsigned n = yuktrob_lead_len(answer) + yuktrob_loop_len(answer);
+    printf("MET, lead-in %u, loop %u:", yuktrob_lead_len(answer), yuktrob_loop_len(answer));
+    for (unsigned i = 0; i < n; i++) printf(" %04x", (unsigned)course[i]);
+    printf("\n");
+}
+
+/* Whether the rule is true on the course that the decision gave. */
+static void try_course(const uint8_t *rule, size_t rule_len, uint64_t decided) {
+    static uint64_t words[YUKTROB_WORDS_LEN(YUKTROB_COURSE_LEN(NODES, PROFILES))];
+    size_t lead_len = yuktrob_lead_len(decided), n = lead_len + yuktrob_loop_len(decided);
+    uint64_t answer = yuktrob_truth(rule, rule_len, course, n, lead_len, words, sizeof words / sizeof words[0]);
+    if (yuktrob_refusal(answer)) {
+        print_refusal(answer);
+    } else {
+        printf("%s on it\n", yuktrob_is_true(answer) ? "true" : "false");
+    }
+}
+
+static void decide(const uint8_t *rule, size_t rule_len) {
+    uint64_t answer =
+        yuktrob_decide(rule, rule_len, NODES, PROFILES, work, sizeof work, course, sizeof course / sizeof course[0]);
+    if (yuktrob_refusal(answer)) {
+        print_refusal(answer);
+    } else if (yuktrob_is_met(answer)) {
+        print_course(answer);
+        try_course(rule, rule_len, answer);
+    } else {
+        printf("NOT, K %u, P %u\n", yuktrob_nodes(answer), yuktrob_profiles(answer));
+    }
+}
+
+int main(void) {
+    const uint8_t eventually[] = {0x09, 0x06, 0x03, 0x00, 0x08, 0x05, 0x00}; /* sooner or later signal 0 */
+    const uint8_t never[] = {0x02};
+    const uint8_t unguarded[] = {0x09, 0x05, 0x00};
+    decide(eventually, sizeof eventually);
+    decide(never, sizeof never);
+    decide(unguarded, sizeof unguarded);
     return 0;
 }

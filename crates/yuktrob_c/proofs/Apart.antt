@@ -4,7 +4,9 @@ use mathlib.Core.Path.{_≡_, ap, _∙_}
 use Prim.Native.Nat.{ℕ, _+_, _*_, _/_, _%_, _≤_, _<_}
 use native.Mathlib.Omega.{arith}
 use native.Mathlib.Nat.{mod-eq-of-lt, div-eq-of-lt, add-mul-mod-self-left, add-mul-div-left}
+use Rattle.formula.specs.Table.{Operator}
 use Rattle.yuktrob_c.specs.Numbers.{number, found, Small}
+use Rattle.yuktrob_c.specs.Entry.{command-of, argument-of, packed}
 
 module _ (a b m : ℕ) (h : a < b) where
   low : (a + b * m) % b ≡ a
@@ -21,8 +23,8 @@ part : (n below shift a b m : ℕ) → n ≡ below + shift * (a + b * m) → bel
 part n below shift a b m e h k =
     ap (λ (x : ℕ). x / shift % b) e ∙ ap (λ (x : ℕ). x % b) (high below shift (a + b * m) h) ∙ low a b m k
 
--- the header's yuktrob_refusal, yuktrob_is_met, yuktrob_lead, yuktrob_loop, yuktrob_nodes and yuktrob_profiles: shifts by 8, 9, 22, 35
--- and 48 bits
+-- the header's yuktrob_refusal, yuktrob_is_met, yuktrob_lead_len, yuktrob_loop_len, yuktrob_nodes and yuktrob_profiles: shifts by 8, 9,
+-- 22, 35 and 48 bits
 pub record Apart (n met stem cycle K P : ℕ) : Type 0 where
   pub refusal : n % 256 ≡ 0
   pub met-is : n / 256 % 2 ≡ met
@@ -48,4 +50,24 @@ found-apart met stem cycle K P h s =
       profiles-are =
           part n (256 * met + 512 * stem + 4194304 * cycle + 34359738368 * K) 281474976710656 P 8192 0 (omega arith)
           (omega (arith, s .stem-fits, s .cycle-fits, s .nodes-fit)) (omega (arith, s .profiles-fit));
+    }
+
+-- the header's yuktrob_refusal, yuktrob_command, yuktrob_argument and yuktrob_end: shifts by 8, 16 and 24 bits
+pub record EntryApart (n command argument end : ℕ) : Type 0 where
+  pub refusal : n % 256 ≡ 0
+  pub command-is : n / 256 % 256 ≡ command
+  pub argument-is : n / 65536 % 256 ≡ argument
+  pub end-is : n / 16777216 % 256 ≡ end
+
+pub entry-apart : (o : Operator) (end : ℕ) → command-of o < 256 → argument-of o < 256 → end < 256
+    → EntryApart (number 0 (packed o end)) (command-of o) (argument-of o) end
+entry-apart o end h i j =
+    let n = number 0 (packed o end) in
+    let c = command-of o in
+    let a = argument-of o in
+    record {
+      refusal = low 0 256 (packed o end) (omega arith);
+      command-is = part n 0 256 c 256 (a + 256 * end) (omega arith) (omega arith) h;
+      argument-is = part n (256 * c) 65536 a 256 end (omega arith) (omega (arith, h)) i;
+      end-is = part n (256 * c + 65536 * a) 16777216 end 256 0 (omega arith) (omega (arith, h, i)) j;
     }

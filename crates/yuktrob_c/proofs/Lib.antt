@@ -1,5 +1,5 @@
 pub mod Early
-pub mod RowsLaid
+pub mod EntryLaws
 pub mod TruthFit
 pub mod VerdictFit
 pub mod Apart

@@ -4,17 +4,16 @@ use formula::Outcome;
 use formula::Table;
 use lasso::Truth;
 ghost use mathlib.Core.Path.{_≡_};
-ghost use Prim.Native.Nat.{_≤_, _<_};
+ghost use Prim.Native.Nat.{ℕ, _≤_, _<_};
 ghost use lib.ListN.{length};
-ghost use Rattle.formula.specs.Reading.{Reading, reading};
-ghost use Rattle.formula.specs.Rows.{entries-of};
-ghost use Rattle.formula.specs.Holds.{Some};
+ghost use Rattle.formula.specs.Reading.{opcode, Reading, reading};
+ghost use Rattle.formula.specs.Rows.{operator-of, entries-of};
 ghost use Rattle.lasso.specs.Truth.{truth, written};
 ghost use Rattle.lasso.specs.Answer.{lasso, answer};
 ghost use Rattle.decision.specs.Promise.{Decided};
 ghost use Rattle.yuktrob_c.specs.Numbers.{number, Small, TruthFits, VerdictFits};
 ghost use Rattle.yuktrob_c.specs.Numbers.{reading-number, truth-number, found, verdict-number, answer-of};
-ghost use Rattle.yuktrob_c.specs.Rows.{lent, Laid, Copied};
+ghost use Rattle.yuktrob_c.specs.Entry.{argument-of, packed, entry-number, Commands};
 
 // The lowest byte is a refusal's code or 0; what the answer carries stands above it.
 fn number(code: u8, carried: usize) -> u64
@@ -61,43 +60,65 @@ fn verdict_number(v: Verdict) -> u64
     }
 }
 
-fn copy(from: &[u8; 144], rows: &mut [u8])
-    requires { ⌜ 144 ≤ length (now rows) ⌝ }
-    ensures { λ _. ⌜ Copied (now (from .entry)) (now (rows .entry)) (now (rows .exit)) ⌝ }
+// The argument of a command that has one, else 0.
+fn kept(op: u8, argument: u8) -> u8
+    requires { ⌜ (0 < op) × (op < 11) ⌝ }
+    ensures { λ r. ⌜ ((e : ℕ) → r ≡ argument-of (operator-of (opcode op) argument e)) ⌝ }
 {
-    let mut i = 0;
-    while i < 144 {
-        rows[i] = from[i];
-        i += 1;
+    if op < 3 {
+        return 0;
     }
+    if op > 7 {
+        return 0;
+    }
+    argument
 }
 
-// Writes the rows of an accepted formula, if there is room for them.
-fn lay(t: Table, rows: &mut [u8]) -> u64
-    requires { ⌜ Some t ⌝ }
-    ensures numbered { λ r. ⌜ r ≡ reading-number (lent (length (now (rows .entry))) (Reading.accepted (entries-of t))) ⌝ }
-    ensures laid { λ _. ⌜ Laid (lent (length (now (rows .entry))) (Reading.accepted (entries-of t))) (now (rows .entry)) (now (rows .exit)) ⌝ }
+fn packed(op: u8, argument: u8, end: u8) -> u64
+    requires { ⌜ (0 < op) × (op < 11) ⌝ }
+    ensures { λ r. ⌜ ((e : ℕ) → r ≡ number 0 (packed (operator-of (opcode op) argument e) end)) ⌝ }
 {
-    if rows.len() < 144 {
-        return number(255, 0);
-    }
-    let from = t.rows;
-    copy(&from, rows);
-    number(0, t.count)
+    let behind = base::wide(kept(op, argument)) + 256 * base::wide(end);
+    number(0, base::wide(op) + 256 * behind)
 }
 
-// Reads a formula.
+// Subformula e of a table, or 0 if it has no such subformula.
+fn entry(t: Table, e: usize) -> u64
+    requires { ⌜ Commands t ⌝ }
+    ensures { λ r. ⌜ r ≡ entry-number (Reading.accepted (entries-of t)) e ⌝ }
+{
+    if e >= t.count {
+        return 0;
+    }
+    let rows = t.rows;
+    packed(rows[e], rows[48 + e], rows[96 + e])
+}
+
+// Reads a formula: how many subformulas it has.
 #[no_mangle]
-pub extern "C" fn yuktrob_read(rule: &[u8], rows: &mut [u8]) -> u64
-    ensures numbered { λ r. ⌜ r ≡ reading-number (lent (length (now (rows .entry))) (reading (now (rule .entry)))) ⌝ }
-    ensures laid { λ _. ⌜ Laid (lent (length (now (rows .entry))) (reading (now (rule .entry)))) (now (rows .entry)) (now (rows .exit)) ⌝ }
+pub extern "C" fn yuktrob_read(rule: &[u8]) -> u64
+    ensures { λ r. ⌜ r ≡ reading-number (reading (now (rule .entry))) ⌝ }
 {
     let r = formula::read(rule);
     let outcome = r.outcome;
     let t = r.table;
     match outcome {
         Outcome::Refused(why) => number(why.code, why.at),
-        Outcome::Accepted => lay(t, rows),
+        Outcome::Accepted => number(0, t.count),
+    }
+}
+
+// One subformula of a formula.
+#[no_mangle]
+pub extern "C" fn yuktrob_entry(rule: &[u8], e: usize) -> u64
+    ensures { λ r. ⌜ r ≡ entry-number (reading (now (rule .entry))) e ⌝ }
+{
+    let r = formula::read(rule);
+    let outcome = r.outcome;
+    let t = r.table;
+    match outcome {
+        Outcome::Refused(why) => number(why.code, why.at),
+        Outcome::Accepted => entry(t, e),
     }
 }
 

@@ -8,7 +8,8 @@
 use crate::Refusal;
 
 extern "C" {
-    fn yuktrob_read(rule: *const u8, rule_len: usize, rows: *mut u8, rows_len: usize) -> u64;
+    fn yuktrob_read(rule: *const u8, rule_len: usize) -> u64;
+    fn yuktrob_entry(rule: *const u8, rule_len: usize, e: usize) -> u64;
     fn yuktrob_truth(
         rule: *const u8,
         rule_len: usize,
@@ -38,9 +39,14 @@ fn carried(answer: u64) -> Result<u64, Refusal> {
     }
 }
 
-pub fn read(rule: &[u8], rows: &mut [u8; 144]) -> Result<u64, Refusal> {
-    // SAFETY: pointers and lengths are those of slices; see above.
-    carried(unsafe { yuktrob_read(rule.as_ptr(), rule.len(), rows.as_mut_ptr(), rows.len()) })
+pub fn read(rule: &[u8]) -> Result<u64, Refusal> {
+    // SAFETY: pointer and length are those of a slice; see above.
+    carried(unsafe { yuktrob_read(rule.as_ptr(), rule.len()) })
+}
+
+pub fn entry(rule: &[u8], e: usize) -> Result<u64, Refusal> {
+    // SAFETY: pointer and length are those of a slice; see above.
+    carried(unsafe { yuktrob_entry(rule.as_ptr(), rule.len(), e) })
 }
 
 pub fn truth(rule: &[u8], places: &[u16], lead_len: usize, words: &mut [u64]) -> Result<u64, Refusal> {

@@ -49,7 +49,6 @@ pub struct Entry {
 pub struct Rule {
     bytes: Box<[u8]>,
     count: usize,
-    rows: [u8; 144],
 }
 
 impl Rule {
@@ -62,9 +61,8 @@ impl Rule {
     /// # Ok::<(), yuktrob::Refusal>(())
     /// ```
     pub fn read(bytes: &[u8]) -> Result<Rule, Refusal> {
-        let mut rows = [0; 144];
-        let count = exported::read(bytes, &mut rows)? as usize;
-        Ok(Rule { bytes: bytes.into(), count, rows })
+        let count = exported::read(bytes)? as usize;
+        Ok(Rule { bytes: bytes.into(), count })
     }
 
     /// The rule's bytes.
@@ -95,15 +93,15 @@ impl Rule {
     /// let variable = always.entry(4).expect("five entries");
     /// assert_eq!((variable.command, variable.end), (Command::Variable(0), 5));
     /// assert_eq!(always.entry(5), None);
+    /// assert_eq!(always.entry(usize::MAX), None);
     /// # Ok::<(), yuktrob::Refusal>(())
     /// ```
     pub fn entry(&self, e: usize) -> Option<Entry> {
-        if e >= self.count {
-            return None;
-        }
-        let argument = self.rows[48 + e];
+        let told = exported::entry(&self.bytes, e).expect("the bytes were accepted, and they settle what reading gives");
+        let [command, argument, end, ..] = told.to_le_bytes();
         let other = argument.into();
-        let command = match self.rows[e] {
+        let command = match command {
+            0 => return None,
             1 => Command::True,
             2 => Command::False,
             3 => Command::Present(argument),
@@ -115,7 +113,7 @@ impl Rule {
             9 => Command::Least(e + 1),
             _ => Command::Greatest(e + 1),
         };
-        Some(Entry { command, end: self.rows[96 + e].into() })
+        Some(Entry { command, end: end.into() })
     }
 
     /// The entries in order.

@@ -1,10 +1,11 @@
--- `yuktrob_c::yuktrob_read`: a refusal of reading becomes its number; the table of an accepted formula is laid. Assumes nothing.
-use Rattle.yuktrob_c.proofs.Early.{reading-early, early-fits}
-use Rattle.yuktrob_c.proofs.RowsLaid.{refused-answer, accepted-answer}
-use mathlib.Core.Path.{subst}
+-- `yuktrob_c::yuktrob_read`: a refusal of reading becomes its number; the subformulas of an accepted formula are counted. Assumes nothing.
+use mathlib.Core.Path.{sym, ap, _∙_}
+use Prim.Native.Nat.{ℕ, _≤_, _<_}
+use native.Mathlib.Omega.{arith}
 use borrow.Author.Needs.{needs}
-use Rattle.formula.specs.Holds.{Holds}
-use Rattle.formula.specs.declared.Outcome.{Outcome}
+use Rattle.yuktrob_c.specs.Numbers.{number, reading-number}
+use Rattle.yuktrob_c.proofs.Early.{reading-refused, reading-early, early-fits}
+use Rattle.yuktrob_c.proofs.EntryLaws.{accepted-commands, reading-accepted, accepted-count}
 use Rattle.yuktrob_c.proofs.yuktrob_read.Statement.{statement}
 use Rattle.yuktrob_c.proofs.yuktrob_read.Tie as tie
 
@@ -22,29 +23,33 @@ number-requires c κs =
 enum-told : tie.Need-enum-told
 enum-told c = search needs
 
-lay-requires : tie.Need-lay-requires
-lay-requires c κs =
-    let at-read = c .before .before .before .before in
-    subst (λ (o : Outcome). Holds o (at-read .read .result .table)) (c .before .enum-told .given .1) (at-read .read .ensures .1)
+number-requires-2 : tie.Need-number-requires-2
+number-requires-2 c κs =
+    let at-read = c .before .before .before in
+    let x = at-read .read .result in
+    few-fits (accepted-commands _ x (at-read .read .ensures .0) (c .enum-told .given .1) .few)
+  where
+    few-fits : {n : ℕ} → n ≤ 48 → n < 72057594037927936
+    few-fits h = omega arith
 
 returns : tie.Need-returns
 returns c =
     let at-read = c .before .before .before .before .before in
-    let at-start = at-read .before .before .before in
-    refused-answer (at-start .args .rule .now) (at-read .read .result) (at-read .read .ensures .0) (at-start .args .rows .now) (c .number .result) _
-    (c .before .before .outcome .given .1) (c .number .ensures)
-
-same-length : tie.Need-same-length
-same-length c = search needs
+    let at-start = at-read .before .before in
+    c .number .ensures
+    ∙ sym
+    (ap reading-number
+    (reading-refused (at-start .args .rule .now) (at-read .read .result) (at-read .read .ensures .0) _ (c .before .before .outcome .given .1)))
 
 returns-2 : tie.Need-returns-2
 returns-2 c =
-    let at-lay = c .before .before in
-    let at-told = at-lay .before .before in
+    let at-told = c .before in
     let at-read = at-told .before .before .before in
-    let at-start = at-read .before .before .before in
-    accepted-answer (at-start .args .rule .now) (at-read .read .result) (at-read .read .ensures .0) (at-start .args .rows .now) (at-lay .lay .last .1 .0)
-    (at-lay .lay .result) (at-told .enum-told .given .1) (at-lay .lay .ensures)
+    let at-start = at-read .before .before in
+    let x = at-read .read .result in
+    c .number2 .ensures
+    ∙ sym (ap (number 0) (accepted-count (at-start .args .rule .now) x (at-read .read .ensures .0) (at-told .enum-told .given .1)))
+    ∙ ap reading-number (reading-accepted (at-start .args .rule .now) x (at-read .read .ensures .0) (at-told .enum-told .given .1))
 
 pub yuktrob-read-spec : {M : Type 1} → statement M
 yuktrob-read-spec =
@@ -54,7 +59,6 @@ yuktrob-read-spec =
     enum-known-outcome
     number-requires
     enum-told
-    lay-requires
+    number-requires-2
     returns
-    same-length
     returns-2)

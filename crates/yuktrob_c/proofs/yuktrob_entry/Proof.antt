@@ -1,0 +1,61 @@
+-- `yuktrob_c::yuktrob_entry`: a refusal of reading becomes its number; of an accepted formula the entry is told. Assumes nothing.
+use mathlib.Core.Path.{sym, ap, _∙_}
+use borrow.Author.Needs.{needs}
+use Rattle.formula.specs.Table.{Entries}
+use Rattle.formula.specs.Reading.{Reading}
+use Rattle.yuktrob_c.specs.Entry.{entry-number}
+use Rattle.yuktrob_c.proofs.Early.{reading-refused, reading-early, early-fits}
+use Rattle.yuktrob_c.proofs.EntryLaws.{accepted-commands, reading-accepted}
+use Rattle.yuktrob_c.proofs.yuktrob_entry.Statement.{statement}
+use Rattle.yuktrob_c.proofs.yuktrob_entry.Tie as tie
+
+read-requires : tie.Need-read-requires
+read-requires c κs = search needs
+
+enum-known-outcome : tie.Need-enum-known-outcome
+enum-known-outcome c = search needs
+
+number-requires : tie.Need-number-requires
+number-requires c κs =
+    let at-read = c .before .before .before .before in
+    early-fits (reading-early _ (at-read .read .result) (at-read .read .ensures .0) _ (c .before .outcome .given .1))
+
+enum-told : tie.Need-enum-told
+enum-told c = search needs
+
+entry-requires : tie.Need-entry-requires
+entry-requires c κs =
+    let at-read = c .before .before .before in
+    accepted-commands _ (at-read .read .result) (at-read .read .ensures .0) (c .enum-told .given .1)
+
+returns : tie.Need-returns
+returns c =
+    let at-read = c .before .before .before .before .before in
+    let at-start = at-read .before .before in
+    let e = at-start .args .e in
+    c .number .ensures
+    ∙ sym
+    (ap (λ (x : Reading Entries). entry-number x e)
+    (reading-refused (at-start .args .rule .now) (at-read .read .result) (at-read .read .ensures .0) _ (c .before .before .outcome .given .1)))
+
+returns-2 : tie.Need-returns-2
+returns-2 c =
+    let at-told = c .before in
+    let at-read = at-told .before .before .before in
+    let at-start = at-read .before .before in
+    let e = at-start .args .e in
+    c .entry .ensures
+    ∙ ap (λ (x : Reading Entries). entry-number x e)
+    (reading-accepted (at-start .args .rule .now) (at-read .read .result) (at-read .read .ensures .0) (at-told .enum-told .given .1))
+
+pub yuktrob-entry-spec : {M : Type 1} → statement M
+yuktrob-entry-spec =
+    tie.close
+    (tie.spec
+    read-requires
+    enum-known-outcome
+    number-requires
+    enum-told
+    entry-requires
+    returns
+    returns-2)
