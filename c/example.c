@@ -1,4 +1,4 @@
-/* Reads, decides and tries a few rules. Each answer is asked for a refusal before it is taken apart. */
+/* Lists the entries of a rule, decides a few, and tries the course of one. Each answer is asked for a refusal before it is taken apart. */
 #include "../include/yuktrob.h"
 #include <stdio.h>
 
@@ -11,6 +11,19 @@ static void print_refusal(uint64_t answer) {
     printf("refused %u", yuktrob_refusal(answer));
     if (yuktrob_has_place(answer)) printf(" at byte %u", yuktrob_place(answer));
     printf("\n");
+}
+
+/* Each entry: its command, its argument, the entry after its last. */
+static void list(const uint8_t *rule, size_t rule_len) {
+    uint64_t answer = yuktrob_read(rule, rule_len);
+    if (yuktrob_refusal(answer)) {
+        print_refusal(answer);
+        return;
+    }
+    for (size_t e = 0; e < yuktrob_entry_count(answer); e++) {
+        uint64_t entry = yuktrob_entry(rule, rule_len, e);
+        printf("entry %u: %02x %u %u\n", (unsigned)e, yuktrob_command(entry), yuktrob_argument(entry), yuktrob_end(entry));
+    }
 }
 
 static void print_course(uint64_t answer) {
@@ -49,6 +62,8 @@ int main(void) {
     const uint8_t eventually[] = {0x09, 0x06, 0x03, 0x00, 0x08, 0x05, 0x00}; /* sooner or later signal 0 */
     const uint8_t never[] = {0x02};
     const uint8_t unguarded[] = {0x09, 0x05, 0x00};
+    list(eventually, sizeof eventually);
+    list(unguarded, sizeof unguarded);
     decide(eventually, sizeof eventually);
     decide(never, sizeof never);
     decide(unguarded, sizeof unguarded);
