@@ -1,6 +1,6 @@
 //! One input through the proved library and the independent implementation: what differs, if anything.
 
-use crate::random::{alternates, Random};
+use crate::random::{nesting, Random};
 use crate::reading::{self, Unreadable};
 use crate::truth::{self, Truth};
 use crate::{decision, decision::Verdict};
@@ -17,13 +17,13 @@ fn theirs(why: Unreadable) -> Refused {
     (why.number, Some(why.place))
 }
 
-/// The rule's bytes: at random, damaged, short, long, or with alternating fixpoints.
+/// The rule's bytes: at random, damaged, short, long, or with fixpoints that cross, most of which alternate.
 pub fn rule(random: &mut Random) -> Vec<u8> {
     let most = [4, 12, 24, 48, 60][random.below(5)];
     let size = 1 + random.below(most);
     match random.below(10) {
         0..=1 => random.damaged(size),
-        2..=4 => random.alternating(),
+        2..=4 => random.crossing(),
         _ => random.rule(size),
     }
 }
@@ -69,10 +69,10 @@ const SHORT: usize = 40;
 /// How many places: mostly few, now and then many, up to `longest`, and now and then more than a course may have.
 fn length(random: &mut Random, longest: usize) -> usize {
     match random.below(1000) {
-        0 => longest - random.below(2),
-        1..=4 => random.below(longest),
-        5..=9 => 8193 + random.below(100),
-        10..=29 => random.below(longest.min(400)),
+        0..=3 => longest - random.below(2),
+        4..=19 => random.below(longest),
+        20..=24 => 8193 + random.below(100),
+        25..=44 => random.below(longest.min(400)),
         _ => {
             let most = [2, 6, 20, 60][random.below(4)];
             random.below(most)
@@ -118,7 +118,7 @@ pub fn truth(random: &mut Random, rule: &[u8], longest: usize, truths: &mut Trut
     let mut words = x.lent.clone();
     let ours = yuktrob::truth(rule, &x.places, x.lead_len, &mut words).map_err(ours);
     let (theirs, after) = expected(rule, &x)?;
-    let alternating = theirs.is_ok() && reading::read(rule).is_ok_and(|entries| alternates(&entries));
+    let alternating = theirs.is_ok() && reading::read(rule).is_ok_and(|entries| nesting(&entries).alternating);
     truths.all += 1;
     truths.alternating += alternating as u64;
     truths.long += (alternating && x.places.len() >= LONG) as u64;

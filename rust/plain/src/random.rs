@@ -4,16 +4,29 @@ use crate::reading::{ends, read, Command};
 
 pub struct Random(u64);
 
-/// Whether a variable names a fixpoint outside of one of the other kind that it stands in.
-pub fn alternates(entries: &[Command]) -> bool {
+/// Whether a variable stands inside a fixpoint that its own one is around, and whether for some variable these two are of different kinds.
+#[derive(Clone, Copy, Debug, PartialEq, Eq)]
+pub struct Nesting {
+    pub crossing: bool,
+    pub alternating: bool,
+}
+
+pub fn nesting(entries: &[Command]) -> Nesting {
     let ends = ends(entries);
     let is_least = |f: usize| match entries[f] {
         Command::Least(_) => Some(true),
         Command::Greatest(_) => Some(false),
         _ => None,
     };
-    let crosses = |e: usize, m: usize| (m + 1..e).any(|f| ends[f] > e && is_least(f).is_some_and(|least| Some(least) != is_least(m)));
-    entries.iter().enumerate().any(|(e, command)| matches!(*command, Command::Variable(m) if crosses(e, m)))
+    let mut found = Nesting { crossing: false, alternating: false };
+    for (e, command) in entries.iter().enumerate() {
+        let Command::Variable(m) = *command else { continue };
+        for inner in (m + 1..e).filter(|&f| ends[f] > e).filter_map(is_least) {
+            found.crossing = true;
+            found.alternating |= Some(inner) != is_least(m);
+        }
+    }
+    found
 }
 
 impl Random {
@@ -81,17 +94,22 @@ impl Random {
         }
     }
 
-    /// A rule with 2 to 7 fixpoints, one in the other and mostly by turns least and greatest, with a variable of an outer one inside an
-    /// inner one of the other kind.
-    pub fn alternating(&mut self) -> Vec<u8> {
+    /// A rule with 2 to 7 fixpoints, one in the other, with a variable of an outer one inside an inner one. Mostly they are by turns least
+    /// and greatest, in every fourth rule all of one kind.
+    pub fn crossing(&mut self) -> Vec<u8> {
         loop {
             let (deep, size) = (2 + self.below(6), 6 + self.below(38));
-            let mut draft = Draft { signals: 1 + self.below(3), least: self.one_in(2), rule: Vec::new() };
-            self.nest(deep, size, &mut Vec::new(), &mut draft);
-            if read(&draft.rule).is_ok_and(|entries| alternates(&entries)) {
-                return draft.rule;
+            let draft = Draft { signals: 1 + self.below(3), least: self.one_in(2), turns: !self.one_in(4), rule: Vec::new() };
+            let rule = self.drafted(deep, size, draft);
+            if read(&rule).is_ok_and(|entries| nesting(&entries).crossing) {
+                return rule;
             }
         }
+    }
+
+    fn drafted(&mut self, deep: usize, size: usize, mut draft: Draft) -> Vec<u8> {
+        self.nest(deep, size, &mut Vec::new(), &mut draft);
+        draft.rule
     }
 
     /// A part with so many fixpoints, one in the other; `scope` has of each fixpoint around whether a next stands between.
@@ -99,7 +117,7 @@ impl Random {
         match self.below(6) {
             _ if deep == 0 && (size < 3 || self.one_in(3)) => self.leaf(scope, draft),
             0..=2 if deep > 0 => {
-                draft.least ^= !self.one_in(4);
+                draft.least ^= draft.turns && !self.one_in(4);
                 draft.rule.push(if draft.least { 9 } else { 10 });
                 scope.push(false);
                 self.nest(deep - 1, size.saturating_sub(1), scope, draft);
@@ -175,9 +193,10 @@ impl Random {
     }
 }
 
-/// An alternating rule as far as it is written: how many signals it has, and whether its last fixpoint is a least one.
+/// A rule as far as it is written: how many signals it has, whether its last fixpoint is a least one, and whether the kinds change.
 struct Draft {
     signals: usize,
     least: bool,
+    turns: bool,
     rule: Vec<u8>,
 }

@@ -1,6 +1,6 @@
 //! The independent implementation's two methods for truth say the same, and both say what document 01 gives.
 
-use yuktrob_plain::random::{alternates, Random};
+use yuktrob_plain::random::{nesting, Random};
 use yuktrob_plain::reading::{read, Command};
 use yuktrob_plain::truth::{by_laps, by_rounds, Truth};
 
@@ -19,23 +19,39 @@ fn document_01() {
     assert_eq!(same(&[9, 7, 3, 0, 8, 5, 0], &[1], 0), Truth::Told(false, vec![4]));
 }
 
+fn fixpoints(entries: &[Command]) -> usize {
+    entries.iter().filter(|c| matches!(c, Command::Least(_) | Command::Greatest(_))).count()
+}
+
 #[test]
-fn alternating_rules() {
+fn crossing_rules() {
     let mut random = Random::new(11);
-    let (mut met, mut deepest) = (0, 0);
+    let (mut met, mut alternating, mut by_depth) = (0, 0, [0; 8]);
     for _ in 0..20_000 {
-        let rule = random.alternating();
+        let rule = random.crossing();
         let entries = read(&rule).expect("a rule");
-        assert!(alternates(&entries));
-        let fixpoints = entries.iter().filter(|c| matches!(c, Command::Least(_) | Command::Greatest(_))).count();
-        assert!((2..=7).contains(&fixpoints));
-        deepest = deepest.max(fixpoints);
+        assert!(nesting(&entries).crossing);
+        alternating += nesting(&entries).alternating as u32;
+        by_depth[fixpoints(&entries)] += 1;
         let n = 1 + random.below(40);
         let (places, lead_len) = (random.course(n), random.below(n));
         met += matches!(same(&rule, &places, lead_len), Truth::Told(true, _)) as u32;
     }
-    assert_eq!(deepest, 7);
+    // so that the draws are worth something
     assert!((5_000..15_000).contains(&met), "{met} of 20,000 are met");
+    assert!((10_000..19_000).contains(&alternating), "{alternating} of 20,000 alternate");
+    assert!(by_depth[2..].iter().all(|&n| n > 500), "by the number of fixpoints: {by_depth:?}");
+}
+
+#[test]
+fn nestings() {
+    let of = |rule: &[u8]| nesting(&read(rule).expect("a rule"));
+    // always, sooner or later: the inner fixpoint has only its own variable
+    assert!(!of(&[10, 7, 9, 6, 3, 0, 8, 5, 0, 8, 5, 0]).crossing);
+    // case J, and with two least fixpoints
+    assert!(of(&[10, 9, 6, 7, 3, 0, 8, 5, 1, 8, 5, 0]).alternating);
+    let alike = of(&[9, 9, 6, 7, 3, 0, 8, 5, 1, 8, 5, 0]);
+    assert!(alike.crossing && !alike.alternating);
 }
 
 #[test]

@@ -1,4 +1,4 @@
-//! Truth of rules with alternating fixpoints: a table, and a search for slow ones.
+//! Truth of rules with fixpoints that alternate, or only cross: a table, and a search for slow ones.
 
 use crate::timing::{head, micros, once, ratio};
 use crate::truths::{laps, proved};
@@ -13,6 +13,7 @@ type Course = (Vec<u16>, usize);
 type Kind = (&'static str, fn(usize) -> Course);
 
 const GAP: Kind = ("a loop of FFFF, the middle place 0000", |n| (with_middle(n, 0xffff, 0), 0));
+const BLAZE: Kind = ("a loop of 0000, the middle place FFFF", |n| (with_middle(n, 0, 0xffff), 0));
 const SPARK: Kind = ("a loop of 0000, the middle place 0001", |n| (with_middle(n, 0, 1), 0));
 const FADING: Kind = ("a lead-in of 0001, a loop 0000", |n| (with_last(n, 1, 0), n - 1));
 const ENDING: Kind = ("a lead-in of FFFF, a loop 0000", |n| (with_last(n, 0xffff, 0), n - 1));
@@ -21,7 +22,7 @@ const HALVES: Kind = ("half 0000, one 0002, half 0001, a loop 0000", halves);
 const TURNS: Kind = ("a loop of 0001 and 0002 by turns, the middle place 0000", |n| (turns(n), 0));
 const MIXED: Kind = ("random places of three signals, the later half a loop", |n| (Random::new(n as u64).places(n), n / 2));
 
-const KINDS: [Kind; 8] = [GAP, SPARK, FADING, ENDING, STARTING, HALVES, TURNS, MIXED];
+const KINDS: [Kind; 9] = [GAP, BLAZE, SPARK, FADING, ENDING, STARTING, HALVES, TURNS, MIXED];
 
 fn with_middle(n: usize, place: u16, middle: u16) -> Vec<u16> {
     (0..n).map(|i| if i == n / 2 { middle } else { place }).collect()
@@ -43,8 +44,9 @@ fn halves(n: usize) -> Course {
 const CASE_J: &str = "0A 09 06 07 03 00 08 05 01 08 05 00";
 const CASE_L: &str = "09 0A 06 07 03 00 08 05 01 08 05 00";
 
-/// Rules and courses that take many rounds: some made for it, the last three the slowest that `bench search` found.
-const TABLE: [(&str, &str, Kind); 8] = [
+/// Rules and courses that take many rounds: some made for it, the three before the last the slowest that `bench search` found, and two
+/// whose fixpoints are all of one kind but cross.
+const TABLE: [(&str, &str, Kind); 10] = [
     ("seven fixpoints", "0A 08 09 09 07 05 02 09 07 03 01 06 06 08 09 08 06 05 04 07 03 01 05 02 05 03 09 08 09 08 07 05 02 06 06 05 01 05 03 05 03", GAP),
     ("three fixpoints", "09 0A 09 06 03 01 06 08 05 02 06 07 03 00 08 05 01 07 03 02 08 05 00", HALVES),
     ("case J", CASE_J, FADING),
@@ -53,6 +55,8 @@ const TABLE: [(&str, &str, Kind); 8] = [
     ("five, found", "09 0A 0A 0A 09 07 03 00 06 06 06 08 05 02 08 05 03 06 07 08 03 02 08 05 00 06 08 05 02 08 05 04 06 08 05 01 08 05 03", ENDING),
     ("seven, found", "08 0A 07 07 08 05 00 08 05 00 09 09 07 04 01 09 0A 06 07 09 07 07 0A 08 05 04 04 01 08 05 04 08 05 04 04 00", FADING),
     ("seven, found", "07 06 07 0A 06 07 08 05 00 03 00 08 0A 07 04 01 07 08 06 04 01 0A 0A 07 05 02 07 09 06 05 04 0A 06 07 09 08 05 00 08 05 00 08 05 01 04 00 05 01 07 07 03 00 04 00 06 04 01 04 01 04 01 04 00", STARTING),
+    ("six least", "09 09 09 09 09 06 09 08 07 05 03 05 04 04 00", ENDING),
+    ("four least", "09 09 09 06 09 08 07 07 06 03 00 05 02 05 02 05 01 03 01", BLAZE),
 ];
 
 fn bytes(text: &str) -> Vec<u8> {
@@ -95,7 +99,7 @@ pub fn search(count: usize, seed: u64, places: usize) {
     let mut random = Random::new(seed);
     let mut slowest: Vec<Tried> = Vec::new();
     for _ in 0..count {
-        let rule = random.alternating();
+        let rule = random.crossing();
         if fixpoints(&rule) >= 3 {
             slowest.extend(KINDS.map(|kind| tried(&rule, kind, places)).into_iter().max_by_key(|t| t.took));
             slowest.sort_by_key(|t| std::cmp::Reverse(t.took));

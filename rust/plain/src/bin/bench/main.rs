@@ -2,8 +2,8 @@
 //!
 //! - `bench`: all tables.
 //! - `bench alternating [SHORT LONG]`: the table of truth with alternating fixpoints, at these numbers of places.
-//! - `bench search COUNT SEED [PLACES]`: which of so many random rules with alternating fixpoints take the proved library longest, and on
-//!   which course.
+//! - `bench search COUNT SEED [PLACES]`: which of so many random rules with fixpoints that cross, most of which alternate, take the proved
+//!   library longest, and on which course.
 //!
 //! Buffers are made once and not cleared between calls. The decision leaves its work area zero, as the defining paper asks, which is part of
 //! its time; the independent implementation has no use for that area, and clears one of the same size behind each decision.
