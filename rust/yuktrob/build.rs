@@ -1,9 +1,12 @@
-//! Links the proved library. `rt staticlib yuktrob_c`, run at the top of the repository, writes it.
+//! Links the proved library. `rt staticlib yuktrob_c`, run at the top of the repository, writes it. YUKTROB_LIB_DIR names its folder if it
+//! was moved.
 
-use std::path::Path;
+use std::path::{Path, PathBuf};
 
 fn main() {
-    let folder = Path::new(env!("CARGO_MANIFEST_DIR")).join("../../target/staticlib");
+    let built = Path::new(env!("CARGO_MANIFEST_DIR")).join("../../target/staticlib");
+    let folder = std::env::var_os("YUKTROB_LIB_DIR").map_or(built, PathBuf::from);
+    println!("cargo:rerun-if-env-changed=YUKTROB_LIB_DIR");
     let library = folder.join("libyuktrob_c.a");
     println!("cargo:rerun-if-changed={}", library.display());
     if !library.exists() {

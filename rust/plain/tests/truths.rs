@@ -64,3 +64,25 @@ fn any_rules() {
         same(&rule, &places, lead_len);
     }
 }
+
+/// A long course that is the same as a short one, its loop unrolled into the lead-in and the new loop: which short place each place is, and
+/// the length of the lead-in.
+fn unrolled(n: usize, lead_len: usize, laps: usize, around: usize) -> (Vec<usize>, usize) {
+    let once: Vec<usize> = (lead_len..n).collect();
+    let all = [(0..lead_len).collect(), once.repeat(laps + around)].concat();
+    (all, lead_len + laps * once.len())
+}
+
+#[test]
+fn a_loop_that_is_unrolled_changes_nothing() {
+    let mut random = Random::new(13);
+    for _ in 0..400 {
+        let (rule, n) = (random.crossing(), 1 + random.below(40));
+        let (short, lead_len) = (random.course(n), random.below(n));
+        let Truth::Told(met, words) = by_rounds(&rule, &short, lead_len, n) else { panic!("{rule:02x?} is refused") };
+        let (from, long_lead_len) = unrolled(n, lead_len, random.below(20), 1 + random.below(20));
+        let long: Vec<u16> = from.iter().map(|&i| short[i]).collect();
+        let expected = from.iter().map(|&i| words[i]).collect();
+        assert_eq!(by_laps(&rule, &long, long_lead_len, long.len()), Truth::Told(met, expected), "{rule:02x?} on {short:04x?}");
+    }
+}

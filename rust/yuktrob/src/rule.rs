@@ -1,6 +1,15 @@
 use crate::{decision, exported, truth, Areas, Refusal, Verdict};
 
 /// What an entry is, with the numbers of the entries that it leads to.
+///
+/// ```
+/// use yuktrob::{Command, Rule};
+/// // signal 2, or no signal 0 at the next place
+/// let rule = Rule::read(&[0x06, 0x03, 0x02, 0x08, 0x04, 0x00])?;
+/// let commands: Vec<Command> = rule.entries().map(|entry| entry.command).collect();
+/// assert_eq!(commands, [Command::Or(1, 2), Command::Present(2), Command::Next(3), Command::Absent(0)]);
+/// # Ok::<(), yuktrob::Refusal>(())
+/// ```
 #[derive(Clone, Copy, Debug, PartialEq, Eq, Hash)]
 pub enum Command {
     /// True at every place.
@@ -26,6 +35,13 @@ pub enum Command {
 }
 
 /// One entry of a rule.
+///
+/// ```
+/// let rule = yuktrob::Rule::read(&[0x07, 0x08, 0x01, 0x02])?;
+/// // entry 1, a next, holds the entries 1 and 2
+/// assert_eq!(rule.entry(1).map(|entry| entry.end), Some(3));
+/// # Ok::<(), yuktrob::Refusal>(())
+/// ```
 #[derive(Clone, Copy, Debug, PartialEq, Eq, Hash)]
 #[non_exhaustive]
 pub struct Entry {
