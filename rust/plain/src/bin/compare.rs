@@ -1,5 +1,5 @@
 //! Runs the proved library and the independent implementation on the same random inputs, and reports every difference.
-//! `compare [INPUTS [SEED [LONGEST]]]`, where no course that both work out is longer than LONGEST places.
+//! `compare [INPUTS [SEED [LONGEST]]]`, where no course that both work out is longer than LONGEST places, 60 at least and 8,192 at most.
 
 use std::time::Instant;
 use yuktrob_plain::compared::{self, Areas, Truths, LONG};
