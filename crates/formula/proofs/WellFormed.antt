@@ -1,7 +1,7 @@
--- The table of a closed, guarded formula is well formed. Numbers are given in prefix order, so the subformulas of an operator are those from
--- its own number up to its end: operands come later and end no later, a variable's binder comes before it and ends behind it, and
--- between the two stands a next. First every number is found to be a subformula of the tree that stands there (`Stands`, `located`); what
--- a table looks like at a number (`Shaped`) is then read off the subformula's top. Assumes nothing.
+-- The table of a closed, guarded formula is well formed. Numbers are given in prefix order, so the subformulas of an operator are those
+-- from its own number up to its end: operands come later and end no later, a variable's binder comes before it and ends behind it, and
+-- between the two stands a next. First every number is found to be a subformula of the tree that stands there (`Stands`, `located`);
+-- what a table looks like at a number (`Shaped`) is then read off the subformula's top. Assumes nothing.
 use mathlib.Core.Path.{_≡_, refl, ap, _∙_}
 use mathlib.Core.Bool.{Bool, true, false}
 use mathlib.Core.List.{List, [], _∷_, _++_, map}
@@ -92,7 +92,13 @@ module _ (operator : ℕ → Operator) (end : ℕ → ℕ) (count : ℕ) where
         fixpoint = b .fixpoint;
         guard = λ t.
             let n = b .guard t in
-            record { number = n .number; behind = n .behind; before = omega (arith, n .before); around = omega (arith, n .around); next = n .next };
+            record {
+              number = n .number;
+              behind = n .behind;
+              before = omega (arith, n .before);
+              around = omega (arith, n .around);
+              next = n .next;
+            };
       }
 
   -- the operands of what stands at e stand at their numbers
@@ -137,7 +143,13 @@ module _ (operator : ℕ → Operator) (end : ℕ → ℕ) (count : ℕ) where
                 around = omega (arith, b .around);
                 fixpoint = b .fixpoint;
                 guard = λ g.
-                    record { number = e; behind = b .before; before = omega arith; around = omega (arith, stands-end h); next = rw (sits-first (h .operators)) tt };
+                    record {
+                      number = e;
+                      behind = b .before;
+                      before = omega arith;
+                      around = omega (arith, stands-end h);
+                      next = rw (sits-first (h .operators)) tt;
+                    };
               };
         }
 
@@ -155,7 +167,12 @@ module _ (operator : ℕ → Operator) (end : ℕ → ℕ) (count : ℕ) where
       where
         inner : (d : ℕ) → d < suc (length binders) → Binds (getD (e ∷ binders) d 0) (e + 1) (e + 1 + size a) (getD (false ∷ scope) d false)
         inner zero i =
-            record { before = omega arith; around = omega (arith, stands-end h); fixpoint = rw (sits-first (h .operators)) tt; guard = λ g. absurd g }
+            record {
+              before = omega arith;
+              around = omega (arith, stands-end h);
+              fixpoint = rw (sits-first (h .operators)) tt;
+              guard = λ g. absurd g;
+            }
         inner (suc d) i = binds-in (e + 1) (e + 1 + size a) (omega arith) (omega arith) (h .enclosed d (omega arith))
 
   -- a number with the subformula that stands there
@@ -199,7 +216,8 @@ module _ (operator : ℕ → Operator) (end : ℕ → ℕ) (count : ℕ) where
   each {e} (Formula.fix g a) h = each-to (e + (1 + size a)) (omega arith) (each-first h (each a (stands-body h)))
 
   -- every number from e up to the end of what stands there
-  pub located : {e : ℕ} {scope : Scope} {binders : List ℕ} {f : Formula} → Stands e scope binders f → (x : ℕ) → e ≤ x → x < end e → Located x
+  pub located : {e : ℕ} {scope : Scope} {binders : List ℕ} {f : Formula} → Stands e scope binders f → (x : ℕ) → e ≤ x → x < end e
+      → Located x
   located {e} {f = f} h = each-to (end e) (stands-end h) (each f h)
 
   pub stands-nested : {e : ℕ} {scope : Scope} {binders : List ℕ} {f : Formula} → Stands e scope binders f → (x : ℕ) → e ≤ x → x < end e
@@ -258,10 +276,18 @@ module _ (operator : ℕ → Operator) (end : ℕ → ℕ) (count : ℕ) where
       })
   operands-at (Formula.next a) h =
       rw (sits-first (h .operators))
-      (record { first = refl; inside = omega (arith, size-some a, stands-end h); last = omega (arith, stands-end (stands-next h), stands-end h) })
+      (record {
+        first = refl;
+        inside = omega (arith, size-some a, stands-end h);
+        last = omega (arith, stands-end (stands-next h), stands-end h);
+      })
   operands-at (Formula.fix g a) h =
       rw (sits-first (h .operators))
-      (record { first = refl; inside = omega (arith, size-some a, stands-end h); last = omega (arith, stands-end (stands-body h), stands-end h) })
+      (record {
+        first = refl;
+        inside = omega (arith, size-some a, stands-end h);
+        last = omega (arith, stands-end (stands-body h), stands-end h);
+      })
 
   pub stands-shaped : {e : ℕ} {scope : Scope} {binders : List ℕ} {f : Formula} → Stands e scope binders f → Shaped e
   stands-shaped {f = f} h =

@@ -58,7 +58,8 @@ module _ (rows : List ℕ) (c : Lasso) (w : List ℕ) where
   judged b v h k l a = record {
     answer = λ f t. ap Told (a .truth f t) ∙ sym (ap answer (all-well f h k l));
     words = λ f t.
-        a .words f t ∙ ap (λ (m : ℕ). labelling c f ++ drop m w) (sym (length-labelling c f)) ∙ sym (ap (λ (t : Truth). written t w) (all-well f h k l));
+        a .words f t ∙ ap (λ (m : ℕ). labelling c f ++ drop m w) (sym (length-labelling c f))
+        ∙ sym (ap (λ (t : Truth). written t w) (all-well f h k l));
   }
 
 -- the rows that reading hands back have the formula at 0
@@ -68,7 +69,8 @@ held-written bytes t h =
     let limits = parse-limited bytes f (h .parsed) in
     let s = stands-whole (operator-at (t .rows)) (end-at (t .rows)) f
     (λ e l. row (operator-at (t .rows)) nothing e l ∙ ap (λ (x : List Operator). getD x e nothing) (h .operators))
-    (λ e l. row (end-at (t .rows)) 0 e l ∙ ap (λ (x : List ℕ). getD x e 0) (h .ends)) (parse-guarded bytes f (h .parsed)) (limits .signals) in
+    (λ e l. row (end-at (t .rows)) 0 e l ∙ ap (λ (x : List ℕ). getD x e 0) (h .ends)) (parse-guarded bytes f (h .parsed))
+    (limits .signals) in
     record {
       operators = s .operators;
       bounds = s .bounds;

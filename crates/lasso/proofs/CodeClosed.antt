@@ -1,5 +1,5 @@
--- A subformula without variables of the fixpoints around it has the same sets whatever theirs are; so it is labelled once, and then left as it
--- is. Assumes nothing.
+-- A subformula without variables of the fixpoints around it has the same sets whatever theirs are; so it is labelled once, and then
+-- left as it is. Assumes nothing.
 use mathlib.Core.Path.{_≡_, refl, sym, ap, _∙_}
 use mathlib.Core.Logic.{_⊎_, inl, inr}
 use mathlib.Core.Bool.{true, false}
@@ -50,9 +50,11 @@ module _ (rows bs : List ℕ) (e₀ : ℕ) (outer : (d : ℕ) → d < length bs 
     closes b (e + 1 + size a) s xs (stands-right (operator-at rows) (end-at rows) 48 h) (λ k l m. free k (omega arith) (omega arith)),
   )
   closes (Formula.next a) e s xs h free =
-      closes a (e + 1) (map (λ _. true) s) xs (stands-next (operator-at rows) (end-at rows) 48 h) (λ k l m. free k (omega arith) (omega arith))
+      closes a (e + 1) (map (λ _. true) s) xs (stands-next (operator-at rows) (end-at rows) 48 h)
+      (λ k l m. free k (omega arith) (omega arith))
   closes (Formula.fix g a) e s xs h free =
-      closes a (e + 1) (false ∷ s) (e ∷ xs) (stands-body (operator-at rows) (end-at rows) 48 h) (λ k l m. free k (omega arith) (omega arith))
+      closes a (e + 1) (false ∷ s) (e ∷ xs) (stands-body (operator-at rows) (end-at rows) 48 h)
+      (λ k l m. free k (omega arith) (omega arith))
 
 repeat-same : (k : ℕ) (f g : Positions → Positions) → ((s : Positions) → f s ≡ g s) → (s : Positions) → repeat k f s ≡ repeat k g s
 repeat-same zero f g h s = refl
@@ -132,7 +134,8 @@ known-join {rows} {c} {lo} {hi} {w} mid a b = record { shown = λ k l m. by k l 
 
 -- one number more in front, of a subformula that is labelled if it is closed
 pub known-first : {rows : List ℕ} {c : Lasso} {e hi : ℕ} {w : List ℕ}
-    → (Alone rows e → (f : Formula) (s : Scope) (bs : List ℕ) → Written rows e s bs f → columns (length (c .letters)) w e (size f) ≡ sets c f [])
+    → (Alone rows e → (f : Formula) (s : Scope) (bs : List ℕ) → Written rows e s bs f
+    → columns (length (c .letters)) w e (size f) ≡ sets c f [])
     → Known rows c (e + 1) hi w → Known rows c e hi w
 known-first {rows} {c} {e} {hi} {w} own rest = record { shown = λ k l m. by k l m (decLt e k) }
   where
@@ -163,7 +166,8 @@ module _ (rows : List ℕ) (c : Lasso) (e : ℕ) (w : List ℕ) where
     pub open-evaluated : (Alone rows e → ⊥) → Evaluated rows c e e w v
     open-evaluated apart = record {
       kept = ev .kept;
-      known = λ known. known-first (λ alone. absurd (apart alone)) (ev .known (known-part (e + 1) (end-at rows e) (omega arith) (omega arith) known));
+      known = λ known. known-first (λ alone. absurd (apart alone))
+          (ev .known (known-part (e + 1) (end-at rows e) (omega arith) (omega arith) known));
       done = λ known. ev .done (known-part (e + 1) (end-at rows e) (omega arith) (omega arith) known);
     }
 
@@ -173,7 +177,8 @@ module _ (rows : List ℕ) (c : Lasso) (e : ℕ) (w : List ℕ) where
       kept = ev .kept;
       known = λ hi far known.
           let part = known-part (e + 1) (end-at rows e) (omega arith) far known in
-          let behind = known-part (end-at rows e) hi (omega (arith, written-end rows (held .written), size-some (held .subformula))) (omega arith) known in
+          let behind = known-part (end-at rows e) hi (omega (arith, written-end rows (held .written), size-some (held .subformula)))
+          (omega arith) known in
           let inside : Known rows c (e + 1) (end-at rows e) v = ev .known part in
           let after : Known rows c (end-at rows e) hi v =
           known-kept rows c (end-at rows e) hi e (end-at rows e) w v (ev .kept) (λ k l m. inl l) behind in

@@ -35,7 +35,8 @@ module _ (n : ℕ) where
 
     pub column-is : (s : Positions) → length s ≡ n → ((i : ℕ) → i < n → bit (getD w i 0) e ≡ getD s i false) → column n w e ≡ s
     column-is s l f =
-        ext-getD false (column n w e) s (column-length ∙ sym l) (λ i q. let k : i < n = omega (arith, column-length) in column-at i k ∙ f i k)
+        ext-getD false (column n w e) s (column-length ∙ sym l)
+        (λ i q. let k : i < n = omega (arith, column-length) in column-at i k ∙ f i k)
 
   -- the sets that words have for some subformulas
   pub columns-sized : (w : List ℕ) → n ≤ length w → (es : List ℕ) → Sized n (map (column n w) es)
@@ -55,7 +56,12 @@ module _ (n : ℕ) where
     }
 
   pub kept-wide : {lo hi lo₁ hi₁ : ℕ} {w v : List ℕ} → Kept n lo₁ hi₁ w v → lo ≤ lo₁ → hi₁ ≤ hi → Kept n lo hi w v
-  kept-wide p a b = record { long = p .long; below = λ k h. p .below k (omega arith); above = λ k h. p .above k (omega arith); rest = p .rest }
+  kept-wide p a b = record {
+    long = p .long;
+    below = λ k h. p .below k (omega arith);
+    above = λ k h. p .above k (omega arith);
+    rest = p .rest;
+  }
 
   module _ {lo hi : ℕ} {w v : List ℕ} (kept : Kept n lo hi w v) where
     -- the sets of enclosing fixpoints are kept

@@ -1,6 +1,6 @@
--- The goal of a fixpoint's rounds: the final sets of all that is inside it. Each operator keeps them (Consistent), so no pass goes past them.
--- They are not passed at the start, where a column is all g, or that of a closed subformula, which is labelled; nor behind a round, since
--- the body's sets are monotone in the fixpoint's. Assumes nothing.
+-- The goal of a fixpoint's rounds: the final sets of all that is inside it. Each operator keeps them (Consistent), so no pass goes past
+-- them. They are not passed at the start, where a column is all g, or that of a closed subformula, which is labelled; nor behind a
+-- round, since the body's sets are monotone in the fixpoint's. Assumes nothing.
 use mathlib.Core.Path.{_≡_, refl, sym, ap, subst, _∙_}
 use mathlib.Core.Bool.{Bool, true, false, cond}
 use mathlib.Core.List.{List, [], _∷_, _++_, map}
@@ -25,7 +25,8 @@ use Rattle.formula.proofs.Guarded.{guarded-closed}
 use Rattle.formula.proofs.Limits.{size-some}
 use Rattle.formula.proofs.WellFormed.{Operands, located, stands-shaped, stands-nested, stands-left, stands-right, stands-next, stands-body}
 use Rattle.lasso.specs.Lasso.{Lasso, Positions, holds, sets}
-use Rattle.lasso.specs.Promise.{after, said, Written, Room, Shut, Open, Movable, column, columns, Known, Filled, Names, Moves, Under, Keeps, goal}
+use Rattle.lasso.specs.Promise.{after, said, Written, Room, Shut, Open, Movable, column, columns, Known, Filled, Names, Moves}
+use Rattle.lasso.specs.Promise.{Under, Keeps, goal}
 use Rattle.lasso.proofs.Monotone.{Within, within-refl, within-at, monotone-sets, Sized}
 use Rattle.lasso.proofs.Fixpoint.{length-approximant, fixed}
 use Rattle.lasso.proofs.Consistent.{says, true-at, Stands, Around, Right, right-from, length-sets, successor}
@@ -44,7 +45,8 @@ says-said c ss i (Operator.next l) = refl
 says-said c ss i (Operator.fix g l) = refl
 
 -- the operands of what stands at k are numbers inside it, and a variable's binder stands before it
-operands-names : (rows : List ℕ) (k hi : ℕ) (op : Operator) → Operands (operator-at rows) (end-at rows) 48 k op → k < hi → end-at rows k ≤ hi
+operands-names : (rows : List ℕ) (k hi : ℕ) (op : Operator) → Operands (operator-at rows) (end-at rows) 48 k op → k < hi
+    → end-at rows k ≤ hi
     → Names hi op
 operands-names rows k hi (Operator.leaf l) o h m = tt
 operands-names rows k hi (Operator.variable v) o h m = omega (arith, o .before)
@@ -109,7 +111,8 @@ module _ (rows : List ℕ) (c : Lasso) (ss : List Positions) where
       (λ q. placed a (e + 1) (map (λ _. true) s) bs ρ (stands-next (operator-at rows) (end-at rows) 48 h) (at .1) k q (omega arith))
   placed (Formula.fix g a) e s bs ρ h at k l m =
       or-behind e k l (first e s bs ρ (Formula.fix g a) h at)
-      (λ q. placed a (e + 1) (false ∷ s) (e ∷ bs) (holds c (Formula.fix g a) ρ ∷ ρ) (stands-body (operator-at rows) (end-at rows) 48 h) (at .1) k
+      (λ q. placed a (e + 1) (false ∷ s) (e ∷ bs) (holds c (Formula.fix g a) ρ ∷ ρ) (stands-body (operator-at rows) (end-at rows) 48 h)
+      (at .1) k
       q (omega arith))
 
 -- the fixpoint f stands at e, inside fixpoints that have their columns of the words w for sets
@@ -155,7 +158,8 @@ module _ (rows : List ℕ) (c : Lasso) (e : ℕ) (w : List ℕ) (room : Room (le
       let few : k - e < length (table-from e bs f) = omega (arith, length-table e bs f) in
       let there : k ≡ e + (k - e) = omega arith in
       rw there
-      (subst (Right c ss (e + (k - e))) (sym (h .operators .at (k - e) few)) (each-at (Right c ss) e (table-from e bs f) nothing rights (k - e) few))
+      (subst (Right c ss (e + (k - e))) (sym (h .operators .at (k - e) few))
+      (each-at (Right c ss) e (table-from e bs f) nothing rights (k - e) few))
 
   names-at : (k : ℕ) → e ≤ k → k < hi → Names hi (operator-at rows k)
   names-at k l m =
@@ -249,7 +253,8 @@ module _ (rows : List ℕ) (c : Lasso) (g : Bool) (e : ℕ) (w : List ℕ) (room
 
   pub final-length : length final ≡ length (c .letters)
   final-length =
-      length-approximant c (omega (arith, room .cycle)) a outer (closed rows c e w room f s bs h) (columns-sized (length (c .letters)) w (room .words) bs) g
+      length-approximant c (omega (arith, room .cycle)) a outer (closed rows c e w room f s bs h)
+      (columns-sized (length (c .letters)) w (room .words) bs) g
       (length (c .letters))
 
   -- the fixpoint's column is not past its final set
@@ -275,7 +280,8 @@ module _ (rows : List ℕ) (c : Lasso) (g : Bool) (e : ℕ) (w : List ℕ) (room
       by-sets : (k i : ℕ) → i < n₁ → (t u : Positions) → column n₁ y k ≡ t → getD (goal c w e bs f) k [] ≡ u
           → Moves g (getD t i false) (getD u i false) → Good y k i
       by-sets k i m t u p q r =
-          subst (λ (b : Bool). Moves g b (getD (getD (goal c w e bs f) k []) i false)) (ap (λ (t : Positions). getD t i false) (sym p) ∙ column-at n₁ k y long i m)
+          subst (λ (b : Bool). Moves g b (getD (getD (goal c w e bs f) k []) i false))
+          (ap (λ (t : Positions). getD t i false) (sym p) ∙ column-at n₁ k y long i m)
           (subst (λ (x : Positions). Moves g (getD t i false) (getD x i false)) (sym q) r)
 
       first : (i : ℕ) → i < n₁ → Good y e i
@@ -291,7 +297,8 @@ module _ (rows : List ℕ) (c : Lasso) (g : Bool) (e : ℕ) (w : List ℕ) (room
           let at : k ≡ e + 1 + j = omega arith in
           let next : k ≡ e + suc j = omega arith in
           by-sets k i m (getD (sets c a (E ∷ outer)) j []) (getD (sets c a (final ∷ outer)) j [])
-          (ap (column n₁ y) at ∙ sym (values-at (column n₁ y) (e + 1) (size a) j [] (omega arith)) ∙ ap (λ (t : List Positions). getD t j []) shown)
+          (ap (column n₁ y) at ∙ sym (values-at (column n₁ y) (e + 1) (size a) j [] (omega arith))
+          ∙ ap (λ (t : List Positions). getD t j []) shown)
           (ap (λ (x : ℕ). getD (goal c w e bs f) x []) next ∙ goal-from rows c e w room f s bs h (suc j))
           (sets-move c g a outer E final near j i)
 

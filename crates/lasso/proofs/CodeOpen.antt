@@ -45,7 +45,8 @@ module _ (rows : List ℕ) (e : ℕ) where
     few = omega (arith, held-some rows e held);
     inside = λ j q. by-own j q (λ i. (e ≤ i) × (i < e + 1)) (omega arith, omega arith);
     apart = λ j q s. by-own j q (λ i. Shut rows e i → ⊥) (λ z. omega (arith, z .behind, z .before)) s;
-    others = λ j l m q. absurd (let same : j ≡ e = omega arith in true≢false (sym (bit-same e) ∙ ap (λ (i : ℕ). bit (2 ^ e) i) (sym same) ∙ q));
+    others = λ j l m q. absurd
+        (let same : j ≡ e = omega arith in true≢false (sym (bit-same e) ∙ ap (λ (i : ℕ). bit (2 ^ e) i) (sym same) ∙ q));
     ended = λ j l m. absurd (omega arith);
   })
     where

@@ -65,7 +65,8 @@ module _ (rows list : List ℕ) (letter there : ℕ) (g : Bool) (w : ℕ) where
             before m;
       }
 
-  pub turned-end : {j count v : ℕ} → j ≤ count → count ≤ j → Turned rows list j letter there g w v → Turned rows list count letter there g w v
+  pub turned-end : {j count v : ℕ} → j ≤ count → count ≤ j → Turned rows list j letter there g w v
+      → Turned rows list count letter there g w v
   turned-end {j} {count} {v} h k = subst (λ (i : ℕ). Turned rows list i letter there g w v) {x = j} {y = count} (omega arith)
 
 -- one word of a list is set
@@ -99,7 +100,8 @@ module _ (rows : List ℕ) (c : Lasso) (list : List ℕ) (count : ℕ) (g : Bool
       record {
         long = length-set v i x ∙ p .long;
         rest = λ m h. getD-set-other v i m x 0 (λ q. omega arith) ∙ p .rest m h;
-        kept = λ m k h. by-word i x v fits (λ (m y : ℕ). bit y k ≡ bit (getD w m 0) k) (t .kept k h ∙ p .kept i k h) (λ m _. p .kept m k h) m;
+        kept = λ m k h. by-word i x v fits (λ (m y : ℕ). bit y k ≡ bit (getD w m 0) k) (t .kept k h ∙ p .kept i k h)
+            (λ m _. p .kept m k h) m;
         onward = λ m k.
             by-word i x v fits (λ (m y : ℕ). Moves g (bit (getD w m 0) k) (bit y k))
             (moves-trans g (bit (getD w i 0) k) (bit (getD v i 0) k) (bit x k) (p .onward i k) (t .onward k)) (λ m _. p .onward m k) m;
@@ -112,7 +114,8 @@ module _ (rows : List ℕ) (c : Lasso) (list : List ℕ) (count : ℕ) (g : Bool
             let turn = t .within hi here next (λ m q. (keep .right m q i l, keep .names m q)) past (λ k q. u .at k q i l) in
             record {
               at = λ k q m.
-                  by-word i x v fits (λ (m y : ℕ). m < n → Moves g (bit y k) (getD (getD ss k []) m false)) (λ _. turn k q) (λ m _. u .at k q m) m;
+                  by-word i x v fits (λ (m y : ℕ). m < n → Moves g (bit y k) (getD (getD ss k []) m false)) (λ _. turn k q)
+                  (λ m _. u .at k q m) m;
             };
       }
 
@@ -166,7 +169,8 @@ module _ (mask : ℕ) (on : Bool) (w : List ℕ) where
     long = length-set v i x ∙ f .long;
     bits = λ m h k.
         by-word i x v (omega (arith, f .long)) (λ (m y : ℕ). m < i + 1 → bit y k ≡ cond (bit mask k) on (bit (getD w m 0) k))
-        (λ _. put k ∙ ap (λ (y : ℕ). cond (bit mask k) on (bit y k)) (f .rest i (omega arith))) (λ m other h. f .bits m (omega arith) k) m h;
+        (λ _. put k ∙ ap (λ (y : ℕ). cond (bit mask k) on (bit y k)) (f .rest i (omega arith))) (λ m other h. f .bits m (omega arith) k)
+        m h;
     rest = λ m h. getD-set-other v i m x 0 (λ q. omega arith) ∙ f .rest m (omega arith);
   }
 

@@ -22,12 +22,15 @@ use Rattle.formula.specs.Rows.{operator-at, end-at}
 use Rattle.formula.proofs.Limits.{size-some}
 use Rattle.formula.proofs.WellFormed.{sits-first, stands-body}
 use Rattle.lasso.specs.Lasso.{Lasso, Positions, holds, sets}
-use Rattle.lasso.specs.Promise.{local-at, Swept, kind-of, Written, Held, Room, Alone, Shut, Open, Listed, Movable, column, columns, Kept, Labelled, Known, Filled, Moves, Under, Passed, goal, Going, Begun, Evaluated, Outcome, Rounded}
+use Rattle.lasso.specs.Promise.{local-at, Swept, kind-of, Written, Held, Room, Alone, Shut, Open, Listed, Movable, column}
+use Rattle.lasso.specs.Promise.{columns, Kept, Labelled, Known, Filled, Moves, Under, Passed, goal, Going, Begun, Evaluated}
+use Rattle.lasso.specs.Promise.{Outcome, Rounded}
 use Rattle.lasso.specs.declared.Kind.the-variants.{Fixpoint}
 use Rattle.lasso.proofs.Monotone.{Sized}
 use Rattle.lasso.proofs.Fixpoint.{body, rounds-mono}
 use Rattle.lasso.proofs.CodeWritten.{by-kind, written-end, body-operand}
-use Rattle.lasso.proofs.CodeColumns.{column-length, column-at, column-is, columns-sized, kept-refl, kept-wide, kept-then, outer-kept, columns-above, swept-kept, swept-is}
+use Rattle.lasso.proofs.CodeColumns.{column-length, column-at, column-is, columns-sized, kept-refl, kept-wide, kept-then}
+use Rattle.lasso.proofs.CodeColumns.{outer-kept, columns-above, swept-kept, swept-is}
 use Rattle.lasso.proofs.CodeClosed.{known-same, known-kept, known-part}
 use Rattle.lasso.proofs.CodeOpen.{nested, movable}
 use Rattle.lasso.proofs.CodeGoal.{final, final-length, own-within, closed, goal-keeps, goal-start, goal-round}
@@ -55,7 +58,8 @@ module _ (rows : List ℕ) (c : Lasso) (g : Bool) (e : ℕ) where
   n = length (c .letters)
 
   -- a pass over columns that e's rounds move
-  module _ (list : List ℕ) (count : ℕ) (w v : List ℕ) (words : n ≤ length w) (m : Movable rows e list count) (p : Passed rows c list count g w v) where
+  module _ (list : List ℕ) (count : ℕ) (w v : List ℕ) (words : n ≤ length w) (m : Movable rows e list count)
+      (p : Passed rows c list count g w v) where
     pub passed-kept : Kept n e (end-at rows e) w v
     passed-kept =
         kept-bits n w v words (p .long) e (end-at rows e) (p .rest)
@@ -130,7 +134,8 @@ module _ (rows : List ℕ) (c : Lasso) (g : Bool) (e : ℕ) where
               under = p .within (e + size F) (goal c w e bs F) (goal-keeps rows c e w room F s bs h list count m)
                   (goal-start rows c e w room F s bs h g mask x o f known);
               reaches = subst (λ (t : Positions). Toward g (repeat n (body c a outer) t) (repeat n (body c a outer) (column n v e))) start
-                  (rounds-mono c (omega (arith, room .cycle)) a outer (closed rows c e w room F s bs h) (columns-sized n w (room .words) bs) g n
+                  (rounds-mono c (omega (arith, room .cycle)) a outer (closed rows c e w room F s bs h)
+                  (columns-sized n w (room .words) bs) g n
                   (column n x e) (column n v e) (passed-onward list count x v longer m p e));
             };
       }
@@ -141,6 +146,9 @@ module _ (rows : List ℕ) (c : Lasso) (g : Bool) (e : ℕ) where
     kept = kept-refl n e (end-at rows e) w;
     done = λ a s bs h first more. subst (λ (k : ℕ). Going rows c g e first bs a k w) {x = left + more} {y = more} (omega arith);
   }
+
+  pub rounded-one : (left : ℕ) (w v : List ℕ) (r : Bool) → left ≡ 1 → Rounded rows c g e 1 w v r → Rounded rows c g e left w v r
+  rounded-one left w v r one = subst (λ (k : ℕ). Rounded rows c g e k w v r) (sym one)
 
   -- the rounds that are left, those of the first part taken apart
   apart : (half left : ℕ) → half ≤ left → (w first bs : List ℕ) (a : Formula) (more : ℕ) → Going rows c g e first bs a (left + more) w
@@ -199,7 +207,8 @@ module _ (rows : List ℕ) (c : Lasso) (g : Bool) (e : ℕ) where
 
       labelled : Labelled c a (e + 1) (e ∷ bs) w x
       labelled =
-          ev .done (known-part (e + 1) (end-at rows (e + 1)) (omega arith) (nested rows e held (e + 1) (omega arith) inside) (go .known)) a (false ∷ s)
+          ev .done (known-part (e + 1) (end-at rows (e + 1)) (omega arith) (nested rows e held (e + 1) (omega arith) inside)
+          (go .known)) a (false ∷ s)
           (e ∷ bs) (stands-body (operator-at rows) (end-at rows) 48 h)
 
       round-shown : columns n x (e + 1) (size a) ≡ sets c a (E ∷ outer)
@@ -223,7 +232,8 @@ module _ (rows : List ℕ) (c : Lasso) (g : Bool) (e : ℕ) where
         copied =
             let p : ℕ → Bool = local-at c (Operator.fix g (e + 1)) x in
             let s : Swept n e p x y = subst (λ (op : Operator). Swept n e (local-at c op x) x y) (sits-first (h .operators)) t in
-            swept-is n e p x y s longer (column n x (e + 1)) (column-length n (e + 1) x longer) (λ i l. sym (column-at n (e + 1) x longer i l))
+            swept-is n e p x y s longer (column n x (e + 1)) (column-length n (e + 1) x longer)
+            (λ i l. sym (column-at n (e + 1) x longer i l))
             ∙ first-shown c a (e + 1) x (E ∷ outer) round-shown
 
         copy-kept : Kept n e (e + 1) x y
@@ -258,12 +268,14 @@ module _ (rows : List ℕ) (c : Lasso) (g : Bool) (e : ℕ) where
               reaches = toward-trans g (holds c f outer) (repeat more round (column n y e)) (repeat more round (column n z e))
                   (subst (Toward g (holds c f outer)) taken (go .reaches))
                   (rounds-mono c (omega (arith, room .cycle)) a outer (closed rows c e first first-room f s bs h)
-                  (columns-sized n first (first-room .words) bs) g more (column n y e) (column n z e) (passed-onward list count y z long m p e));
+                  (columns-sized n first (first-room .words) bs) g more (column n y e) (column n z e)
+                  (passed-onward list count y z long m p e));
             }
 
         unchanged : y ≡ x → Labelled c f e bs first x
         unchanged same =
-            let stays : body c a outer E ≡ E = sym copied ∙ ap (λ (u : List ℕ). column n u e) same ∙ labelled .kept .below e (omega arith) in
+            let stays : body c a outer E ≡ E = sym copied ∙ ap (λ (u : List ℕ). column n u e) same
+            ∙ labelled .kept .below e (omega arith) in
             settled (toward-both g E (holds c f outer) near
             (subst (Toward g (holds c f outer)) (repeat-stays left (body c a outer) E stays) (go .reaches)))
 
@@ -278,33 +290,35 @@ module _ (rows : List ℕ) (c : Lasso) (g : Bool) (e : ℕ) where
           kept-then n body-kept (swept-kept n e (local-at c (operator-at rows e) x) x y t longer)
           (omega arith) (omega arith) (omega arith) (omega (arith, inside))
 
-      pub rounded-more : (left : ℕ) → left ≡ 1 → (list : List ℕ) (count : ℕ) (z : List ℕ) → Movable rows e list count
-          → Passed rows c list count g y z → Rounded rows c g e left w z true
-      rounded-more left one list count z m p = record {
+      pub rounded-more : (list : List ℕ) (count : ℕ) (z : List ℕ) → Movable rows e list count → Passed rows c list count g y z
+          → Rounded rows c g e 1 w z true
+      rounded-more list count z m p = record {
         kept = kept-then n round-kept (passed-kept list count y z (omega (arith, room .words, round-kept .long)) m p)
             (omega arith) (omega arith) (omega arith) (omega arith);
-        done = λ a s bs h first more go. going-on a s bs h first (left + more) go y t more (omega arith) list count z m p;
+        done = λ a s bs h first more go. going-on a s bs h first (1 + more) go y t more refl list count z m p;
       }
 
       -- a round that changes nothing is the last
-      pub rounded-still : (left : ℕ) → y ≡ x → Rounded rows c g e left w y false
-      rounded-still left same = record {
+      pub rounded-still : y ≡ x → Rounded rows c g e 1 w y false
+      rounded-still same = record {
         kept = round-kept;
         done = λ a s bs h first more go. (
-          subst (Labelled c (Formula.fix g a) e bs first) (sym same) (unchanged a s bs h first (left + more) go y t same),
-          round-known a s bs h first (left + more) go y t,
+          subst (Labelled c (Formula.fix g a) e bs first) (sym same) (unchanged a s bs h first (1 + more) go y t same),
+          round-known a s bs h first (1 + more) go y t,
         );
       }
 
-  -- The fixpoint is labelled: its rounds are begun, the words w becoming x, and taken, x becoming u; and if the set moved to the end, the body is
-  -- labelled once more.
+  -- The fixpoint is labelled: its rounds are begun, the words w becoming x, and taken, x becoming u; and if the set moved to the end,
+  -- the body is labelled once more.
   module _ (held : Held rows e) (is : kind-of (operator-at rows e) ≡ Fixpoint g) (list : List ℕ) (count : ℕ) (w x u : List ℕ)
       (room : Room n (c .stem) (length w)) (begins : Begun rows c g e list count w x) where
-    outcome : (b r : Bool) → b ≡ r → Rounded rows c g e n x u b → (a : Formula) (s : Scope) (bs : List ℕ) → Written rows e s bs (Formula.fix g a)
+    outcome : (b r : Bool) → b ≡ r → Rounded rows c g e n x u b → (a : Formula) (s : Scope) (bs : List ℕ)
+        → Written rows e s bs (Formula.fix g a)
         → Known rows c (e + 1) (end-at rows e) w → Outcome rows c g e w bs a 0 u r
     outcome b r same q a s bs h known =
         subst (Outcome rows c g e w bs a 0 u) same
-        (q .done a s bs h w 0 (subst (λ (k : ℕ). Going rows c g e w bs a k x) {x = n} {y = n + 0} (omega arith) (begins .started a s bs h known)))
+        (q .done a s bs h w 0 (subst (λ (k : ℕ). Going rows c g e w bs a k x) {x = n} {y = n + 0} (omega arith)
+        (begins .started a s bs h known)))
 
     -- a fact of the rows, from the fixpoint that they have at e
     by-fix : (A : Type 0) → ((a : Formula) → Written rows e (held .scope) (held .binders) (Formula.fix g a) → A) → A
@@ -313,7 +327,8 @@ module _ (rows : List ℕ) (c : Lasso) (g : Bool) (e : ℕ) where
     pub fixpoint-settled : (b : Bool) → b ≡ false → Rounded rows c g e n x u b → Evaluated rows c (e + 1) e w u
     fixpoint-settled b still q = record {
       kept = kept-then n (begins .kept) (q .kept) (omega arith) (omega arith) (omega arith) (omega arith);
-      known = λ known. by-fix (Known rows c (e + 1) (end-at rows e) u) (λ a h. outcome b false still q a (held .scope) (held .binders) h known .1);
+      known = λ known. by-fix (Known rows c (e + 1) (end-at rows e) u)
+          (λ a h. outcome b false still q a (held .scope) (held .binders) h known .1);
       done = λ known f s bs.
           by-kind rows e s bs (Fixpoint g) is (λ f. Labelled c f e bs w u) (λ a h. outcome b false still q a s bs h known .0) f;
     }
@@ -321,7 +336,8 @@ module _ (rows : List ℕ) (c : Lasso) (g : Bool) (e : ℕ) where
     pub fixpoint-last : (b : Bool) → b ≡ true → (v : List ℕ) → Rounded rows c g e n x u b → Evaluated rows c (e + 1) (e + 1) u v
         → Evaluated rows c (e + 1) e w v
     fixpoint-last b moves v q ev =
-        let k : Kept n e (end-at rows e) w u = kept-then n (begins .kept) (q .kept) (omega arith) (omega arith) (omega arith) (omega arith) in
+        let k : Kept n e (end-at rows e) w u = kept-then n (begins .kept) (q .kept) (omega arith) (omega arith) (omega arith)
+        (omega arith) in
         let same : Room n (c .stem) (length u) = record { cycle = room .cycle; words = omega (arith, room .words, k .long) } in
         record {
           kept = kept-then n k (body-kept held is u v same ev) (omega arith) (omega arith) (omega arith) (omega arith);

@@ -38,7 +38,8 @@ module _ (rows : List ℕ) (c : Lasso) (w : List ℕ) where
     known = record { shown = λ j l m. absurd (omega arith) };
   }
 
-  pub labelling-more : (k j : ℕ) (v x : List ℕ) → Held rows 0 → k ≡ j + 1 → Labelling rows c w k v → Closing rows c j v x → Labelling rows c w j x
+  pub labelling-more : (k j : ℕ) (v x : List ℕ) → Held rows 0 → k ≡ j + 1 → Labelling rows c w k v → Closing rows c j v x
+      → Labelling rows c w j x
   labelling-more k j v x held next so-far t =
       let far : end-at rows j ≤ end-at rows 0 = nested rows 0 held j (omega arith) (omega (arith, so-far .few)) in
       record {
@@ -72,7 +73,8 @@ module _ (rows : List ℕ) (c : Lasso) (b : Bool) (w v₀ v : List ℕ) (room : 
     labelled =
         let last : end-at rows 0 ≡ 0 + size f = written-end rows h in
         record {
-          shown = all .known .shown 0 (omega arith) (omega (arith, last, size-some f)) (λ k l m. nothing-outside (operator-at rows k)) f [] [] h;
+          shown = all .known .shown 0 (omega arith) (omega (arith, last, size-some f)) (λ k l m. nothing-outside (operator-at rows k)) f
+              [] [] h;
           kept = subst (λ (k : ℕ). Kept n 0 k v₀ v) last (all .kept);
         }
 

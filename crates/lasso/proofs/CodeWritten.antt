@@ -14,7 +14,7 @@ use Rattle.formula.specs.Reading.{Opcode, opcode, Scope}
 use Rattle.formula.specs.Rows.{operator-of, operator-at, end-at}
 use Rattle.formula.proofs.Limits.{size-some}
 use Rattle.formula.proofs.WellFormed.{sits-first, stands-left, stands-right, stands-next, stands-body, stands-end}
-use Rattle.lasso.specs.Promise.{kind-of, Written, Held, Room, Movable}
+use Rattle.lasso.specs.Promise.{kind-of, Written, Held, Room}
 use Rattle.lasso.specs.declared.Kind.{Kind}
 use Rattle.lasso.specs.declared.Kind.the-variants.{Leaf, Pair, Next, Fixpoint}
 
@@ -122,14 +122,16 @@ module _ (rows : List ℕ) (e : ℕ) where
     pub first-operand : kind-of (operator-at rows e) ≡ Pair → Operand rows (e + 1) e
     first-operand q =
         by-held Pair q (Operand rows (e + 1) e)
-        (λ o a b w. operand rows (Formula.pair o a b) a w (stands-left (operator-at rows) (end-at rows) 48 w) (omega (arith, size-some b)) (omega (arith, size-some b)))
+        (λ o a b w. operand rows (Formula.pair o a b) a w (stands-left (operator-at rows) (end-at rows) 48 w)
+        (omega (arith, size-some b)) (omega (arith, size-some b)))
 
     pub second-operand : kind-of (operator-at rows e) ≡ Pair → Operand rows (getD rows (48 + e) 0) e
     second-operand q =
         by-held Pair q (Operand rows (getD rows (48 + e) 0) e)
         (λ o a b w.
         subst (λ (k : ℕ). Operand rows k e) (sym (pair-argument o a b w))
-        (operand rows (Formula.pair o a b) b w (stands-right (operator-at rows) (end-at rows) 48 w) (omega (arith, size-some a)) (omega (arith, size-some b))))
+        (operand rows (Formula.pair o a b) b w (stands-right (operator-at rows) (end-at rows) 48 w) (omega (arith, size-some a))
+        (omega (arith, size-some b))))
 
     -- the second operand k begins where the first ends
     pub pair-split : kind-of (operator-at rows e) ≡ Pair → (k : ℕ) → k ≡ getD rows (48 + e) 0 → Split k
@@ -146,44 +148,38 @@ module _ (rows : List ℕ) (e : ℕ) where
     pub next-operand : kind-of (operator-at rows e) ≡ Next → Operand rows (e + 1) e
     next-operand q =
         by-held Next q (Operand rows (e + 1) e)
-        (λ a w. operand rows (Formula.next a) a w (stands-next (operator-at rows) (end-at rows) 48 w) (omega arith) (omega (arith, size-some a)))
+        (λ a w. operand rows (Formula.next a) a w (stands-next (operator-at rows) (end-at rows) 48 w) (omega arith)
+        (omega (arith, size-some a)))
 
     pub body-operand : (g : Bool) → kind-of (operator-at rows e) ≡ Fixpoint g → Operand rows (e + 1) e
     body-operand g q =
         by-held (Fixpoint g) q (Operand rows (e + 1) e)
-        (λ a w. operand rows (Formula.fix g a) a w (stands-body (operator-at rows) (end-at rows) 48 w) (omega arith) (omega (arith, size-some a)))
+        (λ a w. operand rows (Formula.fix g a) a w (stands-body (operator-at rows) (end-at rows) 48 w) (omega arith)
+        (omega (arith, size-some a)))
 
 -- words that are as many
 pub same-room : (n stem m k : ℕ) → Room n stem m → n ≤ k → Room n stem k
 same-room n stem m k room h = record { cycle = room .cycle; words = h }
 
--- The measure of a call, as one number: a subformula's size, paired with the rounds left, of which there are at most n. Two numbers above
+-- The measure of a call, as one number: a subformula's size, paired with the rounds left, of which there are at most n. Three numbers above
 -- n stand for a subformula whose rounds have not begun.
 unfoldable pub paired : (n size left : ℕ) → ℕ
-paired n size left = (n + 3) * size + left
+paired n size left = (n + 4) * size + left
 
 paired-left : (n size i j : ℕ) → i < j → paired n size i < paired n size j
 unfolding paired
 paired-left n size i j h = omega arith
 
-paired-size : (n small large i : ℕ) → small < large → paired n small (n + 2) < paired n large i
+paired-size : (n small large i : ℕ) → small < large → paired n small (n + 3) < paired n large i
 unfolding paired
 paired-size n small large i h =
-    let grown : (n + 3) * (small + 1) ≤ (n + 3) * large = mul-le-mul-left (n + 3) (omega arith) in
-    omega (arith, mul-add (n + 3) small 1)
+    let grown : (n + 4) * (small + 1) ≤ (n + 4) * large = mul-le-mul-left (n + 4) (omega arith) in
+    omega (arith, mul-add (n + 4) small 1)
 
--- What a call asks.
-module _ (rows : List ℕ) (e n stem m : ℕ) (room : Room n stem m) (t : ℕ) where
-  pub operand-call : (k j left : ℕ) → k ≡ j → Operand rows j e → paired n (size-at rows e) left ≡ t
-      → (paired n (size-at rows k) (n + 2) < t) × (Held rows k × Room n stem m)
-  operand-call k j left q o h = rw (q, ← h) (paired-size n (size-at rows j) (size-at rows e) left (o .smaller), (o .held, room))
+-- What the call for an operand asks, and the one for the same subformula with fewer rounds left.
+module _ (rows : List ℕ) (e n stem m : ℕ) (room : Room n stem m) (t left : ℕ) (is : paired n (size-at rows e) left ≡ t) where
+  pub operand-call : (k j : ℕ) → k ≡ j → Operand rows j e → (paired n (size-at rows k) (n + 3) < t) × (Held rows k × Room n stem m)
+  operand-call k j q o = rw (q, ← is) (paired-size n (size-at rows j) (size-at rows e) left (o .smaller), (o .held, room))
 
-  pub open-call : Held rows e → paired n (size-at rows e) (n + 2) ≡ t
-      → (paired n (size-at rows e) (n + 1) < t) × (Held rows e × Room n stem m)
-  open-call h q = rw (← q) (paired-left n (size-at rows e) (n + 1) (n + 2) (omega arith), (h, room))
-
-  pub rounds-call : (g : Bool) (list : List ℕ) (count i j : ℕ) → i < j → i ≤ n → Held rows e → kind-of (operator-at rows e) ≡ Fixpoint g
-      → Movable rows e list count → paired n (size-at rows e) j ≡ t
-      → (paired n (size-at rows e) i < t)
-      × (Held rows e × (Room n stem m × ((kind-of (operator-at rows e) ≡ Fixpoint g) × (Movable rows e list count × (i ≤ n)))))
-  rounds-call g list count i j l few h k m q = rw (← q) (paired-left n (size-at rows e) i j l, (h, (room, (k, (m, few)))))
+  pub same-call : Held rows e → {Q : Type 0} (i : ℕ) → i < left → Q → (paired n (size-at rows e) i < t) × Q
+  same-call h i l q = rw (← is) (paired-left n (size-at rows e) i left l, q)

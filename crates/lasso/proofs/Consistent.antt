@@ -98,7 +98,8 @@ module _ (c : Lasso) (ss : List Positions) where
       → Right c ss e (Operator.pair o l r)
   right-pair o e l r s t q x y k i h = rw (q, x, y) (getD-combine o s t k i)
 
-  right-next : (e l : ℕ) (s : Positions) → Stands ss e (before (c .stem) s) → Stands ss l s → length s ≡ span c → Right c ss e (Operator.next l)
+  right-next : (e l : ℕ) (s : Positions) → Stands ss e (before (c .stem) s) → Stands ss l s → length s ≡ span c
+      → Right c ss e (Operator.next l)
   right-next e l s q x k i h = rw (q, x, ← k) (getD-before (c .stem) s i (omega arith))
 
 module _ (c : Lasso) (some : 0 < span c) where
@@ -130,7 +131,8 @@ module _ (c : Lasso) (some : 0 < span c) where
       let l = length-holds c some a ρ (k .0) z ∙ sym (length-holds c some b ρ (k .1) z) in (
         right-pair c ss o e (e + 1) second (holds c a ρ) (holds c b ρ) (h .0) (x .0) (y .0) l,
         each-append (Right c ss) (e + 1) second (table-from (e + 1) bs a) (table-from second bs b)
-            (ap (e + 1 +_) (length-table (e + 1) bs a)) (right-from ss a (e + 1) bs ρ (k .0) z out x) (right-from ss b second bs ρ (k .1) z out y),
+            (ap (e + 1 +_) (length-table (e + 1) bs a)) (right-from ss a (e + 1) bs ρ (k .0) z out x)
+            (right-from ss b second bs ρ (k .1) z out y),
       )
   right-from ss (Formula.next a) e bs ρ k z out h = (
     right-next c ss e (e + 1) (holds c a ρ) (h .0) (h .1 .0) (length-holds c some a ρ k z),

@@ -30,6 +30,7 @@ table =
     ∷ is eventually [] 0 (Truth.refused 16)
     ∷ []
 
-pub examples : map (λ (x : Example). truth (x .bytes) (record { letters = x .letters; stem = x .stem }) 8) table ≡ map (λ (x : Example). x .outcome) table
+pub examples : map (λ (x : Example). truth (x .bytes) (record { letters = x .letters; stem = x .stem }) 8) table ≡ map
+    (λ (x : Example). x .outcome) table
 unfolding truth
 examples = refl

@@ -64,7 +64,8 @@ module _ (c : Lasso) (some : 0 < span c) (a : Formula) (ρ : List Positions)
 
   pub rounds-mono : (g : Bool) (k : ℕ) (s t : Positions) → Toward g s t → Toward g (repeat k (body c a ρ) s) (repeat k (body c a ρ) t)
   rounds-mono g k =
-      toward-mono g (repeat k (body c a ρ)) (λ s t h. inside-repeat k (body c a ρ) (body c a ρ) (λ s t h. monotone c a (Within.put h (within-refl ρ))) h)
+      toward-mono g (repeat k (body c a ρ))
+      (λ s t h. inside-repeat k (body c a ρ) (body c a ρ) (λ s t h. monotone c a (Within.put h (within-refl ρ))) h)
 
   length-body : (s : Positions) → length s ≡ span c → length (body c a ρ s) ≡ span c
   length-body s l = length-holds c some a (s ∷ ρ) closed (l, sized)

@@ -76,7 +76,8 @@ within-append (Within.put h r) k = Within.put h (within-append r k)
 pub monotone-sets : (c : Lasso) (f : Formula) {ρ σ : List Positions} → Within ρ σ → Within (sets c f ρ) (sets c f σ)
 monotone-sets c (Formula.leaf l) r = Within.put (monotone c (Formula.leaf l) r) Within.none
 monotone-sets c (Formula.variable d) r = Within.put (monotone c (Formula.variable d) r) Within.none
-monotone-sets c (Formula.pair o a b) r = Within.put (monotone c (Formula.pair o a b) r) (within-append (monotone-sets c a r) (monotone-sets c b r))
+monotone-sets c (Formula.pair o a b) r =
+    Within.put (monotone c (Formula.pair o a b) r) (within-append (monotone-sets c a r) (monotone-sets c b r))
 monotone-sets c (Formula.next a) r = Within.put (monotone c (Formula.next a) r) (monotone-sets c a r)
 monotone-sets c (Formula.fix g a) r =
     let h = monotone c (Formula.fix g a) r in

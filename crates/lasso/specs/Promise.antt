@@ -24,8 +24,8 @@ use Rattle.lasso.specs.declared.Kind.the-variants.{Leaf, Pair, Next, Fix
 abbrev pub after : (n stem i : ℕ) → ℕ
 after n stem i = cond (eqb (i + 1) n) stem (i + 1)
 
--- what an operator says of a position by the letter there, where subformulas are true as told there and at the successor; a fixpoint has its
--- body's truth. And the same of two words
+-- what an operator says of a position by the letter there, where subformulas are true as told there and at the successor; a fixpoint
+-- has its body's truth. And the same of two words
 abbrev pub said : Operator → (letter : ℕ) → (here there : ℕ → Bool) → Bool
 said (Operator.leaf l) letter here there = leaf-at l letter
 said (Operator.variable m) letter here there = here m
@@ -155,8 +155,8 @@ Names hi (Operator.pair o l r) = (l < hi) × (r < hi)
 Names hi (Operator.next l) = l < hi
 Names hi (Operator.fix g l) = l < hi
 
--- one position of a pass, whose word w becomes v: bits leave the value g only, and only listed ones; and if their operators keep some truth of
--- the position and its successor, of which no bit below hi is past, then none of v is
+-- one position of a pass, whose word w becomes v: bits leave the value g only, and only listed ones; and if their operators keep some
+-- truth of the position and its successor, of which no bit below hi is past, then none of v is
 pub record Turned (rows list : List ℕ) (count letter there : ℕ) (g : Bool) (w v : ℕ) : Type 0 where
   pub kept : (k : ℕ) → ((j : ℕ) → j < count → k ≡ getD list j 0 → ⊥) → bit v k ≡ bit w k
   pub onward : (k : ℕ) → Moves g (bit w k) (bit v k)
@@ -191,8 +191,8 @@ pub record Passed (rows : List ℕ) (c : Lasso) (list : List ℕ) (count : ℕ) 
 abbrev pub goal : Lasso → List ℕ → (e : ℕ) → List ℕ → Formula → List Positions
 goal c w e bs f = columns (length (c .letters)) w 0 e ++ sets c f (map (column (length (c .letters)) w) bs)
 
--- the rounds of the fixpoint at e, with the body a, that were begun with the words w and have come to v: no column is past its final set, and
--- so many rounds more bring the fixpoint's column there
+-- the rounds of the fixpoint at e, with the body a, that were begun with the words w and have come to v: no column is past its final
+-- set, and so many rounds more bring the fixpoint's column there
 pub record Going (rows : List ℕ) (c : Lasso) (g : Bool) (e : ℕ) (w bs : List ℕ) (a : Formula) (left : ℕ) (v : List ℕ) : Type 0 where
   pub kept : Kept (length (c .letters)) e (e + size (Formula.fix g a)) w v
   pub known : Known rows c (e + 1) (end-at rows e) v

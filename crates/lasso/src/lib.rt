@@ -15,7 +15,8 @@ ghost use Rattle.formula.specs.Rows.{operator-of, operator-at};
 ghost use Rattle.lasso.specs.Truth.{truth, written};
 ghost use Rattle.lasso.specs.Answer.{lasso, answer};
 ghost use Rattle.lasso.specs.Lasso.{joined};
-ghost use Rattle.lasso.specs.Promise.{after, local, local-at, Swept, kind-of, Held, Room, outside-of, Closes, Open, Few, Listed, Filled, Turned, Passed, Movable, Begun, Evaluated, Rounded, Closing, Answered, Judged};
+ghost use Rattle.lasso.specs.Promise.{after, local, local-at, Swept, kind-of, Held, Room, outside-of, Closes, Open, Few, Listed};
+ghost use Rattle.lasso.specs.Promise.{Filled, Turned, Passed, Movable, Begun, Evaluated, Rounded, Closing, Answered, Judged};
 
 // The number of a position on a lasso (document 01: a place), kept apart from subformulas.
 pub struct Position(pub usize);
@@ -109,7 +110,9 @@ fn sweep(
 ) -> bool
     requires { ⌜ Room (length (now letters)) stem (length (now words)) ⌝ }
     requires { ⌜ s .0 < 48 ⌝ }
-    ensures { λ _. ⌜ Swept (length (now (letters .entry))) (s .0) (local-at (lasso (now (letters .entry)) stem) (operator-of (opcode op) argument (s .0)) (now (words .entry))) (now (words .entry)) (now (words .exit)) ⌝ }
+    ensures { λ _. ⌜ Swept (length (now (letters .entry))) (s .0)
+        (local-at (lasso (now (letters .entry)) stem) (operator-of (opcode op) argument (s .0)) (now (words .entry)))
+        (now (words .entry)) (now (words .exit)) ⌝ }
     ensures { λ r. ⌜ (r ≡ false → now (words .exit) ≡ now (words .entry)) ⌝ }
 {
     let e = s.0;
@@ -340,7 +343,8 @@ fn pass(
 )
     requires { ⌜ Few (now list) count ⌝ }
     requires { ⌜ Room (length (now letters)) stem (length (now words)) ⌝ }
-    ensures { λ _. ⌜ Passed (now (rows .entry)) (lasso (now (letters .entry)) stem) (now (list .entry)) count greatest (now (words .entry)) (now (words .exit)) ⌝ }
+    ensures { λ _. ⌜ Passed (now (rows .entry)) (lasso (now (letters .entry)) stem) (now (list .entry)) count greatest
+        (now (words .entry)) (now (words .exit)) ⌝ }
 {
     let mut i = letters.len();
     while 0 < i {
@@ -364,7 +368,8 @@ fn begin(
 ) -> Moving
     requires { ⌜ Held (now rows) (s .0) ⌝ }
     requires { ⌜ Room (length (now letters)) stem (length (now words)) ⌝ }
-    ensures { λ r. ⌜ Begun (now (rows .entry)) (lasso (now (letters .entry)) stem) greatest (s .0) (r .list) (r .count) (now (words .entry)) (now (words .exit)) ⌝ }
+    ensures { λ r. ⌜ Begun (now (rows .entry)) (lasso (now (letters .entry)) stem) greatest (s .0) (r .list) (r .count)
+        (now (words .entry)) (now (words .exit)) ⌝ }
 {
     let mask = open_in(rows, s);
     let moving = listed(keys, mask);
@@ -385,7 +390,8 @@ fn label(
 )
     requires { ⌜ Held (now rows) (s .0) ⌝ }
     requires { ⌜ Room (length (now letters)) stem (length (now words)) ⌝ }
-    ensures { λ _. ⌜ Evaluated (now (rows .entry)) (lasso (now (letters .entry)) stem) (s .0) (s .0) (now (words .entry)) (now (words .exit)) ⌝ }
+    ensures { λ _. ⌜ Evaluated (now (rows .entry)) (lasso (now (letters .entry)) stem) (s .0) (s .0)
+        (now (words .entry)) (now (words .exit)) ⌝ }
 {
     if closed(rows, s) {
         return;
@@ -404,7 +410,8 @@ fn label_open(
 )
     requires { ⌜ Held (now rows) (s .0) ⌝ }
     requires { ⌜ Room (length (now letters)) stem (length (now words)) ⌝ }
-    ensures { λ _. ⌜ Evaluated (now (rows .entry)) (lasso (now (letters .entry)) stem) (s .0 + 1) (s .0) (now (words .entry)) (now (words .exit)) ⌝ }
+    ensures { λ _. ⌜ Evaluated (now (rows .entry)) (lasso (now (letters .entry)) stem) (s .0 + 1) (s .0)
+        (now (words .entry)) (now (words .exit)) ⌝ }
 {
     let e = s.0;
     let op = rows[e];
@@ -425,27 +432,37 @@ fn label_open(
             sweep(letters, stem, words, s, op, argument);
         }
         Kind::Fixpoint(greatest) => {
-            let moving = begin(rows, keys, letters, stem, words, s, greatest);
-            if rounds(
-                rows,
-                keys,
-                letters,
-                stem,
-                words,
-                s,
-                greatest,
-                moving,
-                letters.len(),
-            ) {
-                label(rows, keys, letters, stem, words, Subformula(e + 1));
-                return;
-            }
+            label_fixpoint(rows, keys, letters, stem, words, s, greatest);
         }
     }
 }
 
-// So many rounds of the fixpoint s, a pass behind each: one half of them, and the other if the set still moves. True if it does to the end;
-// false if a round changed nothing, which leaves s and all inside it labelled.
+// The same of the fixpoint s: as many rounds as there are positions, and if its set moved to the last of them, its body once more.
+fn label_fixpoint(
+    rows: &[u8; 144],
+    keys: &[usize; 48],
+    letters: &[u16],
+    stem: usize,
+    words: &mut [u64],
+    s: Subformula,
+    greatest: bool,
+)
+    requires { ⌜ Held (now rows) (s .0) ⌝ }
+    requires { ⌜ Room (length (now letters)) stem (length (now words)) ⌝ }
+    requires { ⌜ kind-of (operator-at (now rows) (s .0)) ≡ Kind.Fixpoint greatest ⌝ }
+    ensures { λ _. ⌜ Evaluated (now (rows .entry)) (lasso (now (letters .entry)) stem) (s .0 + 1) (s .0)
+        (now (words .entry)) (now (words .exit)) ⌝ }
+{
+    let moving = begin(rows, keys, letters, stem, words, s, greatest);
+    let n = letters.len();
+    if rounds(rows, keys, letters, stem, words, s, greatest, moving, n) {
+        let e = s.0;
+        label(rows, keys, letters, stem, words, Subformula(e + 1));
+    }
+}
+
+// So many rounds of the fixpoint s: one half of them, and the other if the set still moves. True if it does to the end; false if a round
+// changed nothing, which leaves s and all inside it labelled.
 fn rounds(
     rows: &[u8; 144],
     keys: &[usize; 48],
@@ -461,35 +478,47 @@ fn rounds(
     requires { ⌜ Room (length (now letters)) stem (length (now words)) ⌝ }
     requires { ⌜ kind-of (operator-at (now rows) (s .0)) ≡ Kind.Fixpoint greatest ⌝ }
     requires { ⌜ Movable (now rows) (s .0) (moving .list) (moving .count) ⌝ }
-    requires { ⌜ left ≤ length (now letters) ⌝ }
-    ensures { λ r. ⌜ Rounded (now (rows .entry)) (lasso (now (letters .entry)) stem) greatest (s .0) left (now (words .entry)) (now (words .exit)) r ⌝ }
+    ensures { λ r. ⌜ Rounded (now (rows .entry)) (lasso (now (letters .entry)) stem) greatest (s .0) left
+        (now (words .entry)) (now (words .exit)) r ⌝ }
 {
     if left == 0 {
         return true;
     }
     if left == 1 {
-        let e = s.0;
-        label(rows, keys, letters, stem, words, Subformula(e + 1));
-        if sweep(letters, stem, words, s, rows[e], rows[48 + e]) {
-            let list = moving.list;
-            pass(rows, letters, stem, words, &list, moving.count, greatest);
-            return true;
-        }
-        return false;
+        return round(rows, keys, letters, stem, words, s, greatest, moving);
     }
     let half = left / 2;
+    let other = left - half;
     if rounds(rows, keys, letters, stem, words, s, greatest, moving, half) {
-        return rounds(
-            rows,
-            keys,
-            letters,
-            stem,
-            words,
-            s,
-            greatest,
-            moving,
-            left - half,
-        );
+        return rounds(rows, keys, letters, stem, words, s, greatest, moving, other);
+    }
+    false
+}
+
+// One round of the fixpoint s, and a pass if it changed the set.
+fn round(
+    rows: &[u8; 144],
+    keys: &[usize; 48],
+    letters: &[u16],
+    stem: usize,
+    words: &mut [u64],
+    s: Subformula,
+    greatest: bool,
+    moving: Moving,
+) -> bool
+    requires { ⌜ Held (now rows) (s .0) ⌝ }
+    requires { ⌜ Room (length (now letters)) stem (length (now words)) ⌝ }
+    requires { ⌜ kind-of (operator-at (now rows) (s .0)) ≡ Kind.Fixpoint greatest ⌝ }
+    requires { ⌜ Movable (now rows) (s .0) (moving .list) (moving .count) ⌝ }
+    ensures { λ r. ⌜ Rounded (now (rows .entry)) (lasso (now (letters .entry)) stem) greatest (s .0) 1
+        (now (words .entry)) (now (words .exit)) r ⌝ }
+{
+    let e = s.0;
+    label(rows, keys, letters, stem, words, Subformula(e + 1));
+    if sweep(letters, stem, words, s, rows[e], rows[48 + e]) {
+        let list = moving.list;
+        pass(rows, letters, stem, words, &list, moving.count, greatest);
+        return true;
     }
     false
 }
@@ -561,7 +590,8 @@ fn judge(t: Table, letters: &[u16], stem: usize, words: &mut [u64]) -> Truth
 // each subformula that is true there.
 pub fn evaluate(s: &[u8], letters: &[u16], stem: usize, words: &mut [u64]) -> Truth
     ensures answered { λ r. ⌜ r ≡ answer (truth (now (s .entry)) (lasso (now (letters .entry)) stem) (length (now (words .entry)))) ⌝ }
-    ensures labelled { λ _. ⌜ now (words .exit) ≡ written (truth (now (s .entry)) (lasso (now (letters .entry)) stem) (length (now (words .entry)))) (now (words .entry)) ⌝ }
+    ensures labelled { λ _. ⌜ now (words .exit) ≡ written (truth (now (s .entry)) (lasso (now (letters .entry)) stem)
+        (length (now (words .entry)))) (now (words .entry)) ⌝ }
 {
     let r = formula::read(s);
     let outcome = r.outcome;

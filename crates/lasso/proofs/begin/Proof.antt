@@ -1,4 +1,5 @@
--- `lasso::begin`: the mask and the list that it makes are those that the rounds move, and the first pass follows the filling. Assumes nothing.
+-- `lasso::begin`: the mask and the list that it makes are those that the rounds move, and the first pass follows the filling. Assumes
+-- nothing.
 use borrow.Author.Needs.{needs}
 use native.Mathlib.Omega.{arith}
 use Prim.Native.Nat.{_-_}

@@ -1,4 +1,5 @@
--- `lasso::clear` puts 0 into each of the first n words. The loop's invariant: so many zeros, and then the words as they were. Assumes nothing.
+-- `lasso::clear` puts 0 into each of the first n words. The loop's invariant: so many zeros, and then the words as they were. Assumes
+-- nothing.
 use borrow.Author.Needs.{needs}
 use Prim.Native.Nat.{ℕ, _≤_, _-_}
 use mathlib.Core.Path.{_≡_, refl, ap, _∙_}

@@ -1,4 +1,5 @@
--- `lasso::closed` looks at each subformula inside e. The loop's invariant: those passed are no variable of a fixpoint before e. Assumes nothing.
+-- `lasso::closed` looks at each subformula inside e. The loop's invariant: those passed are no variable of a fixpoint before e. Assumes
+-- nothing.
 use borrow.Author.Needs.{needs}
 use native.Mathlib.Omega.{arith}
 use mathlib.Core.Path.{_≡_, sym, _∙_}

@@ -1,4 +1,5 @@
--- `lasso::judge`: each question's refusal is the definition's, and after the last one the formula's labelling is the answer. Assumes nothing.
+-- `lasso::judge`: each question's refusal is the definition's, and after the last one the formula's labelling is the answer. Assumes
+-- nothing.
 use Rattle.lasso.proofs.CodeAsked.{no-cycle, too-long, no-room, judged}
 use borrow.Author.Needs.{needs}
 use Rattle.lasso.proofs.judge.Statement.{statement}

@@ -1,5 +1,5 @@
--- `lasso::open_in` goes over the numbers inside e. The loop's invariant: those before k are gone through. A closed subformula is passed over, so
--- what is left falls by its size. Assumes nothing.
+-- `lasso::open_in` goes over the numbers inside e. The loop's invariant: those before k are gone through. A closed subformula is passed
+-- over, so what is left falls by its size. Assumes nothing.
 use borrow.Author.Needs.{needs}
 use native.Mathlib.Omega.{arith}
 use mathlib.Core.Path.{_≡_}

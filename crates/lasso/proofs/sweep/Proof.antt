@@ -1,4 +1,5 @@
--- `lasso::sweep`: the words passed have bit e as the operator says of the words before the sweep; if none changed, all are as they were. Assumes nothing.
+-- `lasso::sweep`: the words passed have bit e as the operator says of the words before the sweep; if none changed, all are as they
+-- were. Assumes nothing.
 use borrow.Author.Needs.{needs}
 use native.Mathlib.Omega.{arith}
 use Prim.Native.Nat.{_≤_, _-_}

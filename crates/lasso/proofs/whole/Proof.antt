@@ -1,4 +1,5 @@
--- `lasso::whole`: the words are cleared, and closed subformulas labelled from the last to the first, which is the whole formula. Assumes nothing.
+-- `lasso::whole`: the words are cleared, and closed subformulas labelled from the last to the first, which is the whole formula.
+-- Assumes nothing.
 use borrow.Author.Needs.{needs}
 use native.Mathlib.Omega.{arith}
 use Prim.Native.Nat.{_-_}
@@ -47,7 +48,8 @@ loop-less c = search needs
 
 loop-again : tie.Need-loop-again Inv-loop μ-loop
 loop-again c =
-    let start = c .before .before .before .before .before .before .before .before .before .before .before .before .before .before .before .before in
+    let start = c .before .before .before .before .before .before .before .before .before .before .before .before .before .before
+    .before .before in
     let loop = c .before .before .before .before .before .before .loop in
     let close = c .before .before .close in
     labelling-more _ _ _ _ _ _ _ (start .pre .0) (omega arith) (loop .inv) (close .ensures)
