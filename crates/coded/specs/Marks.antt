@@ -11,12 +11,15 @@ use Rattle.tableau.specs.Transition.{next-of}
 use Rattle.profile.specs.Profiles.{is-least}
 use Rattle.coded.specs.Triples.{smaller, Triples}
 
+-- for each subformula the set of priorities, a Bool for each of 8
 abbrev pub Marks : Type 0
 Marks = List (List Bool)
 
+-- the set of the priorities that a test holds of
 abbrev pub weighs : (ℕ → Bool) → List Bool
 weighs q = map q (numbers 0 8)
 
+-- whether a priority is in a set
 abbrev pub bit-of : List Bool → ℕ → Bool
 bit-of r x = getD r x false
 
@@ -25,6 +28,7 @@ unfoldable pub passed : Operator → ℕ → List Bool → List Bool
 unfolding smaller
 passed o k r = cond (is-fix o) (weighs (smaller (bit-of r) (eqb k))) r
 
+-- some subformulas are reached with these priorities too
 abbrev pub mark : List ℕ → List Bool → Marks → Marks
 mark [] r v = v
 mark (m ∷ ms) r v = mark ms r (set v m (weighs (λ x. bit-of (getD v m []) x || bit-of r x)))
@@ -35,6 +39,7 @@ unfolding passed
 sweep [] w e k v = v
 sweep (o ∷ t) w e k v = sweep t w (suc e) (cond (is-fix o) (suc k) k) (mark (moves o (has w e)) (passed o k (getD v e [])) v)
 
+-- no priority
 abbrev pub blank : List Bool
 blank = weighs (λ x. false)
 
@@ -49,6 +54,7 @@ abbrev pub nexts-from : ℕ → Table → List ℕ
 nexts-from e [] = []
 nexts-from e (o ∷ t) = let r = nexts-from (suc e) t in map (λ (g : ℕ). e) (next-of o) ++ r
 
+-- the row of an operand in a set of triples: the marks of each next, or nothing where the operand is not in the node
 abbrev pub row-of : List ℕ → Bool → Marks → List (List Bool)
 row-of ns b v = map (λ e. cond b (getD v e []) blank) ns
 

@@ -14,11 +14,13 @@ use Rattle.coded.specs.Spread.{Numbered, adds, spread}
 use Rattle.coded.specs.Triples.{Triples, same-triples, join, rejecting}
 use Rattle.coded.specs.Marks.{triples, leasts}
 
+-- a profile: the numbers of its nodes, and its triples as a table of bits
 pub record Profile : Type 0 where
   pub first : ℕ
   pub last : ℕ
   pub carried : Triples
 
+-- whether two profiles are equal
 abbrev pub same-profile : Profile → Profile → Bool
 same-profile a b = eqb (a .first) (b .first) && eqb (a .last) (b .last) && same-triples (a .carried) (b .carried)
 
@@ -43,6 +45,7 @@ unfoldable pub profiles-from : ℕ → ℕ → List Found → List Found
 unfolding join
 profiles-from fuel n ones = spread same-profile (longer n ones) fuel 0 ones
 
+-- the number of a node
 abbrev pub number-of : List Subset → Subset → ℕ
 number-of [] v = 0
 number-of (u ∷ us) v = let r = suc (number-of us v) in cond (same-subset u v) 0 r
@@ -56,6 +59,7 @@ abbrev pub ones-of : Table → List Subset → ℕ → Subset → List Found
 unfolding triples transitions
 ones-of t ns i v = map (single-of t ns i v) (transitions t v)
 
+-- the runs of one transition from node i on
 abbrev pub ones-from : Table → List Subset → ℕ → List Subset → List Found
 unfolding triples transitions
 ones-from t ns i [] = []

@@ -20,9 +20,11 @@ smaller a b k = some 8 (λ y. a y && some 8 (λ z. b z && eqb (min y z) k))
 abbrev pub Triples : Type 0
 Triples = List (List (List Bool))
 
+-- whether the triple (f, x, g) is in a set
 unfoldable pub holds : Triples → (f x g : ℕ) → Bool
 holds s f x g = getD (getD (getD s f []) g []) x false
 
+-- whether two sets are equal
 abbrev pub same-triples : Triples → Triples → Bool
 same-triples a b = alike (alike (alike same-bit)) a b
 
@@ -35,6 +37,7 @@ unfoldable pub join : ℕ → Triples → Triples → Triples
 unfolding those holds smaller
 join n a b = those n (λ f x g. some n (λ m. smaller (λ y. holds a f y m) (λ z. holds b m z g) x))
 
+-- the union
 unfoldable pub either : ℕ → Triples → Triples → Triples
 unfolding those holds
 either n a b = those n (λ f x g. holds a f x g || holds b f x g)

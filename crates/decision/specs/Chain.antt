@@ -15,6 +15,7 @@ letters-up of zero k = []
 letters-up of (suc fuel) zero = []
 letters-up of (suc fuel) (suc i) = letters-up of fuel (of i .parent) ++ (of i .label ∷ [])
 
+-- the same with enough fuel
 abbrev pub letters-to : (ℕ → Found) → ℕ → List ℕ
 letters-to of k = letters-up of k k
 

@@ -1,5 +1,5 @@
 -- What the decision promises: its answer, the witness, and what the workspace and the witness buffer hold afterwards, in every case.
--- A caller has the whole of document 01, "The verdict", from `Decided`. Assumes nothing.
+-- `Decided` is the whole of MEANING 5. Assumes nothing.
 use mathlib.Core.Path.{_≡_}
 use mathlib.Core.Bool.{true, cond}
 use mathlib.Core.List.{List, _++_, map}
@@ -20,23 +20,23 @@ use Rattle.decision.specs.Verdict.{Verdict, verdict}
 use Rattle.decision.specs.declared.Verdict as code
 use Rattle.decision.specs.declared.Verdict.the-variants.{Satisfiable, Unsatisfiable, Refused, Unread}
 
--- document 01's numbers for each case of the answer
+-- the answer for each verdict, with the numbers of MEANING 5.2 and 5.3
 abbrev pub says : Verdict → code.Verdict
 says (Verdict.unread c p) = Unread (record { code = c; at = p })
 says (Verdict.refused c) = Refused c
 says (Verdict.satisfiable stem cycle K P letters) = Satisfiable stem cycle K P
 says (Verdict.unsatisfiable K P) = Unsatisfiable K P
 
--- K and P
+-- K
 abbrev pub node-count : Table → ℕ
 node-count t = length (nodes t)
 
+-- P
 abbrev pub profile-count : Table → ℕ
 profile-count t = length (profiles t (nodes t))
 
--- "The loop has the fewest steps of any good loop; the lead-in the fewest steps from the root to a node with such a loop; the course is
--- the places of these steps in order." So there are at most K-1 lead-in and at most P loop places. Which of several equally short courses
--- is left free.
+-- MEANING 5.4 and 5.6: a run to a node, an accepting cycle of this node, their letters; no accepting cycle has fewer transitions, and no
+-- node with one as short is nearer; the stem has fewer letters than K, the cycle at most P. Which of the witnesses it is stays free (5.8).
 pub record Witness (t : Table) (stem cycle : ℕ) (letters : List ℕ) : Type 0 where
   pub node : Subset
   pub there : List Transition
@@ -51,7 +51,7 @@ pub record Witness (t : Table) (stem cycle : ℕ) (letters : List ℕ) : Type 0 
   pub stem-short : stem < node-count t
   pub cycle-short : cycle ≤ profile-count t
 
--- what MET says of the formula that was read: the lasso meets it, and is as short as document 01 asks
+-- what MET says of the formula that was read: the lasso meets it and is a witness (MEANING 5.7)
 pub record Met (bytes : List ℕ) (stem cycle K P : ℕ) (letters : List ℕ) : Type 0 where
   pub formula : Formula
   pub reads : parse bytes ≡ Reading.accepted formula
@@ -60,7 +60,7 @@ pub record Met (bytes : List ℕ) (stem cycle K P : ℕ) (letters : List ℕ) : 
   pub nodes-counted : K ≡ node-count (table formula)
   pub profiles-counted : P ≡ profile-count (table formula)
 
--- what NOT says: no lasso of any length meets it
+-- what NOT says: no lasso meets it, however long
 pub record Unmet (bytes : List ℕ) (K P : ℕ) : Type 0 where
   pub formula : Formula
   pub reads : parse bytes ≡ Reading.accepted formula
@@ -68,29 +68,31 @@ pub record Unmet (bytes : List ℕ) (K P : ℕ) : Type 0 where
   pub nodes-counted : K ≡ node-count (table formula)
   pub profiles-counted : P ≡ profile-count (table formula)
 
--- the witness buffer, before and after: for MET the letters, "the rest unchanged"; "Apart from MET the course buffer is unchanged"
+-- the witness buffer before MET and after it: the letters first, then what was there
 pub record Filled (bytes : List ℕ) (stem cycle K P : ℕ) (before after : List ℕ) : Type 0 where
   pub letters : List ℕ
   pub met : Met bytes stem cycle K P letters
   pub filled : after ≡ letters ++ drop (stem + cycle) before
 
+-- the witness buffer for each verdict (MEANING 5.5), with what MET and NOT say
 abbrev pub Buffered : List ℕ → Verdict → (before after : List ℕ) → Type 0
 Buffered bytes (Verdict.unread c p) before after = after ≡ before
 Buffered bytes (Verdict.refused c) before after = after ≡ before
 Buffered bytes (Verdict.satisfiable stem cycle K P _) before after = Filled bytes stem cycle K P before after
 Buffered bytes (Verdict.unsatisfiable K P) before after = Unmet bytes K P × (after ≡ before)
 
--- "Refusals 1 to 13 leave the work area unchanged; every other outcome leaves its first 8N + 192M bytes zero and the rest unchanged."
+-- a workspace with the bytes that question 12 asks for 0, and the others as they were
 abbrev pub zeroed : (N M : ℕ) → List ℕ → List ℕ
 zeroed N M w = replicate (8 * N + 192 * M) 0 ++ drop (8 * N + 192 * M) w
 
+-- the workspace after each verdict: MEANING 5.5
 abbrev pub cleared : (N M : ℕ) → Verdict → List ℕ → List ℕ
 cleared N M (Verdict.unread c p) w = w
 cleared N M (Verdict.refused c) w = cond (leb 14 c) (zeroed N M w) w
 cleared N M (Verdict.satisfiable stem cycle K P letters) w = zeroed N M w
 cleared N M (Verdict.unsatisfiable K P) w = zeroed N M w
 
--- the whole promise: the formula's bytes, the capacities, the workspace and the buffer before and after, the answer
+-- The whole promise: a formula's bytes, the capacities, the workspace and the buffer before and after, the answer.
 pub record Decided (bytes : List ℕ) (N M : ℕ) (workspace workspace′ buffer buffer′ : List ℕ) (answer : code.Verdict) : Type 0 where
   pub answered : answer ≡ says (verdict N M (length workspace) (length buffer) bytes)
   pub buffered : Buffered bytes (verdict N M (length workspace) (length buffer) bytes) buffer buffer′

@@ -48,6 +48,7 @@ Leaves t (Verdict.satisfiable stem cycle K P _) before after =
     (letters : List ℕ) × Witness t stem cycle letters × (after ≡ letters ++ drop (stem + cycle) before)
 Leaves t (Verdict.unsatisfiable K P) before after = after ≡ before
 
+-- The answer to a verdict, and what it leaves in the witness buffer.
 pub record Answers (t : Table) (v : Verdict) (before after : List ℕ) (r : code.Verdict) : Type 0 where
   pub answered : r ≡ says v
   pub buffered : Leaves t v before after

@@ -17,10 +17,11 @@ use Rattle.decision.specs.Promise.{node-count}
 use Rattle.decision.specs.declared.Came.{Came}
 use Rattle.decision.specs.declared.Came.the-variants.{From, Nowhere}
 
--- node number i, and how many transitions the stem to it has
+-- node number i
 abbrev pub node-at : Table → ℕ → Subset
 node-at t i = getD (reachable t) i []
 
+-- how many transitions the stem to it has
 abbrev pub distance : Table → ℕ → ℕ
 distance t i = length (stem-to (node-at t i) (nodes t))
 
@@ -50,6 +51,7 @@ pub record Nearer (t : Table) (j i letter : ℕ) : Type 0 where
   pub small : letter < 65536
   pub closer : distance t j ≡ distance t i + 1
 
+-- The answer to where node j is come to from: there is such a node.
 abbrev pub Comes : Table → ℕ → Came → Type 0
 Comes t j (From i letter) = Nearer t j (i .0) letter
 Comes t j Nowhere = ⊥

@@ -1,5 +1,5 @@
--- The decision: document 01, "The verdict". Of equally short courses it takes the first by the order of the search; a caller may rely
--- on what document 01 says of the course and on nothing more. Assumes nothing.
+-- The decision: MEANING 5. Of several witnesses as short it takes the first in the order of the search; a caller may count on
+-- MEANING 5.4 and on nothing more. Assumes nothing.
 use mathlib.Core.Bool.{Bool, cond, _&&_}
 use mathlib.Core.List.{List, [], _∷_, _++_, map}
 use mathlib.Core.Option.{Option, none, some}
@@ -16,26 +16,26 @@ use Rattle.tableau.specs.Transition.{Transition}
 use Rattle.tableau.specs.Nodes.{nodes}
 use Rattle.profile.specs.Profiles.{Profile, profiles, rejecting, accepting}
 
--- A refusal of reading; 11 to 15; MET with lead-in length, loop length, K, P and the course; NOT with K and P.
+-- A refusal of reading; 11 to 15; MET with the lengths of stem and cycle, K, P and the letters; NOT with K and P.
 pub data Verdict : Type 0 where
   unread : (code place : ℕ) → Verdict
   refused : (code : ℕ) → Verdict
   satisfiable : (stem cycle K P : ℕ) (letters : List ℕ) → Verdict
   unsatisfiable : (K P : ℕ) → Verdict
 
--- "the lead-in the fewest steps from the root to a node with such a loop": the way of the search to a node
+-- the way by which the search came to a node: none is shorter
 abbrev pub stem-to : Subset → List (Item Transition Subset) → List Transition
 stem-to v [] = []
 stem-to v (n ∷ ns) = let r = stem-to v ns in cond (same-subset v (n .at)) (n .way) r
 
--- "If some reachable node has a good loop: MET. The course is the places of these steps in order. Otherwise NOT, with K and P."
+-- MEANING 5.3, given the accepting profile that was found, if any: its way is the cycle
 abbrev pub conclude : List (Item Transition Subset) → List (Item Transition Profile) → Option (Item Transition Profile) → Verdict
 conclude ns ps none = Verdict.unsatisfiable (length ns) (length ps)
 conclude ns ps (some x) =
     let stem = stem-to (x .at .first) ns in
     Verdict.satisfiable (length stem) (length (x .way)) (length ns) (length ps) (map (λ (s : Transition). s .letter) (stem ++ x .way))
 
--- "Is K at most N? If not, 14. Is P at most M? If not, 15." Then the first accepting profile in order of length.
+-- The questions 14 and 15, and then the first accepting profile. Profiles come in order of their runs' lengths.
 unfoldable pub decide : (N M : ℕ) → Table → Verdict
 unfolding nodes profiles rejecting
 decide N M t =
@@ -45,11 +45,11 @@ decide N M t =
     let few = cond (leb (length ps) M) found (Verdict.refused 15) in
     cond (leb (length ns) N) few (Verdict.refused 14)
 
--- "Are N in 1 to 1,024 and M in 1 to 4,096? If not, 11. Has the work area at least 8 times N plus 192 times M bytes? If not, 12. Has
--- the course buffer at least N plus M places? If not, 13."
+-- whether a number is in a range, its ends included
 abbrev pub between : ℕ → ℕ → ℕ → Bool
 between low high n = leb low n && leb n high
 
+-- The questions 11 to 13 (MEANING 5.2), and what comes after them.
 abbrev pub lent : (N M workspace buffer : ℕ) → Table → Verdict
 unfolding decide
 lent N M workspace buffer t =
@@ -58,12 +58,13 @@ lent N M workspace buffer t =
     let second = cond (leb (8 * N + 192 * M) workspace) third (Verdict.refused 12) in
     cond (between 1 1024 N && between 1 4096 M) second (Verdict.refused 11)
 
+-- A refusal of reading is handed on; a formula is decided.
 abbrev pub after-reading : (N M workspace buffer : ℕ) → Reading Formula → Verdict
 unfolding table decide
 after-reading N M workspace buffer (Reading.refused code place) = Verdict.unread code place
 after-reading N M workspace buffer (Reading.accepted f) = lent N M workspace buffer (table f)
 
--- the lengths of the lent workspace and witness buffer, and the formula's bytes
+-- The whole: the capacities, the lengths of the lent workspace and witness buffer, a formula's bytes.
 unfoldable pub verdict : (N M workspace buffer : ℕ) → List ℕ → Verdict
 unfolding parse table decide
 verdict N M workspace buffer bytes = after-reading N M workspace buffer (parse bytes)

@@ -1,14 +1,14 @@
--- A formula of the linear-time mu-calculus as a tree (document 01: a rule). Assumes nothing.
+-- A formula of the linear-time mu-calculus as a tree (document 01: a rule). MEANING 1.1. Assumes nothing.
 use mathlib.Core.Bool.{Bool}
 use Prim.Native.Nat.{ℕ, _+_}
 
--- What has no operand formula. 01, 02: true, false. 03, 04: a signal present, or absent, by its number.
+-- The operators 01 to 04, which have no operand formula: true or false; a signal's presence or absence, by the signal's number.
 pub data Leaf : Type 0 where
   constant : Bool → Leaf
   signal : (present : Bool) → ℕ → Leaf
 
--- The other commands. A variable has its depth: 0 names the innermost enclosing fixpoint, 1 the one outside it.
--- A pair is an or where its Bool is true, else an and; a fix is a greatest fixpoint where its Bool is true, else a least one.
+-- All operators. A variable has its depth (MEANING 1.2). A pair is an or where its Bool is true, else an and; a fix is a greatest
+-- fixpoint where its Bool is true, else a least one.
 pub data Formula : Type 0 where
   leaf : Leaf → Formula
   variable : (depth : ℕ) → Formula
@@ -16,7 +16,7 @@ pub data Formula : Type 0 where
   next : Formula → Formula
   fix : (greatest : Bool) → Formula → Formula
 
--- How many commands a formula has.
+-- How many operators a formula has.
 abbrev pub size : Formula → ℕ
 size (Formula.leaf l) = 1
 size (Formula.variable d) = 1

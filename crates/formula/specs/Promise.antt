@@ -33,10 +33,11 @@ inward of (suc d) = of d ∷ inward of d
 abbrev pub enclosing : Scope → Enclosing
 enclosing x = inward (λ d. ltb d (x .guarded)) (x .depth)
 
+-- The numbers of the enclosing fixpoints, innermost first.
 abbrev pub binders : Scope → List ℕ
 binders x = inward (λ d. getD (x .binders) d 0) (x .depth)
 
--- The counts stay within document 01's limits.
+-- The counts are within the limits of MEANING 1.4.
 pub record Limits (h : Head) : Type 0 where
   pub commands : h .count ≤ 48
   pub ors : h .ors ≤ 12
@@ -53,7 +54,7 @@ pub record Further (h x : Head) : Type 0 where
 abbrev pub behind : Head → Head
 behind h = record { at = h .at + 1; count = h .count; ors = h .ors; nexts = h .nexts; fixpoints = h .fixpoints }
 
--- The questions 3 and 4 are answered with yes for the opcode op.
+-- For the opcode op the answer to the questions 3 and 4 is yes.
 pub record Room (op : ℕ) (h : Head) : Type 0 where
   pub limits : Limits h
   pub known : op ≤ 10

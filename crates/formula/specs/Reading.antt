@@ -1,4 +1,4 @@
--- Reading a formula from bytes: document 01, "A rule in bytes", its questions in their order. Assumes nothing.
+-- Reading a formula from bytes (MEANING 1.4): the questions in their order, each with its number. Assumes nothing.
 use mathlib.Core.Bool.{Bool, true, false}
 use mathlib.Core.List.{List, [], _∷_, map}
 use Prim.Native.Nat.{ℕ, zero, suc, _+_, _-_}
@@ -7,7 +7,8 @@ use lib.ListN.{length, getD, drop}
 use Rattle.formula.specs.Formula.{Leaf, Formula}
 use Rattle.formula.specs.Table.{Entries, entries}
 
--- The table of command bytes. Pair: or (06) where true; fix: greatest (0A) where true.
+-- What a byte may be where an operator begins. Pair: or (06) where true, and (07) where false; fix: greatest (0A) where true, least (09)
+-- where false.
 pub data Opcode : Type 0 where
   unknown : Opcode
   constant signal : Bool → Opcode
@@ -16,6 +17,7 @@ pub data Opcode : Type 0 where
   next : Opcode
   fix : Bool → Opcode
 
+-- MEANING 1.1, the table of opcodes: those from 01 to 0A are known.
 abbrev pub opcode : ℕ → Opcode
 opcode b =
     getD
@@ -24,7 +26,7 @@ opcode b =
     b
     Opcode.unknown
 
--- Where reading stands: the byte's place, the bytes from there on, and the commands, or, next and fixpoints read so far.
+-- What reading has come to: a place, the bytes from there on, and how many operators, or, next and fixpoints it has counted.
 pub record Head : Type 0 where
   pub at : ℕ
   pub left : List ℕ
@@ -33,43 +35,49 @@ pub record Head : Type 0 where
   pub nexts : ℕ
   pub fixpoints : ℕ
 
--- "A refusal returns its number and byte place": or something was read, and reading stands behind it.
+-- Reading a part of the bytes: a refusal with its number and place, or what was read, and where reading has come to.
 pub data Read (A : Type 0) : Type 0 where
   refused : (code place : ℕ) → Read A
   got : A → Head → Read A
 
+-- A way to read one thing.
 abbrev pub Reader : Type 0 → Type 0
 Reader A = Head → Read A
 
+-- Nothing more is read.
 abbrev pub done : {A : Type 0} → A → Reader A
 done a h = Read.got a h
 
+-- A refusal is final; else reading goes on from what it has come to.
 abbrev pub and-then : {A B : Type 0} → (A → Reader B) → Read A → Read B
 and-then f (Read.refused n p) = Read.refused n p
 and-then f (Read.got a h) = f a h
 
+-- One thing is read after another: what a line of `do` means.
 infixl 20 _>>=_
 abbrev pub _>>=_ : {A B : Type 0} → Reader A → (A → Reader B) → Reader B
 (m >>= f) h = and-then f (m h)
 
--- The next byte; if there is none, the refusal at the length.
+-- The questions 1 and 5: the next byte, or, where no bytes are left, the refusal at this place, which is the length.
 abbrev pub byte-from : ℕ → Head → List ℕ → Read ℕ
 byte-from code h [] = Read.refused code (h .at)
 byte-from code h (b ∷ bs) =
     Read.got b (record { at = h .at + 1; left = bs; commands = h .commands; ors = h .ors; nexts = h .nexts; fixpoints = h .fixpoints })
 
+-- The same, from where reading has come to.
 abbrev pub byte : ℕ → Reader ℕ
 byte code h = byte-from code h (h .left)
 
--- A question about the byte read last; if the answer is no, the refusal at that byte.
+-- The answer to a question about the byte that was just read: no is the refusal at this byte.
 abbrev pub answered : Bool → ℕ → Reader (Unit {0})
 answered true code h = Read.got tt h
 answered false code h = Read.refused code (h .at - 1)
 
+-- A question that what reading has come to answers.
 abbrev pub ask : (Head → Bool) → ℕ → Reader (Unit {0})
 ask q code h = answered (q h) code h
 
--- "Is it 01 to 0A?"
+-- Question 2.
 abbrev pub known : Opcode → Bool
 known Opcode.unknown = false
 known (Opcode.constant b) = true
@@ -79,7 +87,7 @@ known (Opcode.pair o) = true
 known Opcode.next = true
 known (Opcode.fix g) = true
 
--- "Does it stay within 12 or, 12 next, 7 fixpoints?"
+-- Question 4.
 abbrev pub within : Opcode → Head → Bool
 within Opcode.unknown h = true
 within (Opcode.constant b) h = true
@@ -90,11 +98,12 @@ within (Opcode.pair false) h = true
 within Opcode.next h = ltb (h .nexts) 12
 within (Opcode.fix g) h = ltb (h .fixpoints) 7
 
--- The command counts as read.
+-- One operator more, and so many or, next and fixpoints.
 abbrev pub one-more : (ors nexts fixpoints : ℕ) → Head → Head
 one-more o n f h =
     record { at = h .at; left = h .left; commands = h .commands + 1; ors = h .ors + o; nexts = h .nexts + n; fixpoints = h .fixpoints + f }
 
+-- The operator is counted.
 abbrev pub counted : Opcode → Head → Head
 counted Opcode.unknown h = one-more 0 0 0 h
 counted (Opcode.constant b) h = one-more 0 0 0 h
@@ -105,14 +114,15 @@ counted (Opcode.pair false) h = one-more 0 0 0 h
 counted Opcode.next h = one-more 0 1 0 h
 counted (Opcode.fix g) h = one-more 0 0 1 h
 
+-- The same as a step of reading.
 abbrev pub count : Opcode → Reader (Unit {0})
 count k h = Read.got tt (counted k h)
 
--- The enclosing fixpoints, innermost first, each with whether a next stands between it and here.
+-- The fixpoints around, innermost first, each with whether there is a next between it and here (question 8).
 abbrev pub Scope : Type 0
 Scope = List Bool
 
--- "A command is read with all its operands before the next one begins." `self` reads one formula.
+-- What comes behind an opcode, read to its end, with the questions 5 to 8. `self` reads an operand formula.
 abbrev pub operands : (Scope → Reader Formula) → Scope → Opcode → Reader Formula
 operands self scope Opcode.unknown = done (Formula.leaf (Leaf.constant false))
 operands self scope (Opcode.constant b) = done (Formula.leaf (Leaf.constant b))
@@ -136,7 +146,7 @@ operands self scope (Opcode.fix g) = do
   a ← self (false ∷ scope)
   done (Formula.fix g a)
 
--- "Reading asks, at each command from the left":
+-- The questions that each operator is asked, and its operands.
 abbrev pub questions : (Scope → Reader Formula) → Scope → Reader Formula
 questions self scope = do
   b ← byte 1
@@ -146,47 +156,51 @@ questions self scope = do
   _ ← count (opcode b)
   operands self scope (opcode b)
 
--- One formula. The first number bounds how deep operands nest, which the number of bytes left does: proofs/Fuel.antt has the law.
+-- One formula. The first number bounds how deep operands nest. That of the bytes left is enough: proofs/Fuel.antt has the law.
 abbrev pub formula : ℕ → Scope → Reader Formula
 formula zero scope h = Read.refused 1 (h .at)
 formula (suc deep) scope h = questions (formula deep) scope h
 
--- The result of reading: a refusal with its number and byte place and nothing else, or what was accepted.
+-- The outcome of reading (MEANING 1.5): a refusal with its number and place, or what was accepted.
 pub data Reading (A : Type 0) : Type 0 where
   refused : (code place : ℕ) → Reading A
   accepted : A → Reading A
 
--- "After the whole rule: has the input ended? If not, 9, at the first extra byte."
+-- Question 9.
 abbrev pub ended : Formula → Head → List ℕ → Reading Formula
 ended f h [] = Reading.accepted f
 ended f h (b ∷ bs) = Reading.refused 9 (h .at)
 
+-- The outcome, once reading has come to the end of subformula 0.
 abbrev pub whole : Read Formula → Reading Formula
 whole (Read.refused n p) = Reading.refused n p
 whole (Read.got f h) = ended f h (h .left)
 
+-- Reading begins at place 0 with nothing counted.
 abbrev pub start : List ℕ → Head
 start bytes = record { at = 0; left = bytes; commands = 0; ors = 0; nexts = 0; fixpoints = 0 }
 
--- The formula that the bytes are.
+-- The formula that the bytes are, or the refusal.
 unfoldable pub parse : List ℕ → Reading Formula
 parse bytes = whole (formula (length bytes) [] (start bytes))
 
--- "An accepted rule returns its entries."
+-- The outcome with the subformulas in place of the tree.
 abbrev pub with-entries : Reading Formula → Reading Entries
 with-entries (Reading.refused n p) = Reading.refused n p
 with-entries (Reading.accepted f) = Reading.accepted (entries f)
 
+-- Reading: MEANING 1.5.
 unfoldable pub reading : List ℕ → Reading Entries
 unfolding parse
 reading bytes = with-entries (parse bytes)
 
--- "The reader holds the rule's bytes together with the byte it stands at": reading from that byte on, with places counted from the
--- start of the bytes. Past their end no byte is left, so the refusal is 1, at the place where the reader stands.
+-- A refusal whose place is counted from n bytes earlier.
 abbrev pub places-from : {A : Type 0} → ℕ → Reading A → Reading A
 places-from n (Reading.refused code place) = Reading.refused code (n + place)
 places-from n (Reading.accepted a) = Reading.accepted a
 
+-- A reader that has come to some place of the bytes reads from there, and counts places from the first byte. Behind the last byte
+-- nothing is left to read: the refusal is 1, where the reader is.
 unfoldable pub reading-from : List ℕ → ℕ → Reading Entries
 unfolding reading
 reading-from bytes at = places-from at (reading (drop at bytes))

@@ -22,9 +22,11 @@ operator-of (Opcode.pair o) a e = Operator.pair o (e + 1) a
 operator-of Opcode.next a e = Operator.next (e + 1)
 operator-of (Opcode.fix g) a e = Operator.fix g (e + 1)
 
+-- the operator of subformula e: byte e of the rows is its opcode, byte 48 + e its argument
 abbrev pub operator-at : List ℕ → ℕ → Operator
 operator-at rows e = operator-of (opcode (getD rows e 0)) (getD rows (48 + e) 0) e
 
+-- the number after the last subformula inside e: byte 96 + e
 abbrev pub end-at : List ℕ → ℕ → ℕ
 end-at rows e = getD rows (96 + e) 0
 
@@ -32,16 +34,19 @@ end-at rows e = getD rows (96 + e) 0
 abbrev pub operators-of : List ℕ → ℕ → ℕ → Operators
 operators-of rows e n = map (operator-at rows) (numbers e n)
 
+-- their ends
 abbrev pub ends-of : List ℕ → ℕ → ℕ → List ℕ
 ends-of rows e n = map (end-at rows) (numbers e n)
 
+-- all that a table holds
 abbrev pub entries-of : Table → Entries
 entries-of t = record { operators = operators-of (t .rows) 0 (t .count); ends = ends-of (t .rows) 0 (t .count) }
 
--- document 01's number and place of a refusal, or the entries
+-- the definition's outcome for each of the code's: number and place of the refusal, or the subformulas
 abbrev pub reading-by : Outcome → Table → Reading Entries
 reading-by Accepted t = Reading.accepted (entries-of t)
 reading-by (Refused why) t = Reading.refused (why .code) (why .at)
 
+-- the same of what reading hands back
 abbrev pub reading-of : code.Reading → Reading Entries
 reading-of r = reading-by (r .outcome) (r .table)

@@ -19,8 +19,8 @@ pub record Sits {A : Type 0} (d : A) (s : ℕ → A) (e : ℕ) (part : List A) :
 abbrev pub nothing : Operator
 nothing = Operator.leaf (Leaf.constant false)
 
--- Closed and guarded (document 01, questions 7 and 8): each variable names an enclosing fixpoint, and a next stands between the two. The
--- scope has the fixpoints around the formula, innermost first, each with whether a next stands between it and here.
+-- Closed and guarded (MEANING 1.4, questions 7 and 8): each variable has a binder, and a next between it and the binder. The scope is as
+-- in Reading.antt.
 abbrev pub Guarded : Scope → Formula → Type 0
 Guarded scope (Formula.leaf l) = Unit {0}
 Guarded scope (Formula.variable d) = (d < length scope) × T (getD scope d false)
@@ -28,7 +28,7 @@ Guarded scope (Formula.pair o a b) = Guarded scope a × Guarded scope b
 Guarded scope (Formula.next a) = Guarded (map (λ _. true) scope) a
 Guarded scope (Formula.fix g a) = Guarded (false ∷ scope) a
 
--- signals are numbered 0 to 15
+-- signals are 0 to 15 (question 6)
 abbrev pub Ranged : Formula → Type 0
 Ranged (Formula.leaf (Leaf.constant b)) = Unit {0}
 Ranged (Formula.leaf (Leaf.signal present s)) = s ≤ 15

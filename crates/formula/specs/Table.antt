@@ -1,12 +1,12 @@
--- A formula as the list of its subformulas (document 01: "Commands are numbered from 0 by where they begin, from the left: these are
--- the entries"). Element e is the operator of subformula e, with the numbers of its operands. Assumes nothing.
+-- A formula as the list of its subformulas (document 01: entries) by their numbers: MEANING 1.3. Element e is the operator of
+-- subformula e, with the numbers of its operands. Assumes nothing.
 use mathlib.Core.Bool.{Bool, true, false}
 use mathlib.Core.List.{List, [], _∷_, _++_}
 use Prim.Native.Nat.{ℕ, _+_}
 use lib.ListN.{getD}
 use Rattle.formula.specs.Formula.{Leaf, Formula, size}
 
--- A variable has the number of its fixpoint, its binder.
+-- An operator among numbered subformulas. A variable has the number of its binder.
 pub data Operator : Type 0 where
   leaf : Leaf → Operator
   variable : (binder : ℕ) → Operator
@@ -14,7 +14,7 @@ pub data Operator : Type 0 where
   next : (operand : ℕ) → Operator
   fix : (greatest : Bool) → (body : ℕ) → Operator
 
--- whether an operator is an or, a next, a fixpoint
+-- whether an operator is an or
 abbrev pub is-or : Operator → Bool
 is-or (Operator.leaf l) = false
 is-or (Operator.variable m) = false
@@ -22,6 +22,7 @@ is-or (Operator.pair o l r) = o
 is-or (Operator.next g) = false
 is-or (Operator.fix g b) = false
 
+-- whether it is a next
 abbrev pub is-next : Operator → Bool
 is-next (Operator.leaf l) = false
 is-next (Operator.variable m) = false
@@ -29,6 +30,7 @@ is-next (Operator.pair o l r) = false
 is-next (Operator.next g) = true
 is-next (Operator.fix g b) = false
 
+-- whether it is a fixpoint
 abbrev pub is-fix : Operator → Bool
 is-fix (Operator.leaf l) = false
 is-fix (Operator.variable m) = false
@@ -36,6 +38,7 @@ is-fix (Operator.pair o l r) = false
 is-fix (Operator.next g) = false
 is-fix (Operator.fix g b) = true
 
+-- the subformulas of a formula
 abbrev pub Table : Type 0
 Table = List Operator
 
@@ -52,6 +55,7 @@ table-from e binders (Formula.pair o a b) =
 table-from e binders (Formula.next a) = Operator.next (e + 1) ∷ table-from (e + 1) binders a
 table-from e binders (Formula.fix g a) = Operator.fix g (e + 1) ∷ table-from (e + 1) (e ∷ binders) a
 
+-- The subformulas of a formula.
 unfoldable pub table : Formula → Table
 table f = table-from 0 [] f
 
@@ -68,6 +72,7 @@ pub record Entries : Type 0 where
   pub operators : Table
   pub ends : List ℕ
 
+-- the same for a formula
 abbrev pub entries : Formula → Entries
 unfolding table
 entries f = record { operators = table f; ends = ends-from 0 f }

@@ -10,8 +10,8 @@ use Rattle.lasso.specs.declared.Truth.the-variants.{Told, Refused, Unrea
 abbrev pub lasso : (letters : List ℕ) (stem : ℕ) → Lasso
 lasso letters stem = record { letters = letters; stem = stem }
 
--- the answer for each outcome. "A refusal returns its number and byte place .. and every operation that reads a rule passes it on. Other
--- refusals return the number alone"; "the result is the truth of entry 0 at place 0".
+-- The answer for each outcome: a refusal of reading with its place, another with its number alone (MEANING 7.1), else the truth of
+-- subformula 0 at position 0 (MEANING 2.6).
 abbrev pub answer : Truth → code.Truth
 answer (Truth.unread k place) = Unread (record { code = k; at = place })
 answer (Truth.refused k) = Refused k

@@ -1,4 +1,4 @@
--- A lasso, and the truth of a formula on it by rounds: document 01, "A course and truth on it". Assumes nothing.
+-- A lasso (document 01: a course), and the truth of a formula on it by rounds: MEANING 2.1 to 2.4. Assumes nothing.
 use mathlib.Core.Bool.{Bool, true, false, not, cond, _&&_, _||_}
 use mathlib.Core.List.{List, [], _∷_, _++_, map}
 use Prim.Native.Nat.{ℕ}
@@ -8,37 +8,37 @@ use Rattle.base.specs.Lists.{numbers, repeat, tail}
 use Rattle.base.specs.Bits.{bit, word}
 use Rattle.formula.specs.Formula.{Leaf, Formula}
 
--- "A course is a list of places and a lead-in length; the places after the lead-in repeat for ever." A letter is a place's 16-bit
--- number: "bit j says that signal j is present".
+-- The letters (document 01: values of places), stem and cycle, and the length of the stem (document 01: lead-in): MEANING 2.1.
 pub record Lasso : Type 0 where
   pub letters : List ℕ
   pub stem : ℕ
 
--- A set of positions: a Bool for each.
+-- A set of positions (document 01: places): a Bool for each.
 abbrev pub Positions : Type 0
 Positions = List Bool
 
--- "signals by their bit"
+-- Whether a constant or a signal is true where the letter is.
 abbrev pub leaf-at : Leaf → ℕ → Bool
 leaf-at (Leaf.constant b) letter = b
 leaf-at (Leaf.signal present j) letter = cond present (bit letter j) (not (bit letter j))
 
--- "or, and as union and intersection"
+-- One position of an or, or of an and.
 abbrev pub joined : (either : Bool) → Bool → Bool → Bool
 joined true a b = a || b
 joined false a b = a && b
 
+-- The union, or the intersection, of two sets.
 abbrev pub combine : Bool → Positions → Positions → Positions
 combine o [] t = []
 combine o (a ∷ s) [] = []
 combine o (a ∷ s) (b ∷ t) = joined o a b ∷ combine o s t
 
--- "next by the successor", and "the last one's successor is the first of the loop": the positions whose successor is in the set
+-- The positions whose successor is in a set: each but the last has the one behind it, the last has the first behind the stem.
 abbrev pub before : (stem : ℕ) → Positions → Positions
 before stem s = tail s ++ (getD s stem false ∷ [])
 
--- "a least fixpoint is its body taken n rounds from the empty set, a greatest n rounds from all places, inner fixpoints afresh in each
--- round": the positions where a formula is true; the sets of the enclosing fixpoints are given, innermost first
+-- MEANING 2.2: the positions where a formula is true, given the sets of the fixpoints around it, innermost first. A fixpoint has as many
+-- rounds as there are letters, and starts where g says: at no position or at all.
 abbrev pub holds : Lasso → Formula → List Positions → Positions
 holds c (Formula.leaf l) ρ = map (leaf-at l) (c .letters)
 holds c (Formula.variable d) ρ = getD ρ d []
@@ -46,8 +46,7 @@ holds c (Formula.pair o a b) ρ = combine o (holds c a ρ) (holds c b ρ)
 holds c (Formula.next a) ρ = before (c .stem) (holds c a ρ)
 holds c (Formula.fix g a) ρ = repeat (length (c .letters)) (λ s. holds c a (s ∷ ρ)) (map (λ _. g) (c .letters))
 
--- "In the result a variable has the set of its own fixpoint, and every entry inside a fixpoint the set worked out from these final
--- sets": the sets of the subformulas after the first, and of all
+-- MEANING 2.3: the sets of the subformulas inside a formula, by their numbers; in a fixpoint's body from the fixpoint's final set.
 abbrev pub inner : Lasso → Formula → List Positions → List Positions
 inner c (Formula.leaf l) ρ = []
 inner c (Formula.variable d) ρ = []
@@ -55,16 +54,18 @@ inner c (Formula.pair o a b) ρ = (holds c a ρ ∷ inner c a ρ) ++ (holds c b 
 inner c (Formula.next a) ρ = holds c a ρ ∷ inner c a ρ
 inner c (Formula.fix g a) ρ = let s = holds c (Formula.fix g a) ρ in holds c a (s ∷ ρ) ∷ inner c a (s ∷ ρ)
 
+-- The sets of all its subformulas.
 abbrev pub sets : Lasso → Formula → List Positions → List Positions
 sets c f ρ = holds c f ρ ∷ inner c f ρ
 
--- "word i has bit e set exactly if entry e is true at place i, with all higher bits 0"
+-- The word of a position (MEANING 2.6): bit e for subformula e, and no others.
 abbrev pub label : List Positions → ℕ → ℕ
 label ss i = word (map (λ (s : Positions). getD s i false) ss)
 
+-- The words of all positions (document 01: truth words).
 unfoldable pub labelling : Lasso → Formula → List ℕ
 labelling c f = let ss = sets c f [] in map (label ss) (numbers 0 (length (c .letters)))
 
--- "A course of any length whose lead-in is shorter than its list meets a rule if entry 0 is true at place 0."
+-- MEANING 2.4: a lasso meets a formula.
 unfoldable pub meets : Lasso → Formula → Bool
 meets c f = let s = holds c f [] in ltb (c .stem) (length (c .letters)) && getD s 0 false

@@ -1,5 +1,4 @@
--- The truth operation: its questions, its answer and what its word area holds afterwards: document 01, "A course and truth on it".
--- Assumes nothing.
+-- The truth operation: its questions, its answer and what its word area holds afterwards (MEANING 2.5, 2.6). Assumes nothing.
 use mathlib.Core.Bool.{Bool, cond}
 use mathlib.Core.List.{List, _++_}
 use Prim.Native.Nat.{ℕ}
@@ -9,14 +8,13 @@ use Rattle.formula.specs.Formula.{Formula}
 use Rattle.formula.specs.Reading.{Reading, parse}
 use Rattle.lasso.specs.Lasso.{Lasso, labelling, meets}
 
--- A refusal of reading with its number and byte place; 16, 17 or 18; or the truth of subformula 0 at position 0, and the words.
+-- Its outcome: a refusal of reading with its place; 16, 17 or 18; or whether the lasso meets the formula, and the words.
 pub data Truth : Type 0 where
   unread : (code place : ℕ) → Truth
   refused : (code : ℕ) → Truth
   told : (truth : Bool) (words : List ℕ) → Truth
 
--- "is the lead-in shorter than the list (else 16)? Are there at most 8,192 places (else 17)? Are there at least as many words as
--- places (else 18)?"
+-- The questions after reading, 16 first.
 abbrev pub asked : Lasso → (room : ℕ) → Formula → Truth
 unfolding labelling meets
 asked c room f =
@@ -26,17 +24,18 @@ asked c room f =
     let second = cond (leb n 8192) third (Truth.refused 17) in
     cond (ltb (c .stem) n) second (Truth.refused 16)
 
+-- A refusal of reading is handed on; a formula is asked about.
 abbrev pub after-reading : Lasso → (room : ℕ) → Reading Formula → Truth
 unfolding labelling meets
 after-reading c room (Reading.refused code place) = Truth.unread code place
 after-reading c room (Reading.accepted f) = asked c room f
 
--- the formula's bytes, a lasso, and how many words are lent
+-- The whole: a formula's bytes, a lasso, and how many words are lent.
 unfoldable pub truth : List ℕ → Lasso → (room : ℕ) → Truth
 unfolding parse labelling meets
 truth bytes c room = after-reading c room (parse bytes)
 
--- "words past the course are unchanged"; "Refused, nothing is written": the lent words afterwards
+-- The lent words afterwards: the words of the positions and then what was there; after a refusal what was there.
 abbrev pub written : Truth → List ℕ → List ℕ
 written (Truth.unread code place) lent = lent
 written (Truth.refused code) lent = lent

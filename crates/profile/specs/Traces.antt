@@ -1,4 +1,4 @@
--- Traces of a transition, their priorities and triples: document 01, "Graph, traces, profiles". The priority none is the number of
+-- Traces of a transition, their priorities (document 01: weights) and triples: MEANING 4.1 and 4.2. The priority none is the number of
 -- subformulas, which is larger than any of theirs. Assumes nothing.
 use mathlib.Core.Bool.{Bool, cond, _&&_}
 use mathlib.Core.List.{List, [], _∷_, map}
@@ -12,37 +12,39 @@ use Rattle.tableau.specs.Saturation.{Subset, has, moves}
 use Rattle.tableau.specs.Transition.{next-of}
 use Rattle.tableau.specs.Nodes.{operands}
 
--- "all triples f, weight, g"
+-- What is kept of a trace: where it begins, its priority, where it ends.
 pub record Triple : Type 0 where
   pub from : ℕ
   pub priority : ℕ
   pub to : ℕ
 
+-- whether two triples are equal
 abbrev pub same-triple : Triple → Triple → Bool
 same-triple a b = eqb (a .from) (b .from) && eqb (a .priority) (b .priority) && eqb (a .to) (b .to)
 
--- A trace on its way: the subformula where it stands, and the smallest number of a fixpoint passed, that subformula included.
+-- A trace on its way: the subformula that it has come to, and the lowest fixpoint so far, this subformula counted.
 pub record Stand : Type 0 where
   pub subformula : ℕ
   pub priority : ℕ
 
+-- whether they are equal
 abbrev pub same-stand : Stand → Stand → Bool
 same-stand a b = eqb (a .subformula) (b .subformula) && eqb (a .priority) (b .priority)
 
--- at subformula e, come with priority x
+-- having come to subformula e with priority x
 abbrev pub stand : Table → ℕ → ℕ → Stand
 stand t x e = record { subformula = e; priority = cond (is-fix (operator t e)) (min x e) x }
 
--- "along the same moves"
+-- the moves of MEANING 3.3 as edges of a search
 abbrev pub move-edges : Table → (choice : Subset) → Stand → List (Edge ℕ Stand)
 move-edges t w s =
     map (λ (m : ℕ). record { label = m; to = stand t (s .priority) m }) (moves (operator t (s .subformula)) (has w (s .subformula)))
 
--- "A trace of a step goes from an entry f of the node": where the traces from f may stand; "f itself included"
+-- what the traces from f can come to under a choice; f counts for the priority
 abbrev pub stands : Table → (choice : Subset) → ℕ → List (Item ℕ Stand)
 stands t w f = search-from same-stand (move-edges t w) (1 + length t * suc (length t)) (record { way = []; at = stand t (length t) f } ∷ [])
 
--- "to an operand g of a next that is met": the triples of f that end where it stands
+-- the triple of a trace from f that has come to a next: it ends in the operand
 abbrev pub ends : Table → ℕ → Stand → List Triple
 ends t f s = map (λ (g : ℕ). record { from = f; priority = s .priority; to = g }) (next-of (operator t (s .subformula)))
 
@@ -56,6 +58,7 @@ abbrev pub all-triples : Table → List Triple
 all-triples t =
     gather (λ (f : ℕ). gather (λ (x : ℕ). map (λ (g : ℕ). record { from = f; priority = x; to = g }) (operands t)) (priorities-from 0 t)) (operands t)
 
+-- the set of some triples
 abbrev pub set-of : Table → List Triple → List Triple
 set-of t xs = keep (λ x. any (same-triple x) xs) (all-triples t)
 
@@ -63,12 +66,14 @@ set-of t xs = keep (λ x. any (same-triple x) xs) (all-triples t)
 unfoldable pub triples : Table → Subset → (choice : Subset) → List Triple
 triples t v w = set-of t (gather (λ f. cond (has v f) (gather (λ (x : Item ℕ Stand). ends t f (x .at)) (stands t w f)) []) (operands t))
 
--- "Traces over several steps join end to end and the weight is the smaller, none being largest."
+-- MEANING 4.2: one trace after another, with the lower priority
 abbrev pub joined : Triple → Triple → Triple
 joined a b = record { from = a .from; priority = min (a .priority) (b .priority); to = b .to }
 
+-- that, where the one begins in what the other ends in
 abbrev pub meet : Triple → Triple → List Triple
 meet a b = cond (eqb (a .to) (b .from)) (joined a b ∷ []) []
 
+-- the triples of a run, given those of its two parts
 unfoldable pub join : Table → List Triple → List Triple → List Triple
 join t xs ys = set-of t (gather (λ a. gather (meet a) ys) xs)

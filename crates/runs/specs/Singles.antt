@@ -20,10 +20,11 @@ use Rattle.runs.specs.Stored.{Lent}
 abbrev pub subset-of : (count word : ℕ) → Subset
 subset-of count w = map (bit w) (numbers 0 count)
 
--- node i of the area, and the first nodes
+-- node i of the area
 abbrev pub node-in : (count : ℕ) → List ℕ → (i : ℕ) → Subset
 node-in count area i = subset-of count (eight area (8 * i))
 
+-- its first nodes
 abbrev pub nodes-in : (count : ℕ) → List ℕ → (nodes : ℕ) → List Subset
 nodes-in count area nodes = map (subset-of count) (words-at area 0 nodes)
 

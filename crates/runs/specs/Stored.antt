@@ -92,17 +92,19 @@ pub record Changed (from to : ℕ) (a b : List ℕ) : Type 0 where
   pub below : (i : ℕ) → i < from → getD b i 0 ≡ getD a i 0
   pub beyond : (i : ℕ) → to ≤ i → getD b i 0 ≡ getD a i 0
 
--- the bits of a byte, and the bits of row f of n operands
+-- the bits of a byte
 abbrev pub bits-of : ℕ → List Bool
 bits-of x = map (bit x) (numbers 0 8)
 
+-- the bits of row f of n operands
 abbrev pub row-of : List ℕ → (n f : ℕ) → List (List Bool)
 row-of t n f = map (λ g. bits-of (getD t (f * 12 + g) 0)) (numbers 0 n)
 
--- the sum of a row's bytes so far with one byte of triples more, and a hash with a row
+-- the sum of a row's bytes so far with one byte of triples more
 abbrev pub mixed : ℕ → List Bool → ℕ
 mixed sum x = (sum * 8 + word x) % 4294967296
 
+-- a hash with a row more
 abbrev pub mixed-row : ℕ → List (List Bool) → ℕ
 mixed-row h x = (h + foldl mixed 0 x) % 4294967296 * 2654435761 % 4294967296
 
@@ -110,13 +112,15 @@ mixed-row h x = (h + foldl mixed 0 x) % 4294967296 * 2654435761 % 4294967296
 unfoldable pub bucket-of : Shelf → Profile → ℕ
 bucket-of s x = foldl mixed-row (x .first + x .last * 65536) (x .carried) / 65536 % s .capacity
 
--- what the records' next bytes say
+-- the bucket that record p says it is in
 abbrev pub bucket-at : Shelf → List ℕ → ℕ → ℕ
 bucket-at s b p = two b (place s p + 152)
 
+-- 1 + the number of the record before it in the bucket
 abbrev pub link-at : Shelf → List ℕ → ℕ → ℕ
 link-at s b p = two b (place s p + 154)
 
+-- 1 + the number of the last record in a bucket
 abbrev pub head-at : Shelf → List ℕ → (bucket : ℕ) → ℕ
 head-at s b k = two b (place s k + 156)
 

@@ -45,6 +45,7 @@ abbrev pub index : ℕ → List ℕ → ℕ
 index x [] = 0
 index x (y ∷ ys) = cond (eqb x y) 0 (suc (index x ys))
 
+-- that many bytes 0
 abbrev pub zeros : ℕ → List ℕ
 zeros n = replicate n 0
 
@@ -60,7 +61,7 @@ pub record Holds (capacity known : ℕ) (a area : List ℕ) (l : List Subset) : 
   pub known-is : known ≡ min (length l) (capacity + 1)
   pub area-is : area ≡ store (take capacity (map word l)) a
 
--- the nodes of a table: document 01's, in order of first visit
+-- the nodes of a table (MEANING 3.7), in order of first visit
 abbrev pub reachable : Table → List Subset
 reachable t = map (λ (x : Item Transition Subset). x .at) (nodes t)
 
@@ -73,6 +74,7 @@ module _ {K : Type 0} (same : K → K → Bool) where
   abbrev pub with-one : List K → K → List K
   with-one known y = cond (any (same y) known) known (known ++ (y ∷ []))
 
+  -- the same for each element of a second list
   abbrev pub with-all : List K → List K → List K
   with-all known [] = known
   with-all known (y ∷ ys) = with-all (with-one known y) ys

@@ -22,7 +22,7 @@ use Rattle.tableau.specs.declared.Step.the-variants.{Leads, Nothing}
 abbrev pub table-of : List ℕ → ℕ → Table
 table-of rows count = operators-of rows 0 count
 
--- What is asked of a row: an opcode that document 01 has, and operands in their ranges. The number n is above all subformulas.
+-- What is asked of a row: an opcode of MEANING 1.1, and operands in their ranges. The number n is above all subformulas.
 pub record Row (op argument e n : ℕ) : Type 0 where
   pub some : 0 < op
   pub known : op ≤ 10

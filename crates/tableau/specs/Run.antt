@@ -10,6 +10,6 @@ pub data Along (t : Table) (v : Subset) : List Transition → Subset → Type 0 
   stay : Along t v [] v
   on : {u : Subset} {ss : List Transition} {s : Transition} → Along t v ss u → List·Memᴰ s (transitions t u) → Along t v (ss ++ (s ∷ [])) (s .to)
 
--- "reachable from the root"
+-- a node that some transitions lead to from the root
 abbrev pub Reachable : Table → Subset → Type 0
 Reachable t v = (ss : List Transition) × Along t (root t) ss v

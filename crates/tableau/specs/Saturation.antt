@@ -1,4 +1,4 @@
--- Sets of subformulas, the moves within a step and the saturation of a node: document 01, "Graph, traces, profiles". Assumes nothing.
+-- Sets of subformulas, the moves within a transition and the saturation of a node: MEANING 3.1 to 3.3. Assumes nothing.
 use mathlib.Core.Bool.{Bool, true, false, cond}
 use mathlib.Core.List.{List, [], _∷_, map}
 use Prim.Native.Nat.{ℕ, suc}
@@ -6,25 +6,28 @@ use lib.ListN.{length, getD, set}
 use Rattle.base.specs.Lists.{repeat, alike, same-bit}
 use Rattle.formula.specs.Table.{Operator, Table}
 
--- A set of subformulas: a Bool for each. "A node is a set of entries that must be true now." A choice is such a set too: the or
--- commands of which the right operand is picked.
+-- A set of subformulas: a Bool for each. A node is one. A choice (document 01: picks) is one too: the ors whose right operand is taken.
 abbrev pub Subset : Type 0
 Subset = List Bool
 
+-- whether a subformula is in a set
 abbrev pub has : Subset → ℕ → Bool
 has v e = getD v e false
 
+-- whether two sets are equal
 abbrev pub same-subset : Subset → Subset → Bool
 same-subset v u = alike same-bit v u
 
+-- the empty set
 abbrev pub nothing : Table → Subset
 nothing t = map (λ _. false) t
 
+-- a set with some subformulas more
 abbrev pub add : List ℕ → Subset → Subset
 add [] v = v
 add (m ∷ ms) v = add ms (set v m true)
 
--- "follows: and to both operands, or to the picked one, a fixpoint to its body, a variable to its fixpoint"; the Bool is the choice
+-- MEANING 3.3: where the moves from a subformula lead, by its operator; the Bool is the pick of an or
 abbrev pub moves : Operator → (right : Bool) → List ℕ
 moves (Operator.leaf l) p = []
 moves (Operator.variable m) p = m ∷ []
@@ -38,6 +41,7 @@ abbrev pub sweep : Table → (choice : Subset) → ℕ → Subset → Subset
 sweep [] w e v = v
 sweep (o ∷ t) w e v = sweep t w (suc e) (cond (has v e) (add (moves o (has w e)) v) v)
 
--- "the least set that holds the node and follows": each pass but the last adds a subformula (proofs/SaturationLaws.antt)
+-- The saturation of a node under a choice. A pass that is not the last adds a subformula, so there are enough of them; and no smaller
+-- set around the node is closed under the moves (proofs/SaturationLaws.antt).
 abbrev pub saturate : Table → (choice : Subset) → Subset → Subset
 saturate t w v = repeat (length t) (sweep t w 0) v

@@ -1,4 +1,4 @@
--- The transitions of a node (document 01: its steps): when one exists, its letter, and where it leads. Assumes nothing.
+-- The transitions of a node (document 01: its steps): when one exists, its letter, and its target. MEANING 3.2 to 3.5. Assumes nothing.
 use mathlib.Core.Bool.{Bool, true, false, not, cond, _&&_}
 use mathlib.Core.List.{List, [], _∷_, map}
 use Prim.Native.Nat.{ℕ, _+_, _/_, _%_, _^_}
@@ -25,6 +25,7 @@ requires p (Operator.pair o l r) = []
 requires p (Operator.next g) = []
 requires p (Operator.fix g l) = []
 
+-- whether an operator is false
 abbrev pub is-false : Operator → Bool
 is-false (Operator.leaf (Leaf.constant b)) = not b
 is-false (Operator.leaf (Leaf.signal q j)) = false
@@ -33,18 +34,18 @@ is-false (Operator.pair o l r) = false
 is-false (Operator.next g) = false
 is-false (Operator.fix g l) = false
 
--- "The step exists if the set has no false and no signal both present and absent."
+-- MEANING 3.4: whether a set with these operators gives a transition
 unfoldable pub possible : List Operator → Bool
 possible os =
     let absent = gather (requires false) os in
     let clash = any (λ j. member j absent) (gather (requires true) os) in
     not (any is-false os) && not clash
 
--- "Its place has exactly the signals that the set requires present."
+-- MEANING 3.5: the letter has bit j where signal j is to be present
 unfoldable pub letter-of : List Operator → ℕ
 letter-of os = let present = gather (requires true) os in word (map (λ j. member j present) (numbers 0 16))
 
--- "the node of all operands of next in the set"
+-- MEANING 3.5: the operand of a next, which belongs to the target
 abbrev pub next-of : Operator → List ℕ
 next-of (Operator.leaf l) = []
 next-of (Operator.variable m) = []
@@ -57,7 +58,7 @@ abbrev pub ors : Table → ℕ
 ors [] = 0
 ors (o ∷ t) = cond (is-or o) 1 0 + ors t
 
--- The choice of a choice word: its bit j is the pick of the or numbered j from 0 by its subformula, 1 for right.
+-- The choice of a choice word. The ors are counted by rising number of their subformulas; bit j is for or j, and 1 means right.
 abbrev pub choice-of : Table → ℕ → Subset
 choice-of [] x = []
 choice-of (o ∷ t) x = cond (is-or o) (eqb (x % 2) 1 ∷ choice-of t (x / 2)) (false ∷ choice-of t x)
@@ -66,7 +67,7 @@ choice-of (o ∷ t) x = cond (is-or o) (eqb (x % 2) 1 ∷ choice-of t (x / 2)) (
 abbrev pub choices : Table → List Subset
 choices t = map (choice-of t) (numbers 0 (2 ^ ors t))
 
--- "picks one operand for each or that is met": an or that is not met has no pick, so that a transition has one choice
+-- MEANING 3.2: a choice takes the right operand of no or outside the saturation, so that a transition has one choice
 abbrev pub within : Subset → Subset → Bool
 within [] v = true
 within (false ∷ w) [] = within w []
@@ -75,6 +76,7 @@ within (false ∷ w) (b ∷ v) = within w v
 within (true ∷ w) (true ∷ v) = within w v
 within (true ∷ w) (false ∷ v) = false
 
+-- a transition of a node: its choice, its letter and its target
 pub record Transition : Type 0 where
   pub choice : Subset
   pub letter : ℕ

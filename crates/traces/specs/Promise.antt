@@ -22,16 +22,19 @@ abbrev pub before : (ℕ → Bool) → ℕ → ℕ
 before q zero = 0
 before q (suc e) = let r = before q e in cond (q e) (suc r) r
 
--- whether subformula e is a next, or a fixpoint, by its opcode; and how many begin before it
+-- whether subformula e is a next, by its opcode
 abbrev pub next-at : List ℕ → ℕ → Bool
 next-at rows e = eqb (getD rows e 0) 8
 
+-- whether it is a fixpoint
 abbrev pub fix-at : List ℕ → ℕ → Bool
 fix-at rows e = ltb 8 (getD rows e 0)
 
+-- how many next begin before it
 abbrev pub next-rank : List ℕ → ℕ → ℕ
 next-rank rows = before (next-at rows)
 
+-- how many fixpoints begin before it
 abbrev pub fix-rank : List ℕ → ℕ → ℕ
 fix-rank rows = before (fix-at rows)
 
@@ -92,6 +95,7 @@ Done rows count choice node e t =
 abbrev pub Empty : ℕ → List ℕ → Type 0
 Empty k t = (i : ℕ) → k * 12 ≤ i → i < 144 → getD t i 0 ≡ 0
 
+-- Both.
 abbrev pub Done-to : List ℕ → (count choice node e : ℕ) → List ℕ → Type 0
 Done-to rows count choice node e t = Done rows count choice node e t × Empty (next-rank rows e) t
 

@@ -10,13 +10,15 @@ use lib.ListN.{getD}
 use Rattle.base.specs.Bits.{bit}
 use Rattle.coded.specs.Triples.{Triples, those, some, smaller}
 
--- the bytes of a list, from its beginning or from a place on
+-- the bytes of a list
 abbrev pub bytes : List ℕ → ℕ → ℕ
 bytes l i = getD l i 0
 
+-- the bytes from a place on
 abbrev pub bytes-from : List ℕ → (at : ℕ) → ℕ → ℕ
 bytes-from l at i = getD l (at + i) 0
 
+-- whether bytes hold the triple (f, x, g)
 abbrev pub bits : (ℕ → ℕ) → (f x g : ℕ) → Bool
 bits b f x g = bit (b (f * 12 + g)) x
 
@@ -24,6 +26,7 @@ bits b f x g = bit (b (f * 12 + g)) x
 abbrev pub triples-in : ℕ → List ℕ → Triples
 triples-in n l = those n (bits (bytes l))
 
+-- the same for the bytes from a place on
 abbrev pub triples-at : ℕ → List ℕ → (at : ℕ) → Triples
 triples-at n l at = those n (bits (bytes-from l at))
 

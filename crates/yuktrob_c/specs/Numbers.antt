@@ -1,5 +1,5 @@
--- The number that stands for each answer: its lowest byte is document 01's number of a refusal, or 0, and what the answer carries stands
--- above it. include/yuktrob.h says the same in C. Assumes nothing.
+-- The number that stands for each answer: its lowest byte is the number of a refusal (MEANING 1.4, 2.5, 5.2), or 0, and what the answer
+-- carries stands above it. include/yuktrob.h says the same in C. Assumes nothing.
 use mathlib.Core.Bool.{cond}
 use mathlib.Core.List.{List}
 use Prim.Native.Nat.{ℕ, _+_, _*_, _≤_, _<_}
@@ -13,24 +13,26 @@ use Rattle.decision.specs.Promise.{says}
 use Rattle.decision.specs.declared.Verdict.{Verdict}
 use Rattle.decision.specs.declared.Verdict.the-variants as decision
 
+-- the number of a refusal, or 0, with what is carried
 abbrev pub number : (code carried : ℕ) → ℕ
 number code carried = code + 256 * carried
 
--- "A refusal returns its number and byte place"; an accepted formula carries how many entries there are
+-- reading: a refusal carries its place, an accepted formula how many subformulas it has
 abbrev pub reading-number : Reading Entries → ℕ
 reading-number (Reading.refused code place) = number code place
 reading-number (Reading.accepted x) = number 0 (length (x .operators))
 
--- 1 for true, 0 for false; "Other refusals return the number alone"
+-- truth: 1 for true, 0 for false; a refusal of reading carries its place, another nothing (MEANING 7.1)
 abbrev pub truth-number : Truth → ℕ
 truth-number (truth.Told b) = number 0 (cond b 1 0)
 truth-number (truth.Refused code) = number code 0
 truth-number (truth.Unread why) = number (why .code) (why .at)
 
--- 1 for MET or 0 for NOT, then lead-in length, loop length, K and P with 13 bits each, the first lowest
+-- 1 for MET or 0 for NOT, then the lengths of stem and cycle, K and P with 13 bits each, the first lowest
 abbrev pub found : (met stem cycle K P : ℕ) → ℕ
 found met stem cycle K P = met + 2 * (stem + 8192 * (cycle + 8192 * (K + 8192 * P)))
 
+-- the decision: that, or a refusal as for truth
 abbrev pub verdict-number : Verdict → ℕ
 verdict-number (decision.Satisfiable stem cycle K P) = number 0 (found 1 stem cycle K P)
 verdict-number (decision.Unsatisfiable K P) = number 0 (found 0 0 0 K P)
@@ -41,19 +43,20 @@ verdict-number (decision.Unread why) = number (why .code) (why .at)
 abbrev pub answer-of : (bytes : List ℕ) (N M : ℕ) (workspace buffer : List ℕ) → Verdict
 answer-of bytes N M workspace buffer = says (verdict N M (length workspace) (length buffer) bytes)
 
--- Why the numbers fit into 64 bits. "Are N in 1 to 1,024 and M in 1 to 4,096?", so the sizes of a verdict have room in 13 bits each.
+-- Why the numbers fit into 64 bits: by question 11 and MEANING 5.6 the sizes of a verdict have room in 13 bits each.
 pub record Small (stem cycle K P : ℕ) : Type 0 where
   pub stem-fits : stem < 1024
   pub cycle-fits : cycle ≤ 4096
   pub nodes-fit : K ≤ 1024
   pub profiles-fit : P ≤ 4096
 
--- "the first 97 bytes settle the outcome", so the place of a refusal of reading is at most 97
+-- By MEANING 1.6 the place of a refusal of reading is at most 97: of truth's answer.
 abbrev pub TruthFits : Truth → Type 0
 TruthFits (truth.Told b) = Unit {0}
 TruthFits (truth.Refused code) = Unit {0}
 TruthFits (truth.Unread why) = why .at ≤ 97
 
+-- the same of the decision's, and its sizes are small
 abbrev pub VerdictFits : Verdict → Type 0
 VerdictFits (decision.Satisfiable stem cycle K P) = Small stem cycle K P
 VerdictFits (decision.Unsatisfiable K P) = Small 0 0 K P
