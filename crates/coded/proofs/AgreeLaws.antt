@@ -1,5 +1,5 @@
--- What the decision needs of the profiles that the code keeps, in one statement (`Agrees`): they are as many as document 01's, and the one
--- at a number has the numbers of its first and last node, is accepting exactly if it is, and following the parents from it gives the
+-- What the decision needs of the profiles that the code keeps, in one statement (`Agrees`): they are as many as the definition's, and the
+-- one at a number has the numbers of its first and last node, is accepting exactly if it is, and following the parents from it gives the
 -- letters of its run; parents have smaller numbers, so that ends. It holds for the table of every accepted formula (`agrees`), and the
 -- first accepting one of the kept profiles is the first of all (`first-accepting`). Assumes nothing.
 use mathlib.Core.Path.{_≡_, ap, subst, subst⁻¹, _∙_}

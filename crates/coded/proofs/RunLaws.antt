@@ -1,4 +1,4 @@
--- The profiles that the code keeps are document 01's, in the same order, each with the same letters (`profiles-match`). A profile codes
+-- The profiles that the code keeps are the definition's, in the same order, each with the same letters (`profiles-match`). A profile codes
 -- another when its nodes are the numbers of the other's and its table carries the other's triples. The runs of one transition from each
 -- node are paired one for one with the first items of the other search; going on by them, the first of each kind only, is going on by the
 -- transitions of the last node. Assumes nothing.
@@ -114,7 +114,7 @@ map-again f g (x ∷ xs) = ap (λ l. f (g x) ∷ l) (map-again f g xs)
 later : {x : Item Transition Subset} {xs : List (Item Transition Subset)} → Distinct (x ∷ xs) → Distinct xs
 later (Distinct.more n d) = d
 
--- a profile as document 01's search lists it, with the transitions of its run
+-- a profile as the definition's search lists it, with the transitions of its run
 abbrev pub Listed : Type 0
 Listed = Item Transition literal.Profile
 

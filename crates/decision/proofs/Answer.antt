@@ -91,7 +91,7 @@ module _ (bytes : List ℕ) (f : Formula) (reads : parse bytes ≡ Reading.accep
   decided-says : {N M workspace buffer : ℕ} {o : Verdict} → Decided N M workspace buffer (table f) o → Says bytes o
   decided-says {o} d = asked-says (asked-says (asked-says (asked-says (asked-says (λ o c. concluded-says c))))) o d
 
--- Theorem: a verdict that answers document 01's questions says what is so.
+-- Theorem: a verdict that answers the questions says what is so.
 pub answered-says : {N M workspace buffer : ℕ} (bytes : List ℕ) {r : Reading Formula} {o : Verdict} → parse bytes ≡ r → Answered N M workspace buffer r o → Says bytes o
 answered-says bytes e Answered.unread = e
 answered-says bytes e (Answered.read {f} d) = decided-says bytes f e d

@@ -1,4 +1,4 @@
--- How large the numbers of a verdict are. K is at most N and P at most M where a verdict is given, a witness has fewer than K positions
+-- How large the numbers of a verdict are. Where one is given N bounds K and M bounds P, a witness has fewer than K positions
 -- before its cycle and at most P in it, and its letters have sixteen bits; a refusal's number is at most 15, and the place of a refusal of
 -- reading at most 97. Assumes nothing.
 use mathlib.Core.Path.{_≡_, refl, sym, subst⁻¹, _∙_}

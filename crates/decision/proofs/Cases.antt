@@ -1,5 +1,5 @@
--- The starred cases of document 01's table, and J, L and the sizes' examples, as statements that the definitions compute through the
--- reading of the bytes. Assumes nothing.
+-- The starred cases of MEANING 5.9, and J, L and the examples of capacities, as statements that the definitions compute through the reading
+-- of the bytes. Assumes nothing.
 use mathlib.Core.Path.{_≡_, refl}
 use mathlib.Core.List.{List, [], _∷_, map}
 use Prim.Native.Nat.{ℕ}
@@ -29,7 +29,7 @@ pub starred-cases : map (λ (c : Case). verdict 256 300 59648 556 (c .bytes)) st
 unfolding verdict
 starred-cases = refl
 
--- in J the outer, greatest fixpoint decides; L has them the other way round
+-- J and L: the outer fixpoint decides, which is the greatest one in J and the least one in L
 pub nested :
     map (verdict 256 300 59648 556)
     ((0x0A ∷ 0x09 ∷ 0x06 ∷ 0x07 ∷ 0x03 ∷ 0x00 ∷ 0x08 ∷ 0x05 ∷ 0x01 ∷ 0x08 ∷ 0x05 ∷ 0x00 ∷ [])
@@ -42,7 +42,7 @@ nested = refl
 abbrev F : List ℕ
 F = 0x0A ∷ 0x07 ∷ 0x09 ∷ 0x06 ∷ 0x03 ∷ 0x00 ∷ 0x08 ∷ 0x05 ∷ 0x00 ∷ 0x08 ∷ 0x05 ∷ 0x00 ∷ []
 
--- "Rule A with N = 1 gives 14. Rule F with M = 4 gives 15, with M = 5 MET; with N = 2, M = 1 it gives 14."
+-- A with N = 1; F with M = 4, with M = 5, and with N = 2 and M = 1
 pub sizes :
     verdict 1 300 59648 556 (0x01 ∷ []) ∷ verdict 256 4 59648 556 F ∷ verdict 256 5 59648 556 F ∷ verdict 2 1 59648 556 F ∷ []
     ≡ Verdict.refused 14 ∷ Verdict.refused 15 ∷ Verdict.satisfiable 1 1 3 5 (1 ∷ 1 ∷ []) ∷ Verdict.refused 14 ∷ []

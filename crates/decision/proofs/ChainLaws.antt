@@ -139,7 +139,7 @@ written-both from xs ys l m k v w =
         ∙ w .inside j h ∙ sym (getD-append-add xs ys j 0)
         ∙ ap (λ (o : ℕ). getD (xs ++ ys) o 0) (sym e)
 
--- written from the front on: the letters, "the rest unchanged"
+-- written from the front on: the letters, then what was there
 pub written-is : (ls l m : List ℕ) → Written 0 ls l m → length ls ≤ length l → m ≡ ls ++ drop (length ls) l
 written-is ls l m w h =
     let longer = length-append ls (drop (length ls) l) in

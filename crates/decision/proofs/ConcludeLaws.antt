@@ -1,4 +1,4 @@
--- The answer from the profiles in the workspace. They agree with document 01's one for one, so the first accepting one kept is the first
+-- The answer from the profiles in the workspace. They agree with the definition's one for one, so the first accepting one kept is the first
 -- accepting one of the definition, the letters followed from it are those of its run, and behind a shortest stem to its first node they
 -- are a witness. Assumes nothing.
 use mathlib.Core.Path.{_≡_, refl, sym, ap, subst, subst⁻¹, _∙_}

@@ -1,4 +1,4 @@
--- From the questions of the code to the promise: each of 11 to 13 is the definition's, what is left in the workspace is what document 01
+-- From the questions of the code to the promise: each of 11 to 13 is the definition's, what is left in the workspace is what MEANING 5.5
 -- says of the answer, and an answer over the table of the formula that was read is the decision's promise. Assumes nothing.
 use mathlib.Core.Path.{_≡_, refl, sym, ap, subst, subst⁻¹, _∙_}
 use mathlib.Core.Bool.{Bool, cond, _&&_}

@@ -1,7 +1,7 @@
--- The verdict is as document 01 asks: each refusal exactly where its question is the first that is answered by no, else MET with a
--- witness, or NOT where there is no accepting cycle, with K and P. `Answered` is document 01's list of questions as a relation, without
--- search and fuel. The verdict's definition meets it (`verdict-answered`), and it leaves one freedom, which of several equally short
--- courses (`answered-settled`). Assumes nothing.
+-- The verdict is that of MEANING 5: each refusal exactly where its question is the first that is answered by no, else MET with a
+-- witness, or NOT where there is no accepting cycle, with K and P. `Answered` is the list of questions as a relation, without search and
+-- fuel. The verdict's definition meets it (`verdict-answered`), and it leaves nothing open but the witness's letters
+-- (`answered-settled`). Assumes nothing.
 use mathlib.Core.Path.{_≡_, refl, sym, _∙_}
 use mathlib.Core.Bool.{Bool, cond, _&&_}
 use mathlib.Core.Option.{Option, none, some}
@@ -31,13 +31,13 @@ pub data Asked (Question : Type 0) (code : ℕ) (After : Verdict → Type 0) : V
   passed : {o : Verdict} → Question → After o → Asked Question code After o
   failed : (Question → ⊥) → Asked Question code After (Verdict.refused code)
 
--- "If some reachable node has a good loop: MET … Otherwise NOT, with K and P."
+-- MEANING 5.3
 pub data Concluded (t : Table) : Verdict → Type 0 where
   met : {stem cycle : ℕ} {letters : List ℕ} → Witness t stem cycle letters
       → Concluded t (Verdict.satisfiable stem cycle (node-count t) (profile-count t) letters)
   unmet : ((v : Subset) (ss : List Transition) → AcceptingCycle t v ss → ⊥) → Concluded t (Verdict.unsatisfiable (node-count t) (profile-count t))
 
--- "Are N in 1 to 1,024 and M in 1 to 4,096?"
+-- question 11
 pub record Capacity (N M : ℕ) : Type 0 where
   pub some-nodes : 1 ≤ N
   pub nodes-fit : N ≤ 1024
@@ -103,7 +103,7 @@ read-answered N M workspace buffer (Reading.accepted f) =
     (asked-le (length ps) M 15 _ _
     (concluded f (first (accepting t) ps) refl))))))
 
--- Theorem: the verdict answers document 01's questions.
+-- Theorem: the verdict answers the questions.
 pub verdict-answered : (N M workspace buffer : ℕ) (bytes : List ℕ) → Answered N M workspace buffer (parse bytes) (verdict N M workspace buffer bytes)
 unfolding verdict
 verdict-answered N M workspace buffer bytes = read-answered N M workspace buffer (parse bytes)
@@ -141,7 +141,7 @@ concluded-settled t o p (met w) (unmet n) = absurd (n (w .node) (w .around) (w .
 concluded-settled t o p (unmet n) (met u) = absurd (n (u .node) (u .around) (u .accepted))
 concluded-settled t o p (unmet n) (unmet m) = refl
 
--- Theorem: "The outcome is settled by the inputs up to one freedom: which of several equally short courses."
+-- Theorem (MEANING 5.8): two verdicts that answer the questions for the same inputs differ at most in the letters.
 pub answered-settled : (N M workspace buffer : ℕ) (r : Reading Formula) → Settles (Answered N M workspace buffer r)
 answered-settled N M workspace buffer r o p unread unread = refl
 answered-settled N M workspace buffer r o p (read {f} a) (read b) =

@@ -336,7 +336,7 @@ fn lent(t: Table, n: usize, m: usize, workspace: &mut [u8], letters: &mut [u16])
     v
 }
 
-// Whether any lasso meets the formula in the bytes s, with room for n nodes and m profiles.
+// Whether any lasso meets the formula in the bytes s, with capacities n of nodes and m of profiles.
 pub fn decide(s: &[u8], n: usize, m: usize, workspace: &mut [u8], letters: &mut [u16]) -> Verdict
     ensures { λ r. ⌜ Decided (now (s .entry)) n m (now (workspace .entry)) (now (workspace .exit)) (now (letters .entry)) (now (letters .exit)) r ⌝ }
 {

@@ -1,5 +1,5 @@
--- A formula is closed when each of its variables names a fixpoint that encloses it; of any other, document 01's reading asks "Is a depth
--- below the number of enclosing fixpoints?" and refuses. Also: a table has as many operators as the formula's size says. Assumes nothing.
+-- A formula is closed when each of its variables has a binder; question 7 of MEANING 1.4 refuses the others. Also: a table has as many
+-- operators as the formula's size says. Assumes nothing.
 use mathlib.Core.Path.{_≡_, refl}
 use mathlib.Core.List.{List, _∷_}
 use Prim.Native.Nat.{ℕ, suc, _+_, _<_}

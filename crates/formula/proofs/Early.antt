@@ -1,4 +1,4 @@
--- A refusal of reading has an early place. The first 97 bytes settle the outcome (Prefix), and a refusal's place is at most the length
+-- A refusal of reading has an early place. By Prefix 97 bytes decide the outcome, and a refusal's place is at most the length
 -- (Fuel), so it is at most 97, however long the input is. Assumes nothing.
 use mathlib.Core.Path.{_≡_, _∙_}
 use mathlib.Core.List.{List}

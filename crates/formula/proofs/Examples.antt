@@ -1,4 +1,4 @@
--- The reading examples of document 01, "A rule in bytes", as one table that the definition computes. Assumes nothing.
+-- The examples of MEANING 1.7 as one table that the definition computes. Assumes nothing.
 use mathlib.Core.Path.{_≡_, refl}
 use mathlib.Core.Bool.{true}
 use mathlib.Core.List.{List, [], _∷_, _++_, map}

@@ -110,7 +110,7 @@ formula-unfolds scope h = by (h .left)
         (kept total (length x) (length x) scope k l r))
         scope g (b ∷ x) (near (suc (length x)) (suc (length x)) g (omega arith) (omega arith)))
 
--- what document 01 says of the places: "at the length", "at that byte", "at the operand", "at the first extra byte"
+-- the places of MEANING 1.4: the length for 1 and 5, else a byte that is there
 pub parse-stopped : (bytes : List ℕ) (code place : ℕ) → parse bytes ≡ Reading.refused code place → Stopped (length bytes) code place
 unfolding parse
 parse-stopped bytes code place e =

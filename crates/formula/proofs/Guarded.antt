@@ -1,5 +1,5 @@
--- An accepted formula is closed and guarded: each variable names an enclosing fixpoint, and a next stands between the two
--- (document 01, questions 7 and 8). Read off the derivation. Assumes nothing.
+-- An accepted formula is closed and guarded: each variable has a binder, and a next between it and the binder (MEANING 1.4, questions 7
+-- and 8). Read off the derivation. Assumes nothing.
 use mathlib.Core.Path.{_≡_}
 use mathlib.Core.Bool.{true, false}
 use mathlib.Core.List.{List, [], _∷_, map}

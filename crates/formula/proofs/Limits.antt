@@ -1,5 +1,5 @@
--- An accepted formula is within document 01's limits: 48 commands, 12 or, 12 next, 7 fixpoints, signals at most 15. Each counter of the
--- head starts at 0, grows by the commands that it counts and never passes its limit, so at the end it is the formula's own number; one
+-- An accepted formula is within the limits of MEANING 1.4: 48 operators, 12 or, 12 next, 7 fixpoints, signal 15. Each counter of the
+-- head starts at 0, grows by the operators that it counts and never passes its limit, so at the end it is the formula's own number; one
 -- law says so of any counter (`Counter`, `counted-up`). The table has the same numbers (`table-tally`). Assumes nothing.
 use mathlib.Core.Path.{_≡_, refl, ap, _∙_}
 use mathlib.Core.Bool.{Bool, true, false, cond}
@@ -140,7 +140,7 @@ reads-ranged f (Reads.pair {a = x} {b = y} b p q) = (reads-ranged x p, reads-ran
 reads-ranged f (Reads.next {a = x} b p) = reads-ranged x p
 reads-ranged f (Reads.fix {a = x} b p) = reads-ranged x p
 
--- document 01's limits
+-- the limits
 pub record Limited (f : Formula) : Type 0 where
   pub some : 0 < size f
   pub commands : size f ≤ 48

@@ -1,5 +1,5 @@
--- The first 97 bytes settle the outcome (document 01, "The program"). Every command has at most two bytes and at most 48 are
--- read, so reading never looks at a place above 96: two inputs that agree so far are read alike (Alike). Assumes nothing.
+-- MEANING 1.6: 97 bytes decide the outcome. Every operator has at most two bytes and at most 48 are read, so reading never looks at a
+-- place above 96: two inputs that agree so far are read alike (Alike). Assumes nothing.
 use mathlib.Core.Path.{_≡_, refl, ap}
 use mathlib.Core.List.{List, [], _∷_}
 use Prim.Native.Nat.{ℕ, suc, _+_, _-_, _*_, _≤_}

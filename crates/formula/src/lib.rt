@@ -36,7 +36,7 @@ pub struct Reading {
     pub table: Table,
 }
 
-// Where reading stands: the byte's place, and how many commands, or, next and fixpoints were read.
+// Where reading stands: the byte's place, and how many operators, or, next and fixpoints were read.
 struct Head {
     at: usize,
     count: usize,
@@ -65,7 +65,7 @@ enum Taken {
     Refused(Refusal),
 }
 
-// Whether one more command stays within 12 or, 12 next, 7 fixpoints.
+// Whether there is room for one more operator: question 4.
 fn within(op: u8, h: Head) -> bool
     requires { ⌜ op ≤ 10 ⌝ }
     ensures { λ r. ⌜ ((s : List ℕ) → r ≡ allowed (opcode op) (point s h)) ⌝ }
@@ -96,7 +96,7 @@ fn passed(s: &[u8], h: Head) -> Head
     }
 }
 
-// The command op counts as read.
+// The operator op is counted.
 fn counted(op: u8, h: Head) -> Head
     requires { ⌜ Room op h ⌝ }
     ensures { λ r. ⌜ Counted op h r ⌝ }
@@ -110,7 +110,7 @@ fn counted(op: u8, h: Head) -> Head
     }
 }
 
-// The questions about a command's byte: 1, 2, 3 and 4.
+// The questions about an operator's byte: 1, 2, 3 and 4.
 fn opcode_at(s: &[u8], h: Head) -> Taken
     requires { ⌜ Limits h ⌝ }
     ensures { λ r. ⌜ Opening (now (s .entry)) h r ⌝ }
@@ -219,7 +219,7 @@ fn finished(h: Head, rows: [u8; 144], me: Subformula, op: u8, argument: u8) -> P
     }
 }
 
-// A command without operand formulas.
+// An operator without operand formulas.
 fn leaf(s: &[u8], h: Head, rows: [u8; 144], me: Subformula, op: u8, scope: Scope) -> Parsed
     requires { ⌜ (0 < op) × (op ≤ 5) × Ready h scope × (h .count ≡ me .0 + 1) ⌝ }
     ensures { λ r. ⌜ Leaves (now (s .entry)) h rows (me .0) op scope r ⌝ }
@@ -248,7 +248,7 @@ fn complete(p: Parsed, me: Subformula, op: u8, argument: usize) -> Parsed
     }
 }
 
-// Reads a command with all its operands.
+// Reads an operator with all its operands.
 fn command(s: &[u8], h: Head, rows: [u8; 144], scope: Scope) -> Parsed
     requires { ⌜ Ready h scope ⌝ }
     ensures { λ r. ⌜ Command (now (s .entry)) h rows scope r ⌝ }
@@ -291,7 +291,7 @@ fn refused(why: Refusal) -> Reading
     }
 }
 
-// Reads a whole formula that begins at a byte: a slice and a position by value.
+// Reads a whole formula that begins at a byte.
 fn read_at(s: &[u8], at: usize) -> Reading
     ensures { λ r. ⌜ Answered (now (s .entry)) at r ⌝ }
 {

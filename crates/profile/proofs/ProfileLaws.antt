@@ -1,4 +1,4 @@
--- The profiles are exactly those of runs of one or more transitions that start at a reachable node other than the root, each once, so
+-- The profiles are exactly those of runs of one or more transitions whose first node is reachable and not the root, each once, so
 -- that P is their number; `Run` says it without search and fuel. A profile's nodes are reachable and its triples are a part of all
 -- triples, so the search's fuel is enough. The search goes by rising rank: the length of the run first, then how far its first node is
 -- from the root; so each profile comes with the transitions of a shortest run that has it, of at most P transitions. Assumes nothing.
@@ -233,7 +233,7 @@ profiles-all t {p} {ss} r b =
     profiles-near t (λ v. 0) 1 (sorted-same (λ (n : Item Transition Subset). 0) 0 (tail (nodes t)) (λ y m. refl)) (λ n m. omega arith) r b in
     (x, m, e, omega (arith, mul-one (length ss), mul-one (length (x .way))))
 
--- "A profile is … of some run of one or more steps that starts at a reachable node other than the root."
+-- MEANING 4.3: a run that begins at a node which counts has this profile.
 abbrev pub IsProfile : Table → Profile → Type 0
 IsProfile t p = (ss : List Transition) × Run t p ss × Begins t (p .first)
 

@@ -23,13 +23,13 @@ use Rattle.tableau.specs.Nodes.{operands}
 use Rattle.profile.specs.Traces.{Triple, Stand, same-stand, stand, move-edges, stands, ends, triples}
 use Rattle.profile.proofs.TripleLaws.{Priority, none-priority, fix-priority, min-in, Known, set-of-of, set-of-in}
 
--- A trace from f, on its way: "along the same moves", with the smallest fixpoint number passed, "f itself included".
+-- A trace from f, on its way (MEANING 4.1): what moves have come to, with the lowest fixpoint so far, f counted.
 pub data Goes (t : Table) (w : Subset) (f : ℕ) : Stand → Type 0 where
   begin : Goes t w f (stand t (length t) f)
   move : {s : Stand} {m : ℕ} → Goes t w f s → List·Memᴰ m (moves (operator t (s .subformula)) (has w (s .subformula)))
       → Goes t w f (stand t (s .priority) m)
 
--- A trace of a transition with choice w: it ends at "an operand g of a next that is met".
+-- A trace of a transition with choice w: it has come to a next, and ends in its operand.
 pub record Trace (t : Table) (w : Subset) (a : Triple) : Type 0 where
   pub last : Stand
   pub goes : Goes t w (a .from) last

@@ -1,5 +1,5 @@
 -- Choices: however the operands of the or operators are picked, there is a choice with these picks at the or operators that are met
--- (`chosen`), its saturated set is inside every set that holds the node and follows the picks, and so its transition exists if a letter
+-- (`chosen`), its saturated set is inside every set around the node that no picked move leaves, and so its transition exists if a letter
 -- is allowed by such a set. And two transitions with the same picks at the or operators that are met are one (`transition-unique`): the
 -- saturated set depends only on these picks, and a choice has no others. Assumes nothing.
 use mathlib.Core.Path.{_≡_, refl, sym, ap, subst, subst⁻¹, _∙_}
@@ -136,7 +136,7 @@ module _ (t : Table) (v : Subset) (len : length v ≡ length t) (f : ℕ → Boo
   unfolding chosen
   chosen-moves e h = near-moves e (subst⁻¹ (λ (s : Subset). T (has s e)) near-same h)
 
-  -- its saturated set is inside every set that holds the node and follows the picks,
+  -- its saturated set is inside every set around the node that no picked move leaves,
   pub chosen-inside : {u : Subset} → Inside v u → ((e m : ℕ) → T (has u e) → List·Memᴰ m (moves (operator t e) (f e)) → m < length u → T (has u m))
       → Inside (saturate t (chosen t v f .choice) v) u
   unfolding chosen

@@ -1,5 +1,5 @@
--- "The empty node is a node; it steps to itself with place 0000." Nothing is saturated to nothing, which requires nothing, so each transition of the empty
--- node leads back to it with no signal (`empty-step`), and there is one, with no pick (`empty-steps`). Assumes nothing.
+-- MEANING 3.6. Nothing is saturated to nothing, which requires nothing, so each transition of the empty node leads back to it with no
+-- signal (`empty-step`), and there is one, with no pick (`empty-steps`). Assumes nothing.
 use mathlib.Core.Path.{_≡_, refl, ap, subst, _∙_}
 use mathlib.Core.Bool.{Bool, true, false, cond}
 use mathlib.Core.List.{[], _∷_, List·Memᴰ, Memᴰ·map}

@@ -1,4 +1,4 @@
--- The rows of an accepted formula are what the code asks for: reading's laws of rows and of document 01's limits say so. Assumes nothing.
+-- The rows of an accepted formula are what the code asks for: reading's laws of rows and of limits say so. Assumes nothing.
 use mathlib.Core.Path.{_≡_, refl, ap}
 use mathlib.Core.Bool.{Bool, true, false, cond}
 use mathlib.Core.List.{List, [], _∷_}

@@ -1,5 +1,5 @@
--- The least set that holds a node and follows moves, by a fringe, the subformulas of the set whose moves are still to be followed. The set
--- lies inside every set that holds the node and follows the moves, and follows them itself but for the fringe (`Closing`). A turn takes a
+-- The least set around a node that no move leaves, by a fringe, the subformulas of the set whose moves are still to be followed. The set
+-- lies inside every set around the node that no move leaves, and follows the moves itself but for the fringe (`Closing`). A turn takes a
 -- subformula out of the fringe and puts in what its moves add to the set (`spread-turn`). What enters the fringe enters the set once and
 -- for all, which is why the turns end (`spread-less`). With no fringe left the set follows the moves, so it is the least (`spread-rest`);
 -- where these are the moves of one choice, it is the saturation (`saturated-rest`). Assumes nothing.

@@ -1,4 +1,4 @@
--- The nodes are what document 01 says, without search and fuel: `nodes` lists exactly the sets that transitions lead to from the root
+-- The nodes are what MEANING 3.7 says, without search and fuel: `nodes` lists exactly the sets that transitions lead to from the root
 -- (`nodes-along`, `nodes-all`), each once (`nodes-distinct`), so that K, its length, is their number (`nodes-count`); each comes with a
 -- shortest way from the root (`nodes-near`), which has fewer than K transitions (`nodes-short`); and K is at most 1 + 2^n for n next
 -- operators (`nodes-few`): every node but the root is a part of their operands. That bound is below the search's fuel, so the laws of

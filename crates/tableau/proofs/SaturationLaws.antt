@@ -1,4 +1,4 @@
--- The saturation of a node is what document 01 says, "the least set that holds the node and follows": it holds the node
+-- The saturation of a node is what MEANING 3.3 says, the smallest set around the node that no move leaves: it holds the node
 -- (`saturate-holds`), is closed under the moves of the choice (`saturate-closed`), and is inside every set that does both
 -- (`saturate-least`). A pass only adds what a move leads to, so it stays inside every closed set; passes that only add come to rest
 -- once there have been as many as subformulas; and where a pass adds nothing, every move stays in the set. Assumes nothing.

@@ -1,4 +1,4 @@
--- A set that holds every saturation of a node under a choice word between two others (`widest-rest`): the least set that holds the node and
+-- A set that holds every saturation of a node under a choice word between two others (`widest-rest`): the least set around the node that
 -- follows the moves under the lower choice and those under the upper one. The choice of a word between is between theirs
 -- (`choice-inside`), so it picks at each or as one of the two (`between-moves`), and by `saturate-least` the set holds its saturation.
 -- Assumes nothing.

@@ -89,7 +89,7 @@ fn moved(rows: &[u8; 144], choice: u64, s: Subformula, set: u64) -> u64
     set
 }
 
-// The least set that holds the node and follows its moves. The fringe has the subformulas whose moves are still to be followed. A node has
+// The least set around the node that no move leaves. The fringe has the subformulas whose moves are still to be followed. A node has
 // no bit from count on: `low` changes none, and bounds e for any word.
 fn saturated(rows: &[u8; 144], count: usize, choice: u64, node: u64) -> u64
     requires { ⌜ Formed (now rows) count ⌝ }
@@ -145,9 +145,9 @@ fn unmet_between(rows: &[u8; 144], count: usize, low: u64, high: u64, node: u64)
     bits
 }
 
-// The bits of a choice word at the ors that no saturation of the node meets: entry 2 j for the words that pick left at or j, 2 j + 1 for those
-// that pick right there. Of an or that is never met, and where there are so few words that to try them is cheaper, both entries have only
-// the bits at the ors that are never met.
+// The bits of a choice word at the ors that no saturation of the node meets: entry 2 j for the words that pick left at or j, 2 j + 1 for
+// those that pick right there. Of an or that is never met, and where there are so few words that to try them is cheaper, both entries have
+// only the bits at the ors that are never met.
 pub fn unmet(rows: &[u8; 144], count: usize, node: u64) -> [u64; 24]
     requires { ⌜ Formed (now rows) count ⌝ }
     ensures { λ r. ⌜ Unmet (now (rows .entry)) count node r ⌝ }

@@ -1,6 +1,6 @@
--- Document 01, "Where a checker goes astray": the examples there on how a cycle is judged, computed from the definitions through the
--- reading of the bytes. (That a next outside the fixpoint is no guard is among the reading's examples; that an or has one pick within a
--- transition is part of what a transition is.) Assumes nothing.
+-- The mistakes of MEANING 8 in judging a cycle, each shown by its example, computed from the definitions through the reading of the bytes.
+-- (That a next outside the fixpoint is no guard is among the reading's examples; that an or has one pick within a transition is part of
+-- what a transition is.) Assumes nothing.
 use mathlib.Core.Path.{_≡_, refl}
 use mathlib.Core.Bool.{Bool, true, false, not, _&&_}
 use mathlib.Core.List.{List, [], _∷_, map}
@@ -23,7 +23,7 @@ abbrev pub formula-of : Reading Formula → Formula
 formula-of (Reading.refused code place) = Formula.leaf (Leaf.constant false)
 formula-of (Reading.accepted f) = f
 
--- document 01's cases F, I, J and L
+-- the cases F, I, J and L of MEANING 5.9
 abbrev pub F : Formula
 unfolding parse
 F = formula-of (parse (0x0A ∷ 0x07 ∷ 0x09 ∷ 0x06 ∷ 0x03 ∷ 0x00 ∷ 0x08 ∷ 0x05 ∷ 0x00 ∷ 0x08 ∷ 0x05 ∷ 0x00 ∷ []))
@@ -44,26 +44,26 @@ L = formula-of (parse (0x09 ∷ 0x0A ∷ 0x06 ∷ 0x07 ∷ 0x03 ∷ 0x00 ∷ 0x0
 abbrev pub cycle : List ℕ → Lasso
 cycle letters = record { letters = letters; stem = 0 }
 
--- "Judging a loop after a single lap": a profile of a cycle none of whose triples goes back to where it began with a least fixpoint
+-- The first mistake, one lap: a profile of a cycle none of whose triples goes back to where it began with a least fixpoint
 abbrev pub after-one-lap : Table → Item Transition Profile → Bool
 after-one-lap t x =
     same-subset (x .at .first) (x .at .last)
     && not (any (λ (a : Triple). eqb (a .from) (a .to) && is-least (operator t (a .priority))) (x .at .carried))
 
--- "In case I two triples exchange 4 and 5; only two laps bring 4 back to itself": a single lap finds cycles to accept, and there are none.
+-- By one lap there are cycles to accept in I, where two triples lead from 4 to 5 and back; by the definition there are none.
 pub two-laps :
     map (λ (test : Table → Item Transition Profile → Bool). any (test (table I)) (profiles (table I) (nodes (table I)))) (after-one-lap ∷ accepting ∷ [])
     ≡ true ∷ false ∷ []
 unfolding parse table nodes profiles rejecting
 two-laps = refl
 
--- "Calling a loop bad because a least fixpoint is pending in it. Rule F is true on the course (0000 0001)."
+-- The second, a least fixpoint that still waits: F is true although its signal is absent at every other position.
 pub pending : meets (cycle (0x0000 ∷ 0x0001 ∷ [])) F ≡ true
 unfolding parse meets
 pending = refl
 
--- "Calling it bad because a least fixpoint was passed. In J the outer greatest one decides; L has them the other way round." Where signal 0
--- is present for ever J may pass its inner least fixpoint for ever; where it is absent J is false, as only that is left to it, and L true.
+-- The third, a least fixpoint on the way. Where signal 0 is present for ever J may pass its inner least fixpoint for ever, since the outer
+-- greatest one is passed too; where it is absent J is false, as only the inner one is left to it, and L true.
 pub outer-decides :
     map (λ (f : Formula). map (λ (letters : List ℕ). meets (cycle letters) f) ((0x0001 ∷ []) ∷ (0x0000 ∷ []) ∷ [])) (J ∷ L ∷ [])
     ≡ (true ∷ false ∷ []) ∷ (true ∷ true ∷ []) ∷ []

@@ -1,4 +1,4 @@
--- `formula::command` reads a command with all its operands as the definition does. The bytes left fall at each call. What each return
+-- `formula::command` reads an operator with all its operands as the definition does. Each call has fewer bytes left. What each return
 -- promises follows from the opcode that was found and from what the calls for the operands promise. In the answers `u` is what is known
 -- at the entry, and `one` what is known behind the call for the first operand. Assumes nothing.
 use Prim.Native.Nat.{ℕ, _-_, _<_}
