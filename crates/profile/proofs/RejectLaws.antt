@@ -4,7 +4,7 @@
 use mathlib.Core.Path.{_≡_, refl, sym, ap, subst, subst⁻¹, _∙_}
 use mathlib.Core.Bool.{Bool, _&&_}
 use mathlib.Core.List.{List, [], _∷_, map, List·Memᴰ, Memᴰ·map, Memᴰ·of-map}
-use Prim.Native.Nat.{ℕ, _+_, _*_}
+use Prim.Native.Nat.{ℕ, _*_}
 use native.Mathlib.Omega.{arith}
 use native.Mathlib.Nat.{mul-assoc}
 use lib.Dec.{T, eqb, eqb→eq, eqb-refl}
@@ -16,7 +16,7 @@ use Rattle.base.proofs.SearchLaws.{Visits, Found, search-found, search-few}
 use Rattle.base.proofs.SearchOrder.{Reach, search-all}
 use Rattle.formula.specs.Table.{Table, operator}
 use Rattle.profile.specs.Traces.{Triple, same-triple, meet, joined}
-use Rattle.profile.specs.Profiles.{lap-edges, laps, is-least, rejecting}
+use Rattle.profile.specs.Profiles.{lap-edges, lap-room, laps, is-least, rejecting}
 use Rattle.profile.specs.Cycle.{Lap, Lap.once, Lap.again, Rejecting}
 use Rattle.profile.proofs.TripleLaws.{triple-sound, triple-refl, cube, Parts, cube-in, cube-length, min-in, meet-of, meet-in}
 
@@ -72,16 +72,14 @@ module _ (xs : List Triple) where
 
   -- The search finds exactly the laps.
   pub laps-lap : (x : Item Triple Triple) → List·Memᴰ x (laps xs) → Lap xs (x .at)
-  laps-lap x m =
-      found-lap x (search-found same-triple (lap-edges xs) (1 + length xs * length xs * length xs) (map begun xs) m)
+  laps-lap x m = found-lap x (search-found same-triple (lap-edges xs) (lap-room xs) (map begun xs) m)
 
   pub laps-all : (a : Triple) → Lap xs a → Visits a (laps xs)
   laps-all a l =
-      let room = 1 + length xs * length xs * length xs in
       let few =
-      search-few same-triple (lap-edges xs) triple-refl room (map begun xs) (cube froms priorities tos)
+      search-few same-triple (lap-edges xs) triple-refl (lap-room xs) (map begun xs) (cube froms priorities tos)
       (λ x f. cube-in froms priorities tos (x .at) (lap-parts (x .at) (found-lap x f))) in
-      search-all same-triple (lap-edges xs) triple-sound room (map begun xs) (omega (arith, few, cube-size)) (lap-reach a l)
+      search-all same-triple (lap-edges xs) triple-sound (lap-room xs) (map begun xs) (omega (arith, few, cube-size)) (lap-reach a l)
 
 module _ (t : Table) (xs : List Triple) where
   abbrev bad : Triple → Bool

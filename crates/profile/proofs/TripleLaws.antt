@@ -126,6 +126,10 @@ set-of-in t xs a f m =
     keep-in (λ x. any (same-triple x) xs) (cube-in (operands t) (priorities-from 0 t) (operands t) a f)
     (any-in (same-triple a) m (triple-refl a))
 
+-- MEANING 4.2: the priority of two traces joined is above neither of theirs.
+pub joined-lower : (a b : Triple) → (joined a b .priority ≤ a .priority) × (joined a b .priority ≤ b .priority)
+joined-lower a b = (omega arith, omega arith)
+
 pub meet-of : (a b c : Triple) → List·Memᴰ c (meet a b) → (a .to ≡ b .from) × (c ≡ joined a b)
 meet-of a b c m =
     let (h, r) = cond-of (eqb (a .to) (b .from)) (joined a b ∷ []) m in

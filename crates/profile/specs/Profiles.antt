@@ -61,10 +61,14 @@ profiles t ns =
 abbrev pub lap-edges : List Triple → Triple → List (Edge Triple Triple)
 lap-edges xs a = gather (λ (b : Triple). map (λ (c : Triple). record { label = b; to = c }) (meet a b)) xs
 
+-- more than there can be triples made of parts of these
+abbrev pub lap-room : List Triple → ℕ
+lap-room xs = 1 + length xs * length xs * length xs
+
 -- what joining the triples of a set gives, none joined included: the traces of any number of laps of a cycle
 abbrev pub laps : List Triple → List (Item Triple Triple)
 laps xs =
-    search-from same-triple (lap-edges xs) (1 + length xs * length xs * length xs)
+    search-from same-triple (lap-edges xs) (lap-room xs)
     (map (λ (a : Triple). record { way = a ∷ []; at = a }) xs)
 
 -- whether an operator is a least fixpoint
