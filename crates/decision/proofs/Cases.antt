@@ -1,5 +1,5 @@
--- The starred cases of MEANING 5.9, and J, L and the examples of capacities, as statements that the definitions compute through the reading
--- of the bytes. Assumes nothing.
+-- The starred cases of MEANING 5.9, those without a star, and the examples of capacities, as statements that the definitions compute
+-- through the reading of the bytes. Assumes nothing.
 use mathlib.Core.Path.{_≡_, refl}
 use mathlib.Core.List.{List, [], _∷_, map}
 use Prim.Native.Nat.{ℕ}
@@ -29,15 +29,18 @@ pub starred-cases : map (λ (c : Case). verdict 256 300 59648 556 (c .bytes)) st
 unfolding verdict
 starred-cases = refl
 
--- J and L: the outer fixpoint decides, which is the greatest one in J and the least one in L
-pub nested :
-    map (verdict 256 300 59648 556)
-    ((0x0A ∷ 0x09 ∷ 0x06 ∷ 0x07 ∷ 0x03 ∷ 0x00 ∷ 0x08 ∷ 0x05 ∷ 0x01 ∷ 0x08 ∷ 0x05 ∷ 0x00 ∷ [])
-    ∷ (0x09 ∷ 0x0A ∷ 0x06 ∷ 0x07 ∷ 0x03 ∷ 0x00 ∷ 0x08 ∷ 0x05 ∷ 0x01 ∷ 0x08 ∷ 0x05 ∷ 0x00 ∷ [])
-    ∷ [])
-    ≡ Verdict.satisfiable 1 1 3 6 (1 ∷ 1 ∷ []) ∷ Verdict.satisfiable 1 1 3 6 (0 ∷ 0 ∷ []) ∷ []
+-- J and L, where the outer fixpoint decides, which is the greatest one in J and the least one in L; then a formula in whose shortest
+-- accepting cycle a least fixpoint still waits (MEANING 8): always, two positions on, signal 0.
+abbrev pub unstarred : List Case
+unstarred =
+    is (0x0A ∷ 0x09 ∷ 0x06 ∷ 0x07 ∷ 0x03 ∷ 0x00 ∷ 0x08 ∷ 0x05 ∷ 0x01 ∷ 0x08 ∷ 0x05 ∷ 0x00 ∷ []) (Verdict.satisfiable 1 1 3 6 (1 ∷ 1 ∷ []))
+    ∷ is (0x09 ∷ 0x0A ∷ 0x06 ∷ 0x07 ∷ 0x03 ∷ 0x00 ∷ 0x08 ∷ 0x05 ∷ 0x01 ∷ 0x08 ∷ 0x05 ∷ 0x00 ∷ []) (Verdict.satisfiable 1 1 3 6 (0 ∷ 0 ∷ []))
+    ∷ is (0x0A ∷ 0x07 ∷ 0x08 ∷ 0x09 ∷ 0x08 ∷ 0x03 ∷ 0x00 ∷ 0x08 ∷ 0x05 ∷ 0x00 ∷ []) (Verdict.satisfiable 2 1 3 4 (0 ∷ 0 ∷ 1 ∷ []))
+    ∷ []
+
+pub unstarred-cases : map (λ (c : Case). verdict 256 300 59648 556 (c .bytes)) unstarred ≡ map (λ (c : Case). c .outcome) unstarred
 unfolding verdict
-nested = refl
+unstarred-cases = refl
 
 abbrev F : List ℕ
 F = 0x0A ∷ 0x07 ∷ 0x09 ∷ 0x06 ∷ 0x03 ∷ 0x00 ∷ 0x08 ∷ 0x05 ∷ 0x00 ∷ 0x08 ∷ 0x05 ∷ 0x00 ∷ []
