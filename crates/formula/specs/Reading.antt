@@ -73,11 +73,11 @@ abbrev pub answered : Bool → ℕ → Reader (Unit {0})
 answered true code h = Read.got tt h
 answered false code h = Read.refused code (h .at - 1)
 
--- A question that what reading has come to answers.
+-- A question whose answer depends on what reading has come to.
 abbrev pub ask : (Head → Bool) → ℕ → Reader (Unit {0})
 ask q code h = answered (q h) code h
 
--- Question 2.
+-- Question 2: whether it is an opcode.
 abbrev pub known : Opcode → Bool
 known Opcode.unknown = false
 known (Opcode.constant b) = true
@@ -87,7 +87,7 @@ known (Opcode.pair o) = true
 known Opcode.next = true
 known (Opcode.fix g) = true
 
--- Question 4.
+-- Question 4: whether there is room for one more such operator.
 abbrev pub within : Opcode → Head → Bool
 within Opcode.unknown h = true
 within (Opcode.constant b) h = true
@@ -166,7 +166,7 @@ pub data Reading (A : Type 0) : Type 0 where
   refused : (code place : ℕ) → Reading A
   accepted : A → Reading A
 
--- Question 9.
+-- Question 9: all bytes are used, or the refusal at the first that is not.
 abbrev pub ended : Formula → Head → List ℕ → Reading Formula
 ended f h [] = Reading.accepted f
 ended f h (b ∷ bs) = Reading.refused 9 (h .at)

@@ -17,12 +17,12 @@ pub record Lasso : Type 0 where
 abbrev pub Positions : Type 0
 Positions = List Bool
 
--- Whether a constant or a signal is true where the letter is.
+-- Whether a constant or a signal is true at a position with this letter.
 abbrev pub leaf-at : Leaf → ℕ → Bool
 leaf-at (Leaf.constant b) letter = b
 leaf-at (Leaf.signal present j) letter = cond present (bit letter j) (not (bit letter j))
 
--- One position of an or, or of an and.
+-- Whether an or, or an and, is true where its operands are as told.
 abbrev pub joined : (either : Bool) → Bool → Bool → Bool
 joined true a b = a || b
 joined false a b = a && b

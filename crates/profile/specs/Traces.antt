@@ -27,7 +27,7 @@ pub record Stand : Type 0 where
   pub subformula : ℕ
   pub priority : ℕ
 
--- whether they are equal
+-- whether two such places are equal
 abbrev pub same-stand : Stand → Stand → Bool
 same-stand a b = eqb (a .subformula) (b .subformula) && eqb (a .priority) (b .priority)
 

@@ -18,7 +18,7 @@ abbrev pub edges : Table → Subset → List (Edge Transition Subset)
 unfolding transitions
 edges t v = map (λ (s : Transition). record { label = s; to = s .to }) (transitions t v)
 
--- the operands of next by rising number: no other subformula is in a node but the root
+-- the operands of next by rising number: a node other than the root has no other subformulas
 abbrev pub operands : Table → List ℕ
 operands t = gather next-of t
 
