@@ -38,13 +38,13 @@ uint64_t yuktrob_read(const uint8_t *rule, size_t rule_len);
  * operand for or and and, else 0. A first operand is the entry after its command. */
 uint64_t yuktrob_entry(const uint8_t *rule, size_t rule_len, size_t e);
 
-/* Truth of a rule on a course, whose places after the lead-in repeat for ever. Told, word i has bit e exactly if entry e is true at place i,
- * and words past the course are unchanged; refused, no word is written. */
+/* Is a rule true on a course, whose loop is what stands behind the lead-in? Told, word i has the bits of the entries that are true at place
+ * i, and later words keep what they had; refused, no word is written. */
 uint64_t yuktrob_truth(const uint8_t *rule, size_t rule_len, const uint16_t *places, size_t places_len, size_t lead_len, uint64_t *words,
                        size_t words_len);
 
-/* Whether any course meets a rule, with room for so many nodes and profiles. After MET the course stands in the buffer's first places; the
- * rest of it, and all of it after any other answer, is unchanged. After MET, NOT, 14 and 15 the first YUKTROB_WORK_LEN(nodes, profiles) bytes
+/* Whether any course meets a rule, with room for so many nodes and profiles. After MET the buffer begins with the course; the rest of
+ * it, and all of it after any other answer, is unchanged. After MET, NOT, 14 and 15 the first YUKTROB_WORK_LEN(nodes, profiles) bytes
  * of the work area are zero; otherwise the work area is unchanged. */
 uint64_t yuktrob_decide(const uint8_t *rule, size_t rule_len, size_t nodes, size_t profiles, uint8_t *work, size_t work_len,
                         uint16_t *course, size_t course_len);
