@@ -17,13 +17,13 @@ abbrev test : List ℕ → Shelf → ℕ → ℕ → Bool
 test area shelf mask i = accepts (bit mask) (shelf .n) (record-of shelf area i)
 
 abbrev Inv-loop : tie.InvT-loop
-Inv-loop area shelf count mask p₀ p = (p ≤ count) × ((i : ℕ) → i < p → test area shelf mask i ≡ false)
+Inv-loop area shelf count mask p₀ p = ((i : ℕ) → i < p → test area shelf mask i ≡ false) × (p ≤ count)
 
 abbrev μ-loop : tie.MeasureT-loop
 μ-loop area shelf count mask p₀ p = count - p
 
 loop-holds : tie.Need-loop-holds Inv-loop μ-loop
-loop-holds c = let u = c .before in (omega arith, first-start (test (u .args .area .now) (u .args .shelf) (u .args .mask)))
+loop-holds c = let u = c .before in (first-start (test (u .args .area .now) (u .args .shelf) (u .args .mask)), omega arith)
 
 is-accepting-requires : tie.Need-is-accepting-requires Inv-loop μ-loop
 is-accepting-requires c κs = (c .before .before .before .pre .0, omega (arith, c .before .before .before .pre .1))
@@ -32,7 +32,7 @@ returns : tie.Need-returns Inv-loop μ-loop
 returns c =
     let u = c .before .before .before .before .before in
     let l = c .before .before .before .loop in
-    first-found (test (u .args .area .now) (u .args .shelf) (u .args .mask)) (u .args .count) (l .p) (omega arith) (l .inv .1) (sym (c .before .is-accepting .ensures) ∙ c .if1 .taken)
+    first-found (test (u .args .area .now) (u .args .shelf) (u .args .mask)) (u .args .count) (l .p) (omega arith) (l .inv .0) (sym (c .before .is-accepting .ensures) ∙ c .if1 .taken)
 
 add-p : tie.Need-add-p Inv-loop μ-loop
 add-p c = search needs
@@ -44,13 +44,13 @@ loop-again : tie.Need-loop-again Inv-loop μ-loop
 loop-again c =
     let u = c .before .before .before .before .before in
     let l = c .before .before .before .loop in
-    (omega arith, first-next (test (u .args .area .now) (u .args .shelf) (u .args .mask)) (l .p) (l .inv .1) (sym (c .before .is-accepting .ensures) ∙ c .if1 .left))
+    (first-next (test (u .args .area .now) (u .args .shelf) (u .args .mask)) (l .p) (l .inv .0) (sym (c .before .is-accepting .ensures) ∙ c .if1 .left), omega arith)
 
 returns-2 : tie.Need-returns-2 Inv-loop μ-loop
 returns-2 c =
     let u = c .before .before .before in
     let l = c .before .loop in
-    first-none (test (u .args .area .now) (u .args .shelf) (u .args .mask)) (u .args .count) (l .p) (l .inv .0) (omega arith) (l .inv .1)
+    first-none (test (u .args .area .now) (u .args .shelf) (u .args .mask)) (u .args .count) (l .p) (l .inv .1) (omega arith) (l .inv .0)
 
 pub accepting-spec : {M : Type 1} → statement M
 accepting-spec =
