@@ -1,5 +1,5 @@
--- Rows that hold the table of an accepted formula are well formed: what code that walks them may count on, by the opcode's byte. Through the
--- decoding the rows' operators and ends are the formula's, so they have its shape (WellFormed). A byte that is no opcode decodes to
+-- Rows that hold the table of an accepted formula are well formed: what code that walks them may count on, by the opcode's byte. Through
+-- the decoding the rows' operators and ends are the formula's, so they have its shape (WellFormed). A byte that is no opcode decodes to
 -- what has not that shape, so every opcode is 1 to 10. Assumes nothing.
 use mathlib.Core.Path.{_≡_, refl, sym, ap, _∙_}
 use mathlib.Core.Bool.{Bool}

@@ -4,3 +4,4 @@ pub mod RejectLaws
 pub mod ProfileLaws
 pub mod CycleLaws
 pub mod RootLaws
+pub mod Examples

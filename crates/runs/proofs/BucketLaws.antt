@@ -1,7 +1,7 @@
--- Records found by their hash. A profile's bucket is the fold that the code goes through (`fold-more`, `bucket-is`). What stands as the head
--- of a bucket is taken if it leads to a record of this bucket, and otherwise there is no such record (`head-is`, `head-none`). The same
--- profile has the same bucket, so whoever goes from the head by the links passes every record that could be the profile (`Passed`). The
--- chains stay while a record's own bytes change (`chained-kept`), and three stores into spare bytes add one record (`linked-records`,
+-- Records found by their hash. A profile's bucket is the fold that the code goes through (`fold-more`, `bucket-is`). What stands as the
+-- head of a bucket is taken if it leads to a record of this bucket, and otherwise there is no such record (`head-is`, `head-none`). The
+-- same profile has the same bucket, so whoever goes from the head by the links passes every record that could be the profile (`Passed`).
+-- The chains stay while a record's own bytes change (`chained-kept`), and three stores into spare bytes add one record (`linked-records`,
 -- `chained-more`). Assumes nothing.
 use mathlib.Core.Path.{_≡_, sym, ap, subst, subst₂, _∙_}
 use mathlib.Core.Bool.{false}

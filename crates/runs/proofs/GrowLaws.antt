@@ -1,8 +1,8 @@
 -- The records of a shelf as a list: it grows at its end, stays while its records do, and a profile is known if its list has it
 -- (`seen-never`, `seen-found`). What one profile more makes of it (`grown-known`, `grown-new`, `grown-full`), and what several make, one
--- after the other (`grown-on`, `grown-then`). Once there is no room, whatever is still to come changes nothing (`grown-longer`), so a loop may stop
--- there; every loop that adds the lists of rising numbers goes by `turn-more` and `turn-stop`, and may leave out empty ones (`turn-past`).
--- Assumes nothing.
+-- after the other (`grown-on`, `grown-then`). Once there is no room, whatever is still to come changes nothing (`grown-longer`), so a loop
+-- may stop there; every loop that adds the lists of rising numbers goes by `turn-more` and `turn-stop`, and may leave out empty ones
+-- (`turn-past`). Assumes nothing.
 use mathlib.Core.Path.{_≡_, refl, sym, ap, subst, _∙_}
 use mathlib.Core.Bool.{Bool, true, false, cond, _||_}
 use mathlib.Core.List.{List, [], _∷_, _++_, map, append-nil}

@@ -1,5 +1,6 @@
--- What one turn adds: a profile followed by one of one transition (`longer-none`, `longer-one`), followed by each of them
--- that begins where it ends (`extend-start`, `extend-more`, `extend-done`), and the breadth-first search as a loop over the records (`Pending`). Assumes nothing.
+-- What one turn adds: a profile followed by one of one transition (`longer-none`, `longer-one`), followed by each of them that begins where
+-- it ends (`extend-start`, `extend-more`, `extend-done`), and the breadth-first search as a loop over the records (`Pending`). Assumes
+-- nothing.
 use mathlib.Core.Path.{_≡_, sym, ap, subst, _∙_}
 use mathlib.Core.Bool.{Bool, cond}
 use mathlib.Core.List.{List, [], _∷_}

@@ -1,6 +1,6 @@
 -- Words in a byte area: what is put is what is read (`eight-stored`, `words-stored`), one word more (`put-store`), the search for a word
--- (`find-here`, `find-past`, `find-none`, `found-member`), and adding a word that may be known (`add-known`, `add-new`, `add-full`). A number below 2^64 is the
--- sum of its eight bytes; past eight bytes, the rest of an area is an area. Assumes nothing.
+-- (`find-here`, `find-past`, `find-none`, `found-member`), and adding a word that may be known (`add-known`, `add-new`, `add-full`). A
+-- number below 2^64 is the sum of its eight bytes; past eight bytes, the rest of an area is an area. Assumes nothing.
 use mathlib.Core.Path.{_≡_, refl, sym, ap, _∙_}
 use mathlib.Core.Bool.{Bool, true, false, cond, _||_}
 use mathlib.Core.List.{List, [], _∷_, _++_, append-assoc, List·Memᴰ, List·Memᴰ·head, List·Memᴰ·tail}

@@ -1,5 +1,5 @@
--- What a caller reads of the nodes in the area, once all of them have found room: the words at the area's beginning are the nodes' words
--- in order (`nodes-kept`), so node i is read as its word (`kept-at`), as long as only later bytes are changed (`kept-same`). Assumes nothing.
+-- What a caller reads of the nodes in the area, once all of them have found room: the words at the area's beginning are the nodes' words in
+-- order (`nodes-kept`), so node i is read as its word (`kept-at`), as long as only later bytes are changed (`kept-same`). Assumes nothing.
 use mathlib.Core.Path.{_≡_, refl, sym, ap, _∙_}
 use mathlib.Core.List.{List, [], map, Memᴰ·of-map}
 use Prim.Native.Nat.{ℕ, zero, suc, _+_, _*_, _≤_, _<_}

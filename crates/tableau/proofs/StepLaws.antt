@@ -1,6 +1,7 @@
--- The answer of `transition` is the definition's: what is required of a saturated set, as words, passes the code's three tests exactly
--- if the transition exists (`test-is`), and then has its letter and its node (`letter-is`, `to-is`). The same by a choice word
--- (`stepped-none`, `stepped-choice`). Back from an answer: what it says of the definition's transition (`step-nowhere`, `a-step`). Assumes nothing.
+-- The answer of `transition` is the definition's: what is required of a saturated set, as words, passes the code's three tests exactly if
+-- the transition exists (`test-is`), and then has its letter and its node (`letter-is`, `to-is`). The same by a choice word
+-- (`stepped-none`, `stepped-choice`). Back from an answer: what it says of the definition's transition (`step-nowhere`, `a-step`). Assumes
+-- nothing.
 use mathlib.Core.Path.{_≡_, refl, sym, ap, subst⁻¹, _∙_}
 use mathlib.Core.Logic.{inl, inr}
 use mathlib.Core.Bool.{Bool, true, false, cond, not, _&&_}

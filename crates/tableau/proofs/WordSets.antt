@@ -1,5 +1,6 @@
 -- Sets of subformulas as words: to add members is to put bits in (`word-add`), and the tests of the definitions are tests of words
--- (`within-word`, `clash-word`, `same-word`). Each is shown bit by bit, for bit k of a set's word is whether k is in the set. Assumes nothing.
+-- (`within-word`, `clash-word`, `same-word`). Each is shown bit by bit, for bit k of a set's word is whether k is in the set. Assumes
+-- nothing.
 use mathlib.Core.Path.{_≡_, refl, sym, ap, subst, _∙_}
 use mathlib.Core.Bool.{Bool, true, false, cond, not, _||_, _&&_, or-true, or-false}
 use mathlib.Core.List.{List, [], _∷_, _++_, map, List·Memᴰ, List·Memᴰ·head, List·Memᴰ·tail, List·Memᴰ·not-nil, List·Memᴰ·cases-cons}

@@ -1,8 +1,8 @@
--- The argument behind completeness. Where a part is true there is a strategy: a region of subformulas at positions, won, and a choice
--- at each, such that every move from the region stays in it or comes to an outer set that is true there, and no least fixpoint comes
--- back to itself by moves that pass no smaller number. By recursion on the part: the operands' strategies are merged, at each subformula
--- and position the first that has won there; for a least fixpoint those of its rounds, whose number falls each time the fixpoint is passed; for a
--- greatest one that of its settled set serves. Assumes nothing.
+-- The argument behind completeness. Where a part is true there is a strategy: a region of subformulas at positions, won, and a choice at
+-- each, such that every move from the region stays in it or comes to an outer set that is true there, and no least fixpoint comes back to
+-- itself by moves that pass no smaller number. By recursion on the part: the operands' strategies are merged, at each subformula and
+-- position the first that has won there; for a least fixpoint those of its rounds, whose number falls each time the fixpoint is passed; for
+-- a greatest one that of its settled set serves. Assumes nothing.
 use mathlib.Core.Path.{_≡_, refl, ap, _∙_, subst, subst⁻¹}
 use mathlib.Core.Bool.{Bool, true, false, not, cond, false≢true}
 use mathlib.Core.Logic.{_⊎_, inl, inr, ⊎-elim}

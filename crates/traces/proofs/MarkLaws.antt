@@ -1,5 +1,5 @@
--- Marks in bytes: what is put into one byte, what one operator passes on by its opcode, and that it is nothing where there are no marks; what
--- a sweep over the rows makes of them; and sweeping until nothing changes, which is what the definition reaches by a fixed number of
+-- Marks in bytes: what is put into one byte, what one operator passes on by its opcode, and that it is nothing where there are no marks;
+-- what a sweep over the rows makes of them; and sweeping until nothing changes, which is what the definition reaches by a fixed number of
 -- rounds. Assumes nothing.
 use mathlib.Core.Path.{_≡_, refl, sym, ap, subst, _∙_}
 use mathlib.Core.Bool.{Bool, true, false, cond, _||_, or-false}

@@ -1,5 +1,5 @@
--- `decision::write_stem` writes a stem to the node that its last transition comes from, and then that transition's letter. The node's number
--- falls at each call.
+-- `decision::write_stem` writes a stem to the node that its last transition comes from, and then that transition's letter. The node's
+-- number falls at each call.
 use native.Mathlib.Omega.{arith}
 use borrow.Author.Needs.{needs}
 use Rattle.tableau.specs.Promise.{table-of}

@@ -1,5 +1,5 @@
--- `decision::profiles_of` goes on from the profiles of one transition, if there is room for them; where there is none, there is none for all.
--- These are chained and stand by rising first node, as the search that goes on from them asks.
+-- `decision::profiles_of` goes on from the profiles of one transition, if there is room for them; where there is none, there is none for
+-- all. These are chained and stand by rising first node, as the search that goes on from them asks.
 use mathlib.Core.Path.{subst⁻¹, _∙_}
 use native.Mathlib.Omega.{arith}
 use borrow.Author.Needs.{needs}

@@ -1,5 +1,5 @@
--- `decision::searched` builds the nodes and, if there is room for them, the profiles behind them. Where there is room for these too, they are
--- all that the answer is made from.
+-- `decision::searched` builds the nodes and, if there is room for them, the profiles behind them. Where there is room for these too, they
+-- are all that the answer is made from.
 use Prim.Native.Nat.{_*_}
 use mathlib.Core.Path.{refl}
 use lib.ListN.{length}

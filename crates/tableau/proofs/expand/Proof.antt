@@ -1,4 +1,5 @@
--- `tableau::expand` adds what the transitions of a node lead to: after each turn, those of one choice word more. Past the capacity it may stop.
+-- `tableau::expand` adds what the transitions of a node lead to: after each turn, those of one choice word more. Past the capacity it may
+-- stop.
 use mathlib.Core.Logic.{inl, inr}
 use lib.ListN.{length}
 use Rattle.tableau.specs.Area.{Marked}

@@ -1,4 +1,5 @@
--- `traces::with_row` fills the row of subformula s where it is a next whose operand is in the node; else the row stays empty or there is none.
+-- `traces::with_row` fills the row of subformula s where it is a next whose operand is in the node; else the row stays empty or there is
+-- none.
 use mathlib.Core.Path.{sym, _∙_}
 use native.Mathlib.Omega.{arith}
 use borrow.Author.Needs.{needs}
