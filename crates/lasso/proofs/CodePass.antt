@@ -93,6 +93,16 @@ module _ (rows : List ℕ) (c : Lasso) (list : List ℕ) (count : ℕ) (g : Bool
     within = λ hi ss keep h. h;
   }
 
+  pub passed-then : (v x : List ℕ) → Passed rows c list count g w v → Passed rows c list count g v x → Passed rows c list count g w x
+  passed-then v x p q = record {
+    long = q .long ∙ p .long;
+    rest = λ i h. q .rest i h ∙ p .rest i h;
+    kept = λ i k h. q .kept i k h ∙ p .kept i k h;
+    onward = λ i k.
+        moves-trans g (bit (getD w i 0) k) (bit (getD v i 0) k) (bit (getD x i 0) k) (p .onward i k) (q .onward i k);
+    within = λ hi ss keep h. q .within hi ss keep (p .within hi ss keep h);
+  }
+
   pub passed-more : (v : List ℕ) (i j x : ℕ) → c .stem < n → n ≤ length w → Passed rows c list count g w v → i < n → j ≡ after n (c .stem) i
       → Turned rows list count (getD (c .letters) i 0) (getD v j 0) g (getD v i 0) x → Passed rows c list count g w (set v i x)
   passed-more v i j x cycle long p l at t =

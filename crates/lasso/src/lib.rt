@@ -332,7 +332,40 @@ fn turned(
 
 // Moves the listed columns on, from the last position to the first, wherever their operators say so of the words as they stand. A round
 // would move a position only by its successor's word before the round; this carries a change along the whole stem and round the cycle.
+// Unless `all` is asked for, it stops at a position that stays. True if the first position of the cycle may have changed.
 fn pass(
+    rows: &[u8; 144],
+    letters: &[u16],
+    stem: usize,
+    words: &mut [u64],
+    list: &[u8; 48],
+    count: usize,
+    greatest: bool,
+    all: bool,
+) -> bool
+    requires { ⌜ Few (now list) count ⌝ }
+    requires { ⌜ Room (length (now letters)) stem (length (now words)) ⌝ }
+    ensures { λ _. ⌜ Passed (now (rows .entry)) (lasso (now (letters .entry)) stem) (now (list .entry)) count greatest
+        (now (words .entry)) (now (words .exit)) ⌝ }
+{
+    let mut i = letters.len();
+    while 0 < i {
+        i -= 1;
+        let next = successor(Position(i), letters.len(), stem);
+        let j = next.0;
+        let here = words[i];
+        let word = turned(rows, list, count, letters[i], here, words[j], greatest);
+        if all | (word != here) {
+            words[i] = word;
+        } else {
+            return i < stem;
+        }
+    }
+    true
+}
+
+// A pass, and more of them while the first position of the cycle changes: each bit of it can, once.
+fn passes(
     rows: &[u8; 144],
     letters: &[u16],
     stem: usize,
@@ -346,17 +379,18 @@ fn pass(
     ensures { λ _. ⌜ Passed (now (rows .entry)) (lasso (now (letters .entry)) stem) (now (list .entry)) count greatest
         (now (words .entry)) (now (words .exit)) ⌝ }
 {
-    let mut i = letters.len();
-    while 0 < i {
-        i -= 1;
-        let next = successor(Position(i), letters.len(), stem);
-        let j = next.0;
-        let there = words[j];
-        words[i] = turned(rows, list, count, letters[i], words[i], there, greatest);
+    pass(rows, letters, stem, words, list, count, greatest, true);
+    let mut left = 48usize;
+    while 0 < left {
+        if pass(rows, letters, stem, words, list, count, greatest, false) {
+            left -= 1;
+        } else {
+            return;
+        }
     }
 }
 
-// Makes the columns that the rounds of the fixpoint s move the set from which they start, and takes the first pass.
+// Makes the columns that the rounds of the fixpoint s move the set from which they start, and takes the first passes.
 fn begin(
     rows: &[u8; 144],
     keys: &[usize; 48],
@@ -375,7 +409,7 @@ fn begin(
     let moving = listed(keys, mask);
     let list = moving.list;
     fill(words, letters.len(), mask, greatest);
-    pass(rows, letters, stem, words, &list, moving.count, greatest);
+    passes(rows, letters, stem, words, &list, moving.count, greatest);
     moving
 }
 
@@ -495,7 +529,7 @@ fn rounds(
     false
 }
 
-// One round of the fixpoint s, and a pass if it changed the set.
+// One round of the fixpoint s, and passes if it changed the set.
 fn round(
     rows: &[u8; 144],
     keys: &[usize; 48],
@@ -517,7 +551,7 @@ fn round(
     label(rows, keys, letters, stem, words, Subformula(e + 1));
     if sweep(letters, stem, words, s, rows[e], rows[48 + e]) {
         let list = moving.list;
-        pass(rows, letters, stem, words, &list, moving.count, greatest);
+        passes(rows, letters, stem, words, &list, moving.count, greatest);
         return true;
     }
     false

@@ -34,7 +34,7 @@ use Rattle.base.proofs.wide.Reads as wide-reads
 use Rattle.lasso.proofs.begin.Reads as begin-reads
 use Rattle.lasso.proofs.classify.Reads as classify-reads
 use Rattle.lasso.proofs.closed.Reads as closed-reads
-use Rattle.lasso.proofs.pass.Reads as pass-reads
+use Rattle.lasso.proofs.passes.Reads as passes-reads
 use Rattle.lasso.proofs.sweep.Reads as sweep-reads
 use Rattle.lasso.proofs.+label+label_fixpoint+label_open+round+rounds.{statement}
 use Rattle.lasso.proofs.+label+label_fixpoint+label_open+round+rounds.Tie.{close}
@@ -116,8 +116,8 @@ round-calls t = (
   label.Post,
   sweep-reads.Asked,
   sweep-reads.Learnt,
-  pass-reads.Asked,
-  pass-reads.Learnt,
+  passes-reads.Asked,
+  passes-reads.Learnt,
 )
 
 abbrev label-open-calls : ℕ → label-open-lts.Claims
@@ -393,8 +393,8 @@ round-sweep-requires t c κs =
     let start = c .before .before .before .before .before .before .before .before .before in
     (same-room _ _ _ _ (start .pre .1 .1 .0) (omega (arith, start .pre .1 .1 .0 .words)), few _ _ (start .pre .1 .0))
 
-round-pass-requires : (t : ℕ) → round-lts.Need-pass-requires (round-calls t) (round-at t) round.Post
-round-pass-requires t c κs =
+round-passes-requires : (t : ℕ) → round-lts.Need-passes-requires (round-calls t) (round-at t) round.Post
+round-passes-requires t c κs =
     let start = c .before .before .before .before .before .before .before .before .before .before .before .before .before .before
     .before .before in (
       movable-few _ _ _ _ (held-end _ _ (start .pre .1 .0)) (start .pre .1 .1 .1 .1),
@@ -412,9 +412,9 @@ round-returns t c =
     let label = c .before .before .before .before .before .before .before .before .before .before .before .before .before .before
     .before .label in
     let sweep = c .before .before .before .before .before .before .before .before .before .sweep in
-    let pass = c .before .before .pass in
+    let passes = c .before .before .passes in
     rounded-more _ _ _ _ (start .pre .1 .0) (start .pre .1 .1 .1 .0) _ _ (start .pre .1 .1 .0) (label .ensures) _
-    (sweep .ensures .0) _ _ _ (start .pre .1 .1 .1 .1) (pass .ensures)
+    (sweep .ensures .0) _ _ _ (start .pre .1 .1 .1 .1) (passes .ensures)
 
 round-same-length-2 : (t : ℕ) → round-lts.Need-same-length-2 (round-calls t) (round-at t) round.Post
 round-same-length-2 t c = search needs
@@ -554,8 +554,8 @@ pub +label+label-fixpoint+label-open+round+rounds-spec : {M : Type 1} → statem
       label.Post,
       sweep-reads.Asked,
       sweep-reads.Learnt,
-      pass-reads.Asked,
-      pass-reads.Learnt,
+      passes-reads.Asked,
+      passes-reads.Learnt,
     )
     (round-at t)
     round.Post
@@ -565,7 +565,7 @@ pub +label+label-fixpoint+label-open+round+rounds-spec : {M : Type 1} → statem
     (round-add-sweep-2 t)
     (round-element-copy-out-sweep-2 t)
     (round-sweep-requires t)
-    (round-pass-requires t)
+    (round-passes-requires t)
     (round-same-length t)
     (round-returns t)
     (round-same-length-2 t)

@@ -18,8 +18,8 @@ listed-requires c κs = search needs
 fill-requires : tie.Need-fill-requires
 fill-requires c κs = search needs
 
-pass-requires : tie.Need-pass-requires
-pass-requires c κs =
+passes-requires : tie.Need-passes-requires
+passes-requires c κs =
     let start = c .before .before .before .before .before .before .before .before .before .before .before in
     let open-in = c .before .before .before .before .before .before .before .before .open-in in
     let listed = c .before .before .before .before .before .before .before .listed in
@@ -38,10 +38,10 @@ returns c =
     let open-in = c .before .before .before .before .before .before .before .before .before .before .before .open-in in
     let listed = c .before .before .before .before .before .before .before .before .before .before .listed in
     let fill = c .before .before .before .before .before .before .before .fill in
-    let pass = c .before .before .pass in
-    begun _ _ _ _ _ _ _ _ _ _ (start .pre .1) (start .pre .0) (open-in .ensures) (listed .ensures) (fill .ensures) (pass .ensures)
+    let passes = c .before .before .passes in
+    begun _ _ _ _ _ _ _ _ _ _ (start .pre .1) (start .pre .0) (open-in .ensures) (listed .ensures) (fill .ensures) (passes .ensures)
 
 pub begin-spec : {M : Type 1} → statement M
 begin-spec =
     tie.close
-    (tie.spec open-in-requires listed-requires fill-requires pass-requires same-length returns)
+    (tie.spec open-in-requires listed-requires fill-requires passes-requires same-length returns)

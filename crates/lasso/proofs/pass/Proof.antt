@@ -1,4 +1,5 @@
--- `lasso::pass`: each position keeps the promise, so the loop's invariant is the promise of the words so far. Assumes nothing.
+-- `lasso::pass`: each position keeps the promise, so the loop's invariant is the promise of the words so far, and it may stop anywhere.
+-- Assumes nothing.
 use borrow.Author.Needs.{needs}
 use native.Mathlib.Omega.{arith}
 use Prim.Native.Nat.{_-_, _≤_}
@@ -10,11 +11,11 @@ use Rattle.lasso.proofs.pass.Statement.{statement}
 use Rattle.lasso.proofs.pass.Tie as tie
 
 abbrev Inv-loop : tie.InvT-loop
-Inv-loop rows letters stem words₀ list count greatest i₀ words i =
+Inv-loop rows letters stem words₀ list count greatest all i₀ words i =
     (i ≤ length letters) × Passed rows (lasso letters stem) list count greatest words₀ words
 
 abbrev μ-loop : tie.MeasureT-loop
-μ-loop rows letters stem words₀ list count greatest i₀ words i = i
+μ-loop rows letters stem words₀ list count greatest all i₀ words i = i
 
 loop-holds : tie.Need-loop-holds Inv-loop μ-loop
 loop-holds c = (omega arith, passed-none _ _ _ _ _ _)
@@ -25,14 +26,14 @@ sub-i c = search needs
 successor-requires : tie.Need-successor-requires Inv-loop μ-loop
 successor-requires c κs = (omega (arith, c .before .loop .inv .0), c .before .before .before .before .pre .1 .cycle)
 
-mul-there : tie.Need-mul-there Inv-loop μ-loop
-mul-there c = search needs
+mul-here : tie.Need-mul-here Inv-loop μ-loop
+mul-here c = search needs
 
-slice-read-there : tie.Need-slice-read-there Inv-loop μ-loop
-slice-read-there c =
-    let start = c .before .before .before .before .before .before in
+slice-read-here : tie.Need-slice-read-here Inv-loop μ-loop
+slice-read-here c =
     let loop = c .before .before .before .loop in
-    omega (arith, c .before .successor .ensures .1, start .pre .1 .words, loop .inv .1 .long)
+    let start = c .before .before .before .before .before .before in
+    omega (arith, loop .inv .0, start .pre .1 .words, loop .inv .1 .long)
 
 mul-turned : tie.Need-mul-turned Inv-loop μ-loop
 mul-turned c = search needs
@@ -45,9 +46,10 @@ mul-turned-2 c = search needs
 
 slice-read-turned : tie.Need-slice-read-turned Inv-loop μ-loop
 slice-read-turned c =
-    let loop = c .before .before .before .before .before .loop in
+    let successor = c .before .before .before .successor in
     let start = c .before .before .before .before .before .before .before .before in
-    omega (arith, loop .inv .0, start .pre .1 .words, loop .inv .1 .long)
+    let loop = c .before .before .before .before .before .loop in
+    omega (arith, successor .ensures .1, start .pre .1 .words, loop .inv .1 .long)
 
 turned-requires : tie.Need-turned-requires Inv-loop μ-loop
 turned-requires c κs =
@@ -59,8 +61,8 @@ mul-words c = search needs
 
 slice-write-words : tie.Need-slice-write-words Inv-loop μ-loop
 slice-write-words c =
-    let loop = c .before .before .before .before .before .before .loop in
-    let start = c .before .before .before .before .before .before .before .before .before in
+    let loop = c .before .before .before .before .before .before .before .loop in
+    let start = c .before .before .before .before .before .before .before .before .before .before in
     omega (arith, loop .inv .0, start .pre .1 .words, loop .inv .1 .long)
 
 loop-less : tie.Need-loop-less Inv-loop μ-loop
@@ -68,19 +70,29 @@ loop-less c = search needs
 
 loop-again : tie.Need-loop-again Inv-loop μ-loop
 loop-again c =
-    let loop = c .before .before .before .before .before .before .loop in
-    let start = c .before .before .before .before .before .before .before .before .before in
-    let successor = c .before .before .before .before .successor in (
+    let loop = c .before .before .before .before .before .before .before .loop in
+    let start = c .before .before .before .before .before .before .before .before .before .before in
+    let successor = c .before .before .before .before .before .successor in (
       omega (arith, loop .inv .0),
       passed-more _ _ _ _ _ _ _ _ _ _ (start .pre .1 .cycle) (start .pre .1 .words) (loop .inv .1)
-          (omega (arith, loop .inv .0)) (successor .ensures .0) (c .turned .ensures),
+          (omega (arith, loop .inv .0)) (successor .ensures .0) (c .before .turned .ensures),
     )
 
 same-length : tie.Need-same-length Inv-loop μ-loop
-same-length c = c .before .loop .inv .1 .long
+same-length c =
+    let loop = c .before .before .before .before .before .before .before .loop in
+    loop .inv .1 .long
 
 returns : tie.Need-returns Inv-loop μ-loop
-returns c = c .before .loop .inv .1
+returns c =
+    let loop = c .before .before .before .before .before .before .before .loop in
+    loop .inv .1
+
+same-length-2 : tie.Need-same-length-2 Inv-loop μ-loop
+same-length-2 c = c .before .loop .inv .1 .long
+
+returns-2 : tie.Need-returns-2 Inv-loop μ-loop
+returns-2 c = c .before .loop .inv .1
 
 pub pass-spec : {M : Type 1} → statement M
 pass-spec =
@@ -91,8 +103,8 @@ pass-spec =
     loop-holds
     sub-i
     successor-requires
-    mul-there
-    slice-read-there
+    mul-here
+    slice-read-here
     mul-turned
     shared-slice-read-turned
     mul-turned-2
@@ -103,4 +115,6 @@ pass-spec =
     loop-less
     loop-again
     same-length
-    returns)
+    returns
+    same-length-2
+    returns-2)

@@ -1,0 +1,79 @@
+-- `lasso::passes`: passes one behind the other keep the promise of one. Assumes nothing.
+use borrow.Author.Needs.{needs}
+use native.Mathlib.Omega.{arith}
+use Prim.Native.Nat.{_-_}
+use Rattle.lasso.specs.Answer.{lasso}
+use Rattle.lasso.specs.Promise.{Passed}
+use Rattle.lasso.proofs.CodeWritten.{same-room}
+use Rattle.lasso.proofs.CodePass.{passed-none, passed-then}
+use Rattle.lasso.proofs.passes.Statement.{statement}
+use Rattle.lasso.proofs.passes.Tie as tie
+
+abbrev Inv-loop : tie.InvT-loop
+Inv-loop rows letters stem words₀ list count greatest left₀ words left =
+    Passed rows (lasso letters stem) list count greatest words₀ words
+
+abbrev μ-loop : tie.MeasureT-loop
+μ-loop rows letters stem words₀ list count greatest left₀ words left = left
+
+pass-requires : tie.Need-pass-requires Inv-loop μ-loop
+pass-requires c κs = c .before .before .before .pre
+
+loop-holds : tie.Need-loop-holds Inv-loop μ-loop
+loop-holds c = passed-none _ _ _ _ _ _
+
+pass-requires-2 : tie.Need-pass-requires-2 Inv-loop μ-loop
+pass-requires-2 c κs =
+    let start = c .before .before .before .before .before .before .before .before .before in
+    let pass = c .before .before .before .before .before .pass in
+    let loop = c .before .before .loop in
+    (start .pre .0, same-room _ _ _ _ (start .pre .1) (omega (arith, start .pre .1 .words, pass .ensures .long, loop .inv .long)))
+
+sub-left : tie.Need-sub-left Inv-loop μ-loop
+sub-left c = search needs
+
+loop-less : tie.Need-loop-less Inv-loop μ-loop
+loop-less c = search needs
+
+loop-again : tie.Need-loop-again Inv-loop μ-loop
+loop-again c =
+    let loop = c .before .before .before .before .before .before .loop in
+    let pass2 = c .before .before .before .pass2 in
+    passed-then _ _ _ _ _ _ _ _ (loop .inv) (pass2 .ensures)
+
+same-length : tie.Need-same-length Inv-loop μ-loop
+same-length c =
+    let pass = c .before .before .before .before .before .before .before .before .before .pass in
+    let pass2 = c .before .before .before .pass2 in
+    let loop = c .before .before .before .before .before .before .loop in
+    omega (arith, pass .ensures .long, pass2 .ensures .long, loop .inv .long)
+
+returns : tie.Need-returns Inv-loop μ-loop
+returns c =
+    let pass = c .before .before .before .before .before .before .before .before .before .pass in
+    let loop = c .before .before .before .before .before .before .loop in
+    let pass2 = c .before .before .before .pass2 in
+    passed-then _ _ _ _ _ _ _ _ (pass .ensures) (passed-then _ _ _ _ _ _ _ _ (loop .inv) (pass2 .ensures))
+
+same-length-2 : tie.Need-same-length-2 Inv-loop μ-loop
+same-length-2 c = omega (arith, c .before .before .before .before .pass .ensures .long, c .before .loop .inv .long)
+
+returns-2 : tie.Need-returns-2 Inv-loop μ-loop
+returns-2 c = passed-then _ _ _ _ _ _ _ _ (c .before .before .before .before .pass .ensures) (c .before .loop .inv)
+
+pub passes-spec : {M : Type 1} → statement M
+passes-spec =
+    tie.close
+    (tie.spec
+    Inv-loop
+    μ-loop
+    pass-requires
+    loop-holds
+    pass-requires-2
+    sub-left
+    loop-less
+    loop-again
+    same-length
+    returns
+    same-length-2
+    returns-2)
