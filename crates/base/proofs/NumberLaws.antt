@@ -1,7 +1,7 @@
 -- Laws of a function's values at the numbers from e on, which is how rows, columns and words are decoded: such a list splits and joins
 -- where its numbers do. Assumes nothing.
-use mathlib.Core.Path.{_≡_, refl, sym, ap, _∙_}
-use mathlib.Core.List.{List, [], _∷_, _++_, map}
+use mathlib.Core.Path.{_≡_, refl, ap, _∙_}
+use mathlib.Core.List.{List, _∷_, _++_, map}
 use Prim.Native.Nat.{ℕ, zero, suc, _+_, _≤_, _<_}
 use native.Mathlib.Omega.{arith}
 use lib.ListN.{length, getD}
@@ -10,17 +10,6 @@ use Rattle.base.specs.Lists.{numbers}
 module _ {A : Type 0} where
   cons : {x y : A} {s t : List A} → x ≡ y → s ≡ t → _≡_ {A = List A} (x ∷ s) (y ∷ t)
   cons p q = cc
-
-  -- two lists of equal length cut off the front of two equal lists
-  pub append-split : (a b c d : List A) → length a ≡ length b → a ++ c ≡ b ++ d → (a ≡ b) × (c ≡ d)
-  append-split [] [] c d h q = (refl, q)
-  append-split [] (y ∷ b) c d h q = absurd (omega arith)
-  append-split (x ∷ a) [] c d h q = absurd (omega arith)
-  append-split (x ∷ a) (y ∷ b) c d h q =
-      let first : x ≡ y = cc in
-      let rest : a ++ c ≡ b ++ d = cc in
-      let r : (a ≡ b) × (c ≡ d) = append-split a b c d (omega arith) rest in
-      (cons first (r .0), r .1)
 
   module _ (g : ℕ → A) where
     pub values-one : (e k : ℕ) → map g (numbers e (1 + k)) ≡ g e ∷ map g (numbers (e + 1) k)
@@ -49,17 +38,6 @@ module _ {A : Type 0} where
     pub values-same : (h : ℕ → A) (e k : ℕ) → ((j : ℕ) → e ≤ j → j < e + k → g j ≡ h j) → map g (numbers e k) ≡ map h (numbers e k)
     values-same h e zero f = refl
     values-same h e (suc k) f = cons (f e (omega arith) (omega arith)) (values-same h (suc e) k (λ j l m. f j (omega arith) (omega arith)))
-
-    -- the values that make up a list are those that make up its parts
-    pub values-first : (e k : ℕ) (x : A) (s : List A) → map g (numbers e (1 + k)) ≡ x ∷ s → (g e ≡ x) × (map g (numbers (e + 1) k) ≡ s)
-    values-first e k x s q = both (sym (values-one e k) ∙ q)
-      where
-        both : g e ∷ map g (numbers (e + 1) k) ≡ x ∷ s → (g e ≡ x) × (map g (numbers (e + 1) k) ≡ s)
-        both r = (cc, cc)
-
-    pub values-split : (e j k : ℕ) (s t : List A) → length s ≡ j → map g (numbers e (j + k)) ≡ s ++ t → (map g (numbers e j) ≡ s) × (map g (numbers (e + j) k) ≡ t)
-    values-split e j k s t h q =
-        append-split (map g (numbers e j)) s (map g (numbers (e + j) k)) t (values-length e j ∙ sym h) (sym (values-add e j k) ∙ q)
 
     pub values-join : (e j k : ℕ) (s t : List A) → map g (numbers e j) ≡ s → map g (numbers (e + j) k) ≡ t → map g (numbers e (j + k)) ≡ s ++ t
     values-join e j k s t p q = values-add e j k ∙ ap (λ (u : List A). u ++ map g (numbers (e + j) k)) p ∙ ap (λ (u : List A). s ++ u) q

@@ -3,8 +3,8 @@
 -- round, since the body's sets are monotone in the fixpoint's. Assumes nothing.
 use mathlib.Core.Path.{_≡_, refl, sym, ap, subst, _∙_}
 use mathlib.Core.Bool.{Bool, true, false, cond}
-use mathlib.Core.List.{List, [], _∷_, _++_, map}
-use Prim.Native.Nat.{ℕ, zero, suc, _+_, _-_, _≤_, _<_}
+use mathlib.Core.List.{List, [], _∷_, map}
+use Prim.Native.Nat.{ℕ, suc, _+_, _-_, _≤_, _<_}
 use native.Mathlib.Omega.{arith}
 use native.Mathlib.Decide.{decLt}
 use lib.ListN.{length, getD, length-map, List·getD-append}
@@ -15,7 +15,7 @@ use Rattle.base.specs.Sets.{Toward}
 use Rattle.base.proofs.ListLaws.{Each, each-at, each-of, each-left, each-right}
 use Rattle.base.proofs.NumberLaws.{values-at, values-length}
 use Rattle.base.proofs.Inside.{inside-at}
-use Rattle.formula.specs.Formula.{Leaf, Formula, size}
+use Rattle.formula.specs.Formula.{Formula, size}
 use Rattle.formula.specs.Table.{Operator, table-from}
 use Rattle.formula.specs.Reading.{Scope}
 use Rattle.formula.specs.Rows.{operator-at, end-at}
@@ -25,9 +25,9 @@ use Rattle.formula.proofs.Guarded.{guarded-closed}
 use Rattle.formula.proofs.Limits.{size-some}
 use Rattle.formula.proofs.WellFormed.{Operands, located, stands-shaped, stands-nested, stands-left, stands-right, stands-next, stands-body}
 use Rattle.lasso.specs.Lasso.{Lasso, Positions, holds, sets}
-use Rattle.lasso.specs.Promise.{after, said, Written, Room, Shut, Open, Movable, column, columns, Known, Filled, Names, Moves}
+use Rattle.lasso.specs.Promise.{said, Written, Room, Shut, Open, Movable, column, columns, Known, Filled, Names, Moves}
 use Rattle.lasso.specs.Promise.{Under, Keeps, goal}
-use Rattle.lasso.proofs.Monotone.{Within, within-refl, within-at, monotone-sets, Sized}
+use Rattle.lasso.proofs.Monotone.{Within, within-refl, within-at, monotone-sets}
 use Rattle.lasso.proofs.Fixpoint.{length-approximant, fixed}
 use Rattle.lasso.proofs.Consistent.{says, true-at, Stands, Around, Right, right-from, length-sets, successor}
 use Rattle.lasso.proofs.CodeWritten.{written-end}

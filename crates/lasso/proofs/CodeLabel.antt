@@ -2,7 +2,7 @@
 use mathlib.Core.Path.{_≡_, refl, sym, ap, subst, _∙_}
 use mathlib.Core.Logic.{inl, inr}
 use mathlib.Core.Bool.{Bool, true, false}
-use mathlib.Core.List.{List, [], _∷_, _++_, map}
+use mathlib.Core.List.{List, [], map}
 use Prim.Native.Nat.{ℕ, _+_, _≤_, _<_}
 use native.Mathlib.Omega.{arith}
 use lib.ListN.{length, getD, length-map}
@@ -15,7 +15,7 @@ use Rattle.formula.specs.Rows.{operator-at, end-at}
 use Rattle.formula.proofs.Limits.{size-some}
 use Rattle.formula.proofs.WellFormed.{sits-first, stands-left, stands-right, stands-next}
 use Rattle.lasso.specs.Lasso.{Lasso, Positions, leaf-at, joined, before, holds, inner, sets}
-use Rattle.lasso.specs.Promise.{after, local-at, Swept, kind-of, Written, Held, Room, column, columns, Kept, Labelled, Known}
+use Rattle.lasso.specs.Promise.{after, local-at, Swept, kind-of, Held, Room, column, columns, Kept, Labelled, Known}
 use Rattle.lasso.specs.Promise.{Evaluated}
 use Rattle.lasso.specs.declared.Kind.the-variants.{Leaf, Pair, Next}
 use Rattle.lasso.proofs.Monotone.{length-combine, length-before}

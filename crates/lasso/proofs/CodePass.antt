@@ -15,8 +15,8 @@ use Rattle.base.specs.Bits.{bit}
 use Rattle.base.proofs.BitLaws.{bit-or, bit-xor, changed}
 use Rattle.formula.specs.Table.{Operator}
 use Rattle.formula.specs.Rows.{operator-at}
-use Rattle.lasso.specs.Lasso.{Lasso, Positions, leaf-at, joined}
-use Rattle.lasso.specs.Promise.{after, said, local, Filled, Names, Moves, Turned, Under, Keeps, Passed}
+use Rattle.lasso.specs.Lasso.{Lasso, leaf-at, joined}
+use Rattle.lasso.specs.Promise.{after, said, local, Filled, Names, Moves, Turned, Passed}
 use Rattle.lasso.proofs.CodeColumns.{after-below}
 use Rattle.lasso.proofs.Moves.{moves-refl, moves-trans, moves-joined, moves-on, moves-both}
 

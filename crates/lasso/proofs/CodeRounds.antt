@@ -2,8 +2,7 @@
 -- there at least. A pass moves columns on, within what their operators keep, so it keeps both; where no round is left, or one changes
 -- nothing, the fixpoint's column is its final set, and what is inside is as that set makes it. Assumes nothing.
 use mathlib.Core.Path.{_≡_, refl, sym, ap, subst, _∙_}
-use mathlib.Core.Logic.{inl}
-use mathlib.Core.Bool.{Bool, true, false, cond, true≢false}
+use mathlib.Core.Bool.{Bool, true, false, cond}
 use mathlib.Core.List.{List, _∷_, map}
 use Prim.Native.Nat.{ℕ, suc, _+_, _-_, _≤_, _<_}
 use native.Mathlib.Omega.{arith}
@@ -14,7 +13,7 @@ use Rattle.base.specs.Lists.{repeat}
 use Rattle.base.specs.Sets.{Toward}
 use Rattle.base.proofs.ListLaws.{getD-map, repeat-stays}
 use Rattle.base.proofs.NumberLaws.{values-cons}
-use Rattle.base.proofs.Inside.{toward-refl, toward-trans, toward-both, toward-start}
+use Rattle.base.proofs.Inside.{toward-trans, toward-both}
 use Rattle.formula.specs.Formula.{Formula, size}
 use Rattle.formula.specs.Table.{Operator}
 use Rattle.formula.specs.Reading.{Scope}
@@ -22,18 +21,17 @@ use Rattle.formula.specs.Rows.{operator-at, end-at}
 use Rattle.formula.proofs.Limits.{size-some}
 use Rattle.formula.proofs.WellFormed.{sits-first, stands-body}
 use Rattle.lasso.specs.Lasso.{Lasso, Positions, holds, sets}
-use Rattle.lasso.specs.Promise.{local-at, Swept, kind-of, Written, Held, Room, Alone, Shut, Open, Listed, Movable, column}
+use Rattle.lasso.specs.Promise.{local-at, Swept, kind-of, Written, Held, Room, Shut, Open, Listed, Movable, column}
 use Rattle.lasso.specs.Promise.{columns, Kept, Labelled, Known, Filled, Moves, Under, Passed, goal, Going, Begun, Evaluated}
 use Rattle.lasso.specs.Promise.{Outcome, Rounded}
 use Rattle.lasso.specs.declared.Kind.the-variants.{Fixpoint}
-use Rattle.lasso.proofs.Monotone.{Sized}
 use Rattle.lasso.proofs.Fixpoint.{body, rounds-mono}
 use Rattle.lasso.proofs.CodeWritten.{by-kind, written-end, body-operand}
 use Rattle.lasso.proofs.CodeColumns.{column-length, column-at, column-is, columns-sized, kept-refl, kept-wide, kept-then}
 use Rattle.lasso.proofs.CodeColumns.{outer-kept, columns-above, swept-kept, swept-is}
-use Rattle.lasso.proofs.CodeClosed.{known-same, known-kept, known-part}
+use Rattle.lasso.proofs.CodeClosed.{known-same, known-part}
 use Rattle.lasso.proofs.CodeOpen.{nested, movable}
-use Rattle.lasso.proofs.CodeGoal.{final, final-length, own-within, closed, goal-keeps, goal-start, goal-round}
+use Rattle.lasso.proofs.CodeGoal.{final, own-within, closed, goal-keeps, goal-start, goal-round}
 use Rattle.lasso.proofs.CodeLabel.{first-shown, operand-known, own-known}
 use Rattle.lasso.proofs.Moves.{toward-of}
 

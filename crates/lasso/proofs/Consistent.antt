@@ -103,21 +103,6 @@ module _ (c : Lasso) (ss : List Positions) where
   right-next e l s q x k i h = rw (q, x, ← k) (getD-before (c .stem) s i (omega arith))
 
 module _ (c : Lasso) (some : 0 < span c) where
-  -- each set has an element for each letter
-  each-length : (f : Formula) (e : ℕ) (ρ : List Positions) → Closed (length ρ) f → Sized (span c) ρ
-      → Each (λ _ s. length s ≡ span c) e (sets c f ρ)
-  each-length (Formula.leaf l) e ρ k z = (length-holds c some (Formula.leaf l) ρ k z, tt)
-  each-length (Formula.variable d) e ρ k z = (length-holds c some (Formula.variable d) ρ k z, tt)
-  each-length (Formula.pair o a b) e ρ k z = (
-    length-holds c some (Formula.pair o a b) ρ k z,
-    each-append (λ _ s. length s ≡ span c) (e + 1) (e + 1 + size a) (sets c a ρ) (sets c b ρ)
-        (ap (e + 1 +_) (length-sets c a ρ)) (each-length a (e + 1) ρ (k .0) z) (each-length b (e + 1 + size a) ρ (k .1) z),
-  )
-  each-length (Formula.next a) e ρ k z = (length-holds c some (Formula.next a) ρ k z, each-length a (e + 1) ρ k z)
-  each-length (Formula.fix g a) e ρ k z =
-      let l = length-holds c some (Formula.fix g a) ρ k z in
-      (l, each-length a (e + 1) (holds c (Formula.fix g a) ρ ∷ ρ) k (l, z))
-
   -- the rows of a subformula f that stands at e in ss
   pub right-from : (ss : List Positions) (f : Formula) (e : ℕ) (bs : List ℕ) (ρ : List Positions) → Closed (length ρ) f → Sized (span c) ρ
       → Around ss bs ρ → Each (Stands ss) e (sets c f ρ) → Each (Right c ss) e (table-from e bs f)
@@ -147,11 +132,6 @@ module _ (c : Lasso) (some : 0 < span c) where
 -- every set stands where it is
 pub stand : (ss : List Positions) → Each (Stands ss) 0 ss
 stand ss = each-of (Stands ss) 0 ss [] (λ j q. ap (λ (n : ℕ). getD ss n []) {x = 0 + j} {y = j} (omega arith))
-
--- Theorem: each set of a closed formula has an element for each letter.
-pub length-set-at : (c : Lasso) → 0 < span c → (f : Formula) → Closed 0 f → (e : ℕ) → e < size f → length (getD (sets c f []) e []) ≡ span c
-length-set-at c some f k e h =
-    each-at (λ _ s. length s ≡ span c) 0 (sets c f []) [] (each-length c some f 0 [] k tt) e (omega (arith, length-sets c f []))
 
 -- Theorem: at every position the truth of each subformula of a closed formula is what its operator in the table says.
 pub consistent : (c : Lasso) (f : Formula) → Closed 0 f → (e : ℕ) → e < size f → (d : Operator) (i : ℕ) → i < span c

@@ -3,17 +3,16 @@
 -- positions, and further rounds change nothing. The idea: the body is monotone, so the rounds only move away from the start, and each
 -- of n positions can leave the start's value once, so after n rounds nothing is left to move. Least and greatest are one argument, over
 -- the Bool g that the start has at each position. It takes a lasso with a letter, and no more of the stem. Assumes nothing.
-use mathlib.Core.Path.{_≡_, refl, sym, ap, _∙_}
-use mathlib.Core.Logic.{_⊎_, inl, inr}
-use mathlib.Core.Bool.{Bool, true, false, not, true≢false, false≢true}
+use mathlib.Core.Path.{_≡_, _∙_}
+use mathlib.Core.Bool.{Bool, true, false}
 use mathlib.Core.List.{List, _∷_, map}
-use Prim.Native.Nat.{ℕ, zero, suc, _+_, _<_}
+use Prim.Native.Nat.{ℕ, suc, _+_, _<_}
 use native.Mathlib.Omega.{arith}
-use lib.ListN.{length, getD, length-map}
+use lib.ListN.{length, length-map}
 use Rattle.base.specs.Lists.{repeat}
 use Rattle.base.specs.Sets.{Inside, Toward}
-use Rattle.base.proofs.ListLaws.{repeat-add, repeat-suc, repeat-stays, repeat-keeps}
-use Rattle.base.proofs.Inside.{inside-repeat, toward-refl, toward-mono, toward-start, constant-at, waiting-le, rests, passes-none}
+use Rattle.base.proofs.ListLaws.{repeat-add, repeat-stays, repeat-keeps}
+use Rattle.base.proofs.Inside.{inside-repeat, toward-mono, toward-start, waiting-le, rests, passes-none}
 use Rattle.formula.specs.Formula.{Formula}
 use Rattle.formula.proofs.Closed.{Closed}
 use Rattle.lasso.specs.Lasso.{Lasso, Positions, holds}
@@ -26,34 +25,6 @@ body c a ρ s = holds c a (s ∷ ρ)
 -- the set after k rounds; the fixpoint's set is the one after n
 abbrev pub approximant : Lasso → (g : Bool) → Formula → List Positions → (k : ℕ) → Positions
 approximant c g a ρ k = repeat k (body c a ρ) (map (λ _. g) (c .letters))
-
--- one of the two values
-one-of : (g b : Bool) → (b ≡ g) ⊎ (b ≡ not g)
-one-of true true = inl refl
-one-of true false = inr refl
-one-of false true = inr refl
-one-of false false = inl refl
-
-not-itself : (g : Bool) → g ≡ not g → ⊥
-not-itself true e = true≢false e
-not-itself false e = false≢true e
-
--- what is g at 0 and not at n changes at some number below n
-changes : (g : Bool) (p : ℕ → Bool) (n : ℕ) → p 0 ≡ g → p n ≡ not g → (k : ℕ) × (k < n) × (p k ≡ g) × (p (suc k) ≡ not g)
-changes g p zero q r = absurd (not-itself g (sym q ∙ r))
-changes g p (suc n) q r =
-    elim (one-of g (p n)) [
-      | inl e ↦ (n, omega arith, e, r)
-      | inr e ↦ let h = changes g p n q e in (h .0, omega (arith, h .1), h .2, h .3)
-    ]
-
--- Theorem: a position that n rounds have moved was moved by one of them: it has the start's value in the approximant before it, and
--- the body of that approximant has the other one.
-pub moved : (c : Lasso) (g : Bool) (a : Formula) (ρ : List Positions) (n i : ℕ) → i < span c → getD (approximant c g a ρ n) i false ≡ not g
-    → (k : ℕ) × (k < n) × (getD (approximant c g a ρ k) i false ≡ g) × (getD (body c a ρ (approximant c g a ρ k)) i false ≡ not g)
-moved c g a ρ n i h q =
-    let r = changes g (λ k. getD (approximant c g a ρ k) i false) n (constant-at g (c .letters) i h) q in
-    (r .0, r .1, r .2, ap (λ (s : Positions). getD s i false) (sym (repeat-suc (r .0) (body c a ρ) (map (λ _. g) (c .letters)))) ∙ r .3)
 
 -- A fixpoint with the body a, inside fixpoints that have the sets ρ.
 module _ (c : Lasso) (some : 0 < span c) (a : Formula) (ρ : List Positions)
@@ -90,11 +61,6 @@ module _ (c : Lasso) (some : 0 < span c) (a : Formula) (ρ : List Positions)
   -- Theorem: no round passes a set that the body moves no further.
   pub bounded : (g : Bool) (k : ℕ) (t : Positions) → length t ≡ span c → Toward g (holds c a (t ∷ ρ)) t → Toward g (approximant c g a ρ k) t
   bounded g k t l h = passes-none g (body c a ρ) (body-mono g) k (approximant c g a ρ 0) t (toward-start g (c .letters) t l) h
-
-  -- Theorem: so every approximant lies between the start and the fixpoint's set.
-  pub approaches : (g : Bool) (k : ℕ) → Toward g (approximant c g a ρ k) (holds c (Formula.fix g a) ρ)
-  approaches g k =
-      bounded g k (holds c (Formula.fix g a) ρ) (length-approximant g (span c)) (rw (fixed g) (toward-refl g (holds c (Formula.fix g a) ρ)))
 
   -- Theorem: a least fixpoint's set is inside every set that its body maps into itself.
   pub least : (t : Positions) → length t ≡ span c → Inside (holds c a (t ∷ ρ)) t → Inside (holds c (Formula.fix false a) ρ) t

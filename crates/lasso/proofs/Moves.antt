@@ -6,7 +6,7 @@ use Prim.Native.Nat.{ℕ, _<_}
 use native.Mathlib.Omega.{arith}
 use lib.ListN.{length, getD}
 use Rattle.base.specs.Sets.{Below, Toward}
-use Rattle.base.proofs.Inside.{below-true, below-of, below-least, below-greatest, inside-at, inside-of}
+use Rattle.base.proofs.Inside.{below-true, below-of, below-least, below-greatest, inside-of}
 use Rattle.lasso.specs.Lasso.{Positions, joined}
 use Rattle.lasso.specs.Promise.{Moves}
 use Rattle.lasso.proofs.Monotone.{below-joined}
@@ -55,10 +55,6 @@ moves-both false true b c h k = h
 moves-both false false b c h k = k
 moves-both true true b c h k = k
 moves-both true false b c h k = h
-
-pub toward-at : (g : Bool) (s t : Positions) → Toward g s t → (i : ℕ) → Moves g (getD s i false) (getD t i false)
-toward-at false s t h i = inside-at h i
-toward-at true s t h i = inside-at h i
 
 pub toward-of : (g : Bool) (s t : Positions) → length s ≡ length t
     → ((i : ℕ) → i < length s → Moves g (getD s i false) (getD t i false)) → Toward g s t

@@ -2,7 +2,6 @@
 -- nothing.
 use borrow.Author.Needs.{needs}
 use native.Mathlib.Omega.{arith}
-use Prim.Native.Nat.{_-_}
 use Rattle.lasso.proofs.CodeWritten.{held-end, same-room}
 use Rattle.lasso.proofs.CodeOpen.{movable, movable-few}
 use Rattle.lasso.proofs.CodeRounds.{begun}

@@ -1,6 +1,5 @@
 -- `lasso::close`: a closed subformula is labelled, any other left for later. Assumes nothing.
 use borrow.Author.Needs.{needs}
-use Prim.Native.Nat.{_-_}
 use Rattle.lasso.proofs.CodeClosed.{closing-done, closing-none}
 use Rattle.lasso.proofs.close.Statement.{statement}
 use Rattle.lasso.proofs.close.Tie as tie

@@ -1,7 +1,6 @@
 -- `lasso::moved`: a bit that its operator does not move stays, one that it moves leaves the value that the rounds start from. Assumes
 -- nothing.
 use borrow.Author.Needs.{needs}
-use Prim.Native.Nat.{_-_}
 use mathlib.Core.Bool.{true, false}
 use Rattle.lasso.proofs.CodePass.{moved-stays, moved-leaves}
 use Rattle.lasso.proofs.moved.Statement.{statement}

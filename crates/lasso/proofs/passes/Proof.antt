@@ -1,7 +1,6 @@
 -- `lasso::passes`: passes one behind the other keep the promise of one. Assumes nothing.
 use borrow.Author.Needs.{needs}
 use native.Mathlib.Omega.{arith}
-use Prim.Native.Nat.{_-_}
 use Rattle.lasso.specs.Answer.{lasso}
 use Rattle.lasso.specs.Promise.{Passed}
 use Rattle.lasso.proofs.CodeWritten.{same-room}

@@ -2,7 +2,6 @@
 -- Assumes nothing.
 use borrow.Author.Needs.{needs}
 use native.Mathlib.Omega.{arith}
-use Prim.Native.Nat.{_-_}
 use Rattle.lasso.specs.Answer.{lasso}
 use Rattle.lasso.proofs.CodeWritten.{same-room}
 use Rattle.lasso.proofs.CodeOpen.{held-inside}

@@ -1,5 +1,4 @@
 -- `lasso::with_all` sets the bits of a mask by or, and clears them by xor behind it. Assumes nothing.
-use Prim.Native.Nat.{_-_}
 use Rattle.lasso.proofs.CodePass.{masked-on, masked-off}
 use Rattle.lasso.proofs.with_all.Statement.{statement}
 use Rattle.lasso.proofs.with_all.Tie as tie

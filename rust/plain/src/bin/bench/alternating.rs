@@ -44,17 +44,18 @@ fn halves(n: usize) -> Course {
 const CASE_J: &str = "0A 09 06 07 03 00 08 05 01 08 05 00";
 const CASE_L: &str = "09 0A 06 07 03 00 08 05 01 08 05 00";
 
-/// Rules and courses that take many rounds: some made for it, the three before the last the slowest that `bench search` found, and two
-/// whose fixpoints are all of one kind but cross.
-const TABLE: [(&str, &str, Kind); 10] = [
+/// Rules and courses that take many rounds: some made for it, three of the slowest that `bench search` found, the one with most rounds that
+/// changing rules step by step led to, and two whose fixpoints are all of one kind but cross.
+const TABLE: [(&str, &str, Kind); 11] = [
     ("seven fixpoints", "0A 08 09 09 07 05 02 09 07 03 01 06 06 08 09 08 06 05 04 07 03 01 05 02 05 03 09 08 09 08 07 05 02 06 06 05 01 05 03 05 03", GAP),
     ("three fixpoints", "09 0A 09 06 03 01 06 08 05 02 06 07 03 00 08 05 01 07 03 02 08 05 00", HALVES),
     ("case J", CASE_J, FADING),
     ("case J", CASE_J, SPARK),
     ("case L", CASE_L, SPARK),
-    ("five, found", "09 0A 0A 0A 09 07 03 00 06 06 06 08 05 02 08 05 03 06 07 08 03 02 08 05 00 06 08 05 02 08 05 04 06 08 05 01 08 05 03", ENDING),
-    ("seven, found", "08 0A 07 07 08 05 00 08 05 00 09 09 07 04 01 09 0A 06 07 09 07 07 0A 08 05 04 04 01 08 05 04 08 05 04 04 00", FADING),
-    ("seven, found", "07 06 07 0A 06 07 08 05 00 03 00 08 0A 07 04 01 07 08 06 04 01 0A 0A 07 05 02 07 09 06 05 04 0A 06 07 09 08 05 00 08 05 00 08 05 01 04 00 05 01 07 07 03 00 04 00 06 04 01 04 01 04 01 04 00", STARTING),
+    ("five, found", "08 07 0A 09 09 09 0A 06 07 08 05 01 08 05 01 07 07 08 05 00 06 08 05 04 08 05 00 08 03 01 06 04 00 04 01", STARTING),
+    ("six, found", "0A 09 06 07 08 05 00 04 01 0A 09 07 07 04 02 08 05 03 0A 06 08 05 00 07 08 09 03 02 08 05 03", SPARK),
+    ("six, found", "0A 09 0A 08 06 08 06 06 05 01 06 03 00 07 05 01 05 02 08 09 0A 06 09 05 04 08 05 00 08 05 01", ENDING),
+    ("seven, climbed to", "0A 08 0A 0A 0A 0A 08 09 07 06 06 04 07 08 02 06 03 06 01 06 09 08 08 06 05 01 07 04 09 05 05 07 07 06 05 03 07 04 05 06 06 06 08 07 05 05 01 05 01 02 05 02 06 06 05 03 01 04 06 04 08", GAP),
     ("six least", "09 09 09 09 09 06 09 08 07 05 03 05 04 04 00", ENDING),
     ("four least", "09 09 09 06 09 08 07 07 06 03 00 05 02 05 02 05 01 03 01", BLAZE),
 ];
