@@ -77,7 +77,8 @@ at-unmap f (x ∷ xs) (there a) = let (z, b, e) = at-unmap f xs a in (z, there b
 
 -- the first element that passes a test: the one at a number, where none before it passes
 module _ {A : Type 0} (q : A → Bool) where
-  pub first-at : {xs : List A} {i : ℕ} {x : A} → At xs i x → T (q x) → ((j : ℕ) (y : A) → At xs j y → j < i → T (q y) → ⊥) → first q xs ≡ Option.some x
+  pub first-at : {xs : List A} {i : ℕ} {x : A} → At xs i x → T (q x) → ((j : ℕ) (y : A) → At xs j y → j < i → T (q y) → ⊥)
+      → first q xs ≡ Option.some x
   first-at (here {x} {xs}) h f = ap (λ (b : Bool). cond b (Option.some x) (first q xs)) (of-T (q x) h)
   first-at (there {y} {xs} a) h f =
       ap (λ (b : Bool). cond b (Option.some y) (first q xs)) (not-of-T (q y) (f 0 y here (omega arith)))
@@ -86,4 +87,5 @@ module _ {A : Type 0} (q : A → Bool) where
   pub first-nowhere : (xs : List A) → ((j : ℕ) (y : A) → At xs j y → T (q y) → ⊥) → first q xs ≡ Option.none
   first-nowhere [] f = refl
   first-nowhere (x ∷ xs) f =
-      ap (λ (b : Bool). cond b (Option.some x) (first q xs)) (not-of-T (q x) (f 0 x here)) ∙ first-nowhere xs (λ j y a. f (suc j) y (there a))
+      ap (λ (b : Bool). cond b (Option.some x) (first q xs)) (not-of-T (q x) (f 0 x here))
+      ∙ first-nowhere xs (λ j y a. f (suc j) y (there a))

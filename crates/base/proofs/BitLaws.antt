@@ -36,13 +36,16 @@ xor-digit x y h k = two (λ (x : ℕ). eqb (bitXor x y) 1 ≡ cond (eqb x 1) (no
     (two (λ (y : ℕ). eqb (bitXor 1 y) 1 ≡ cond (eqb 1 1) (not (eqb y 1)) (eqb y 1)) refl refl y k) x h
 
 pub bit-or : (a b e : ℕ) → bit (bitOr a b) e ≡ (bit a e || bit b e)
-bit-or a b e = ap (λ (x : ℕ). eqb x 1) (ap (λ (x : ℕ). x % 2) (or-shr a b e) ∙ or-mod (a / 2 ^ e) (b / 2 ^ e) 1) ∙ or-digit (a / 2 ^ e % 2) (b / 2 ^ e % 2) (digit a e) (digit b e)
+bit-or a b e = ap (λ (x : ℕ). eqb x 1) (ap (λ (x : ℕ). x % 2) (or-shr a b e) ∙ or-mod (a / 2 ^ e) (b / 2 ^ e) 1)
+    ∙ or-digit (a / 2 ^ e % 2) (b / 2 ^ e % 2) (digit a e) (digit b e)
 
 pub bit-and : (a b e : ℕ) → bit (bitAnd a b) e ≡ (bit a e && bit b e)
-bit-and a b e = ap (λ (x : ℕ). eqb x 1) (ap (λ (x : ℕ). x % 2) (and-shr a b e) ∙ and-mod (a / 2 ^ e) (b / 2 ^ e) 1) ∙ and-digit (a / 2 ^ e % 2) (b / 2 ^ e % 2) (digit a e) (digit b e)
+bit-and a b e = ap (λ (x : ℕ). eqb x 1) (ap (λ (x : ℕ). x % 2) (and-shr a b e) ∙ and-mod (a / 2 ^ e) (b / 2 ^ e) 1)
+    ∙ and-digit (a / 2 ^ e % 2) (b / 2 ^ e % 2) (digit a e) (digit b e)
 
 pub bit-xor : (a b e : ℕ) → bit (bitXor a b) e ≡ cond (bit a e) (not (bit b e)) (bit b e)
-bit-xor a b e = ap (λ (x : ℕ). eqb x 1) (ap (λ (x : ℕ). x % 2) (xor-shr a b e) ∙ xor-mod (a / 2 ^ e) (b / 2 ^ e) 1) ∙ xor-digit (a / 2 ^ e % 2) (b / 2 ^ e % 2) (digit a e) (digit b e)
+bit-xor a b e = ap (λ (x : ℕ). eqb x 1) (ap (λ (x : ℕ). x % 2) (xor-shr a b e) ∙ xor-mod (a / 2 ^ e) (b / 2 ^ e) 1)
+    ∙ xor-digit (a / 2 ^ e % 2) (b / 2 ^ e % 2) (digit a e) (digit b e)
 
 -- one bit alone
 pub bit-same : (e : ℕ) → bit (2 ^ e) e ≡ true
@@ -52,10 +55,12 @@ pub bit-above : (e k : ℕ) → e < k → bit (2 ^ e) k ≡ false
 bit-above e k h = ap (λ (x : ℕ). eqb (x % 2) 1) (div-eq-of-lt (pow-lt h))
 
 powers : (e k : ℕ) → k < e → 2 ^ e ≡ (2 ^ (e - k - 1) * 2) * 2 ^ k
-powers e k h = ap (λ (n : ℕ). 2 ^ n) {x = e} {y = ((e - k - 1) + 1) + k} (omega arith) ∙ pow-add 2 ((e - k - 1) + 1) k ∙ ap (λ (x : ℕ). x * 2 ^ k) (pow-add 2 (e - k - 1) 1)
+powers e k h = ap (λ (n : ℕ). 2 ^ n) {x = e} {y = ((e - k - 1) + 1) + k} (omega arith) ∙ pow-add 2 ((e - k - 1) + 1) k
+    ∙ ap (λ (x : ℕ). x * 2 ^ k) (pow-add 2 (e - k - 1) 1)
 
 pub bit-below : (e k : ℕ) → k < e → bit (2 ^ e) k ≡ false
-bit-below e k h = ap (λ (x : ℕ). eqb (x % 2) 1) (ap (λ (x : ℕ). x / 2 ^ k) (powers e k h) ∙ shl-shr (2 ^ (e - k - 1) * 2) k) ∙ ap (λ (x : ℕ). eqb x 1) (mul-mod-left (2 ^ (e - k - 1)) 2)
+bit-below e k h = ap (λ (x : ℕ). eqb (x % 2) 1) (ap (λ (x : ℕ). x / 2 ^ k) (powers e k h) ∙ shl-shr (2 ^ (e - k - 1) * 2) k)
+    ∙ ap (λ (x : ℕ). eqb x 1) (mul-mod-left (2 ^ (e - k - 1)) 2)
 
 pub bit-other : (e k : ℕ) → (k ≡ e → ⊥) → bit (2 ^ e) k ≡ false
 bit-other e k h = other (decLt e k)

@@ -43,7 +43,8 @@ module _ {L K : Type 0} (q : Item L K → Bool) (rank : Item L K → ℕ) where
       record {
         present = List·Memᴰ·head i;
         passes = subst⁻¹ (λ (a : Item L K). T (q a)) i t;
-        lowest = λ z m h. elim (List·Memᴰ·cases-cons m) [ inl j ↦ le-of-eq (ap rank (i ∙ sym j)) | inr o ↦ omega (arith, ap rank i, f z o) ];
+        lowest = λ z m h. elim (List·Memᴰ·cases-cons m)
+            [ inl j ↦ le-of-eq (ap rank (i ∙ sym j)) | inr o ↦ omega (arith, ap rank i, f z o) ];
       })
       (λ n r.
       let l = first-some s r in

@@ -127,7 +127,8 @@ waiting-le false s = omega (arith, waiting-sum s)
 -- a larger set is the same, or has fewer elements missing
 inside-or : {s t : List Bool} → Inside s t → (s ≡ t) ⊎ (waiting false t < waiting false s)
 inside-or Inside.none = inl refl
-inside-or (Inside.put (Below.same {b = a}) h) = elim (inside-or h) [ inl e ↦ inl (ap (λ (s : List Bool). a ∷ s) e) | inr l ↦ inr (omega arith) ]
+inside-or (Inside.put (Below.same {b = a}) h) =
+    elim (inside-or h) [ inl e ↦ inl (ap (λ (s : List Bool). a ∷ s) e) | inr l ↦ inr (omega arith) ]
 inside-or (Inside.put Below.more h) = elim (inside-or h) [ inl e ↦ inr (omega (arith, ap (waiting false) e)) | inr l ↦ inr (omega arith) ]
 
 -- a move changes nothing, or fewer elements are left to move

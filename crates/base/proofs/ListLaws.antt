@@ -36,7 +36,8 @@ module _ {A : Type 0} where
   each-of P e [] d f = tt
   each-of P e (x ∷ xs) d f = (
     subst (λ (j : ℕ). P j x) {x = e + 0} {y = e} (omega arith) (f 0 (omega arith)),
-    each-of P (e + 1) xs d (λ i l. subst (λ (j : ℕ). P j (getD xs i d)) {x = e + suc i} {y = e + 1 + i} (omega arith) (f (suc i) (omega arith))),
+    each-of P (e + 1) xs d (λ i l. subst (λ (j : ℕ). P j (getD xs i d)) {x = e + suc i} {y = e + 1 + i} (omega arith)
+        (f (suc i) (omega arith))),
   )
 
   pub repeat-add : (m n : ℕ) (f : A → A) (a : A) → repeat (m + n) f a ≡ repeat n f (repeat m f a)

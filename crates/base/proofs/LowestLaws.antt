@@ -29,7 +29,8 @@ found (suc d) w h l = by (w % 2) refl (λ q. found d (w / 2) (omega arith) (omeg
         let (a, b, c) = half q in
         (omega arith, bit-suc w (trailingZeros d (w / 2)) ∙ b, λ k m. lower k m c)
       where
-        lower : (k : ℕ) → k < suc (trailingZeros d (w / 2)) → ((k : ℕ) → k < trailingZeros d (w / 2) → bit (w / 2) k ≡ false) → bit w k ≡ false
+        lower : (k : ℕ) → k < suc (trailingZeros d (w / 2)) → ((k : ℕ) → k < trailingZeros d (w / 2) → bit (w / 2) k ≡ false)
+            → bit w k ≡ false
         lower zero m c = bit-zero w ∙ ap (λ (x : ℕ). eqb x 1) q
         lower (suc k) m c = bit-suc w k ∙ c k (omega arith)
     by (suc r) q half = (omega arith, bit-zero w ∙ ap (λ (x : ℕ). eqb x 1) {x = w % 2} {y = 1} (omega arith), λ k m. absurd (omega arith))

@@ -3,7 +3,9 @@
 use mathlib.Core.Path.{_≡_, refl, sym, ap, subst, subst⁻¹, _∙_}
 use mathlib.Core.Logic.{_⊎_, inl, inr}
 use mathlib.Core.Bool.{Bool, cond}
-use mathlib.Core.List.{List, [], _∷_, _++_, map, List·Memᴰ, List·Memᴰ·head, List·Memᴰ·tail, List·Memᴰ·not-nil, List·Memᴰ·cases-cons, List·Memᴰ·append-cases, Memᴰ·append-left, Memᴰ·append-right, Memᴰ·map, Memᴰ·cast, Sublistᴰ, Sublistᴰ·slnil, Sublistᴰ·cons, Sublistᴰ·cons-cons}
+use mathlib.Core.List.{List, [], _∷_, _++_, map, List·Memᴰ, List·Memᴰ·head, List·Memᴰ·tail, List·Memᴰ·not-nil, List·Memᴰ·cases-cons}
+use mathlib.Core.List.{List·Memᴰ·append-cases, Memᴰ·append-left, Memᴰ·append-right, Memᴰ·map, Memᴰ·cast, Sublistᴰ, Sublistᴰ·slnil}
+use mathlib.Core.List.{Sublistᴰ·cons, Sublistᴰ·cons-cons}
 use Prim.Native.Nat.{ℕ, zero, suc, _+_, _*_, _^_, _≤_, _<_}
 use native.Mathlib.Omega.{arith}
 use native.Mathlib.Decide.{ℕ-discrete}
@@ -104,7 +106,13 @@ module _ {A : Type 0} where
   pub parts-length : (xs : List A) → length (parts xs) ≡ 2 ^ length xs
   parts-length [] = refl
   parts-length (x ∷ xs) =
-      omega (arith, length-append (parts xs) (map (λ (l : List A). x ∷ l) (parts xs)), length-map (parts xs) (λ (l : List A). x ∷ l), parts-length xs, pow-succ' 2 (length xs))
+      omega (
+        arith,
+        length-append (parts xs) (map (λ (l : List A). x ∷ l) (parts xs)),
+        length-map (parts xs) (λ (l : List A). x ∷ l),
+        parts-length xs,
+        pow-succ' 2 (length xs),
+      )
 
   pub parts-in : {l xs : List A} → Sublistᴰ l xs → List·Memᴰ l (parts xs)
   parts-in Sublistᴰ·slnil = List·Memᴰ·head refl

@@ -39,7 +39,8 @@ module _ {A : Type 0} where
     values-same h e zero f = refl
     values-same h e (suc k) f = cons (f e (omega arith) (omega arith)) (values-same h (suc e) k (λ j l m. f j (omega arith) (omega arith)))
 
-    pub values-join : (e j k : ℕ) (s t : List A) → map g (numbers e j) ≡ s → map g (numbers (e + j) k) ≡ t → map g (numbers e (j + k)) ≡ s ++ t
+    pub values-join : (e j k : ℕ) (s t : List A) → map g (numbers e j) ≡ s → map g (numbers (e + j) k) ≡ t
+        → map g (numbers e (j + k)) ≡ s ++ t
     values-join e j k s t p q = values-add e j k ∙ ap (λ (u : List A). u ++ map g (numbers (e + j) k)) p ∙ ap (λ (u : List A). s ++ u) q
 
     pub values-cons : (e k : ℕ) (x : A) (s : List A) → g e ≡ x → map g (numbers (e + 1) k) ≡ s → map g (numbers e (1 + k)) ≡ x ∷ s

@@ -4,7 +4,9 @@
 use mathlib.Core.Path.{_≡_, refl, sym, ap, subst, subst⁻¹, _∙_}
 use mathlib.Core.Logic.{_⊎_, inl, inr}
 use mathlib.Core.Bool.{Bool, cond}
-use mathlib.Core.List.{List, [], _∷_, _++_, map, append-nil, append-assoc, List·Memᴰ, List·Memᴰ·head, List·Memᴰ·tail, List·Memᴰ·not-nil, List·Memᴰ·cases-cons, List·Memᴰ·append-cases, List·Memᴰ·eq-of-singleton, Memᴰ·append-left, Memᴰ·append-right, Memᴰ·map, Memᴰ·of-map, Memᴰ·cast}
+use mathlib.Core.List.{List, [], _∷_, _++_, map, append-nil, append-assoc, List·Memᴰ, List·Memᴰ·head, List·Memᴰ·tail}
+use mathlib.Core.List.{List·Memᴰ·not-nil, List·Memᴰ·cases-cons, List·Memᴰ·append-cases, List·Memᴰ·eq-of-singleton, Memᴰ·append-left}
+use mathlib.Core.List.{Memᴰ·append-right, Memᴰ·map, Memᴰ·of-map, Memᴰ·cast}
 use Prim.Native.Nat.{ℕ, zero, suc, _+_, _≤_, _<_}
 use native.Mathlib.Omega.{arith}
 use lib.Dec.{T}
@@ -41,7 +43,8 @@ module _ {L K : Type 0} where
       (distinct-append c d (λ k a b. f k (visits-later x a) b))
 
   -- distinct items at members of a list are no more than the list has
-  pub pigeons : (xs : List (Item L K)) → Distinct xs → (us : List K) → ((x : Item L K) → List·Memᴰ x xs → List·Memᴰ (x .at) us) → length xs ≤ length us
+  pub pigeons : (xs : List (Item L K)) → Distinct xs → (us : List K) → ((x : Item L K) → List·Memᴰ x xs → List·Memᴰ (x .at) us)
+      → length xs ≤ length us
   pigeons [] d us f = omega arith
   pigeons (x ∷ xs) (Distinct.more n d) us f =
       let (ys, q, g) = without (f x (List·Memᴰ·head refl)) in
@@ -138,7 +141,8 @@ module _ {L K : Type 0} (same : K → K → Bool) (edges : K → List (Edge L K)
     go : {x : Item L K} {e : Edge L K} → Found starts x → List·Memᴰ e (edges (x .at)) → Found starts (onward same edges x e)
 
   -- the search finds only that
-  pub search-found : (fuel : ℕ) (starts : List (Item L K)) {x : Item L K} → List·Memᴰ x (search-from same edges fuel starts) → Found starts x
+  pub search-found : (fuel : ℕ) (starts : List (Item L K)) {x : Item L K} → List·Memᴰ x (search-from same edges fuel starts)
+      → Found starts x
   search-found fuel starts {x} m =
       walk-keeps (λ xs. (y : Item L K) → List·Memᴰ y xs → Found starts y)
       (λ z done queue f y r.
@@ -193,7 +197,8 @@ module _ {L K : Type 0} (same : K → K → Bool) (edges : K → List (Edge L K)
     pub search-distinct : (fuel : ℕ) (starts : List (Item L K)) → Distinct (search-from same edges fuel starts)
     search-distinct fuel starts =
         walk-keeps Distinct
-        (λ x done queue d. distinct-append d (fresh-distinct (done ++ (x ∷ queue)) (onwards x)) (fresh-new (done ++ (x ∷ queue)) (onwards x)))
+        (λ x done queue d. distinct-append d (fresh-distinct (done ++ (x ∷ queue)) (onwards x))
+        (fresh-new (done ++ (x ∷ queue)) (onwards x)))
         fuel [] (fresh same edges [] starts) (fresh-distinct [] starts)
 
     -- it finds no more than there are vertices that can be found
@@ -218,7 +223,8 @@ module _ {L K : Type 0} (c : ℕ) where
   grounded-append xs [] g f = subst⁻¹ Grounded (append-nil xs) g
   grounded-append xs (y ∷ ys) g f =
       subst Grounded (append-assoc xs (y ∷ []) ys)
-      (grounded-append (xs ++ (y ∷ [])) ys (more y g (f y (List·Memᴰ·head refl))) (λ z m. based-more xs (y ∷ []) z (f z (List·Memᴰ·tail m))))
+      (grounded-append (xs ++ (y ∷ [])) ys (more y g (f y (List·Memᴰ·head refl)))
+      (λ z m. based-more xs (y ∷ []) z (f z (List·Memᴰ·tail m))))
 
   grounded-short : (xs : List (Item L K)) → Grounded xs → (x : Item L K) → List·Memᴰ x xs → length (x .way) < c + length xs
   grounded-short xs none x m = absurd (List·Memᴰ·not-nil m)
@@ -234,7 +240,8 @@ module _ {L K : Type 0} (c : ℕ) where
 module _ {L K : Type 0} (same : K → K → Bool) (edges : K → List (Edge L K)) where
   -- no way is longer than the number of items, where the starts' ways have length c: shorter than that number and c together
   pub search-short : (c fuel : ℕ) (starts : List (Item L K)) → ((y : Item L K) → List·Memᴰ y starts → length (y .way) ≡ c)
-      → {x : Item L K} → List·Memᴰ x (search-from same edges fuel starts) → length (x .way) < c + length (search-from same edges fuel starts)
+      → {x : Item L K} → List·Memᴰ x (search-from same edges fuel starts)
+      → length (x .way) < c + length (search-from same edges fuel starts)
   search-short c fuel starts f {x} =
       grounded-short c (search-from same edges fuel starts)
       (walk-keeps same edges (Grounded c)

@@ -5,7 +5,9 @@
 use mathlib.Core.Path.{_≡_, refl, sym, ap, subst, subst⁻¹, _∙_}
 use mathlib.Core.Logic.{_⊎_, inl, inr}
 use mathlib.Core.Bool.{Bool, cond}
-use mathlib.Core.List.{List, [], _∷_, _++_, append-nil, List·Memᴰ, List·Memᴰ·head, List·Memᴰ·tail, List·Memᴰ·not-nil, List·Memᴰ·cases-cons, List·Memᴰ·append-cases, List·Memᴰ·eq-of-singleton, Memᴰ·append-left, Memᴰ·append-right, Memᴰ·map, Memᴰ·of-map}
+use mathlib.Core.List.{List, [], _∷_, _++_, append-nil, List·Memᴰ, List·Memᴰ·head, List·Memᴰ·tail, List·Memᴰ·not-nil}
+use mathlib.Core.List.{List·Memᴰ·cases-cons, List·Memᴰ·append-cases, List·Memᴰ·eq-of-singleton, Memᴰ·append-left, Memᴰ·append-right}
+use mathlib.Core.List.{Memᴰ·map, Memᴰ·of-map}
 use Prim.Native.Nat.{ℕ, _+_, _≤_}
 use native.Mathlib.Omega.{arith}
 use native.Mathlib.Nat.{le-of-eq}
@@ -13,7 +15,8 @@ use lib.Dec.{T}
 use lib.ListN.{length}
 use Rattle.base.specs.Search.{Edge, Item, onward, seen-in, fresh, search-from}
 use Rattle.base.proofs.BoolLaws.{by-test}
-use Rattle.base.proofs.SearchLaws.{Visits, visits-cons, onwards, new-items, regroup, ends, Ended, walk-keeps, fresh-given, seen-visits}
+use Rattle.base.proofs.SearchLaws.{Visits, visits-cons, onwards, new-items, regroup, ends, Ended, walk-keeps, fresh-given}
+use Rattle.base.proofs.SearchLaws.{seen-visits}
 
 module _ {L K : Type 0} (rank : Item L K → ℕ) where
   -- lower ranks first
@@ -24,7 +27,8 @@ module _ {L K : Type 0} (rank : Item L K → ℕ) where
   pub sorted-same : (n : ℕ) (xs : List (Item L K)) → ((y : Item L K) → List·Memᴰ y xs → rank y ≡ n) → Sorted xs
   sorted-same n [] f = none
   sorted-same n (x ∷ xs) f =
-      more {x = x} {xs = xs} (λ y m. omega (arith, f x (List·Memᴰ·head refl), f y (List·Memᴰ·tail m))) (sorted-same n xs (λ y m. f y (List·Memᴰ·tail m)))
+      more {x = x} {xs = xs} (λ y m. omega (arith, f x (List·Memᴰ·head refl), f y (List·Memᴰ·tail m)))
+      (sorted-same n xs (λ y m. f y (List·Memᴰ·tail m)))
 
   pub sorted-append : {xs ys : List (Item L K)} → Sorted xs → Sorted ys
       → ((x y : Item L K) → List·Memᴰ x xs → List·Memᴰ y ys → rank x ≤ rank y) → Sorted (xs ++ ys)
@@ -34,7 +38,8 @@ module _ {L K : Type 0} (rank : Item L K → ℕ) where
       (λ y m. elim (List·Memᴰ·append-cases xs {t = ys} m) [ inl a ↦ g y a | inr b ↦ f x y (List·Memᴰ·head refl) b ])
       (sorted-append r s (λ a b p q. f a b (List·Memᴰ·tail p) q))
 
-  sorted-rest : (xs : List (Item L K)) (x : Item L K) (ys : List (Item L K)) → Sorted (xs ++ (x ∷ ys)) → (y : Item L K) → List·Memᴰ y ys → rank x ≤ rank y
+  sorted-rest : (xs : List (Item L K)) (x : Item L K) (ys : List (Item L K)) → Sorted (xs ++ (x ∷ ys)) → (y : Item L K) → List·Memᴰ y ys
+      → rank x ≤ rank y
   sorted-rest [] x ys (more f s) = f
   sorted-rest (z ∷ xs) x ys (more f s) = sorted-rest xs x ys s
 
@@ -76,7 +81,8 @@ module _ {L K : Type 0} (same : K → K → Bool) (edges : K → List (Edge L K)
           by-test (seen-in same edges s (y .at))
           (λ b. Sorted rank (cond b (fresh same edges s ys) (y ∷ fresh same edges (y ∷ s) ys)))
           (λ t. fresh-sorted s ys o)
-          (λ n. more {x = y} {xs = fresh same edges (y ∷ s) ys} (λ z m. f z (fresh-given same edges (y ∷ s) ys m)) (fresh-sorted (y ∷ s) ys o))
+          (λ n. more {x = y} {xs = fresh same edges (y ∷ s) ys} (λ z m. f z (fresh-given same edges (y ∷ s) ys m))
+          (fresh-sorted (y ∷ s) ys o))
 
       within-later : (y : Item L K) (ys : List (Item L K)) (k : K) (n : ℕ) → Within rank ys k n → Within rank (y ∷ ys) k n
       within-later y ys k n (x, m, e, h) = (x, List·Memᴰ·tail m, e, h)
@@ -138,7 +144,8 @@ module _ {L K : Type 0} (same : K → K → Bool) (edges : K → List (Edge L K)
         edge-within : (e : Edge L K) → List·Memᴰ e (edges (x .at)) → Within rank (all ++ new) (e .to) (rank x + B)
         edge-within e m =
             elim
-            (fresh-within all (onwards same edges x) (sorted-same rank (rank x + B) (onwards same edges x) (onwards-rank x)) (onward same edges x e)
+            (fresh-within all (onwards same edges x) (sorted-same rank (rank x + B) (onwards same edges x) (onwards-rank x))
+            (onward same edges x e)
             (Memᴰ·map (onward same edges x) m)) [
               | inl v ↦ within-left rank all new (e .to) (rank x + B) (v .0, v .1, v .2, o .tight x (v .0) (List·Memᴰ·head refl) (v .1))
               | inr w ↦ within-right rank all new (e .to) (rank x + B) (w .0, w .1, w .2, omega (arith, w .3, raised x e m))
@@ -215,9 +222,11 @@ module _ {L K : Type 0} (same : K → K → Bool) (edges : K → List (Edge L K)
   reach-far (go r m) = Far.go (reach-far r) m
 
   -- where what it finds is no more than its fuel, the search finds all that can be reached
-  pub search-all : ((a b : K) → T (same a b) → a ≡ b) → (fuel : ℕ) (starts : List (Item L K)) → length (search-from same edges fuel starts) ≤ fuel
+  pub search-all : ((a b : K) → T (same a b) → a ≡ b) → (fuel : ℕ) (starts : List (Item L K))
+      → length (search-from same edges fuel starts) ≤ fuel
       → {k : K} → Reach starts k → Visits k (search-from same edges fuel starts)
   search-all sound fuel starts h r =
       let (x, m, e, l) =
-      search-near same edges (λ x. 0) 0 sound (λ x e m. refl) starts (sorted-same (λ x. 0) 0 starts (λ y m. refl)) (λ y z p q. omega arith) fuel h (reach-far r) in
+      search-near same edges (λ x. 0) 0 sound (λ x e m. refl) starts (sorted-same (λ x. 0) 0 starts (λ y m. refl))
+      (λ y z p q. omega arith) fuel h (reach-far r) in
       (x, m, e)

@@ -104,6 +104,7 @@ module _ (t : Table) (formed : Formed t) (apart : (v : Subset) (s : Transition) 
   formed-agrees fuel h = matched (profiles-match t formed apart fuel h)
 
 -- Theorem: the profiles of an accepted formula agree, whatever the fuel is, if it is at least their number.
-pub agrees : (bytes : List ℕ) (f : Formula) → parse bytes ≡ Reading.accepted f → (fuel : ℕ) → length (literal.profiles (table f) (nodes (table f))) ≤ fuel
+pub agrees : (bytes : List ℕ) (f : Formula) → parse bytes ≡ Reading.accepted f → (fuel : ℕ)
+    → length (literal.profiles (table f) (nodes (table f))) ≤ fuel
     → Agrees (table f) (profiles fuel (table f) (sets (nodes (table f)))) (literal.profiles (table f) (nodes (table f)))
 agrees bytes f p = formed-agrees (table f) (parse-formed bytes f p) (root-apart f)

@@ -74,7 +74,8 @@ module _ (t : Table) where
 
   module _ (few : length (fixes-from 0 t) ≤ 7) where
     -- equal tables, equal sets
-    carries-part : (s : Triples) (xs ys : List Triple) → Carries s xs → Carries s ys → (a : Triple) → Fits t a → List·Memᴰ a xs → List·Memᴰ a ys
+    carries-part : (s : Triples) (xs ys : List Triple) → Carries s xs → Carries s ys → (a : Triple) → Fits t a → List·Memᴰ a xs
+        → List·Memᴰ a ys
     carries-part s xs ys c d a p m =
         let (i, f) = in-at (p .from-in) in
         let (k, w) = weighs-of t (p .priority-in) in
@@ -91,7 +92,8 @@ module _ (t : Table) where
         let (x, w) = c .only i k j hi hk hj h in
         let f = at-of (operands t) i 0 hi in
         let g = at-of (operands t) j 0 hj in
-        d .back i k j (getD (operands t) i 0) x (getD (operands t) j 0) f w g (c .there i k j (getD (operands t) i 0) x (getD (operands t) j 0) f w g h)
+        d .back i k j (getD (operands t) i 0) x (getD (operands t) j 0) f w g
+        (c .there i k j (getD (operands t) i 0) x (getD (operands t) j 0) f w g h)
 
     pub carries-table : (s r : Triples) (xs : List Triple) → Carries s xs → Carries r xs → s ≡ r
     carries-table s r xs c d =
@@ -116,11 +118,23 @@ module _ (t : Table) where
 
       meets-of : (i k j : ℕ) → i < count → k < 8 → j < count → T (holds (join count a b) i k j) → Meets i k j
       meets-of i k j hi hk hj h =
-          let (m, l, u) = some-of count (λ m. smaller (λ y. holds a i y m) (λ z. holds b m z j) k) (subst T (join-holds count a b i k j hi hk hj) h) in
+          let (m, l, u) = some-of count (λ m. smaller (λ y. holds a i y m) (λ z. holds b m z j) k)
+          (subst T (join-holds count a b i k j hi hk hj) h) in
           let (y, z, p, q, v, w, e) = smaller-of (λ y. holds a i y m) (λ z. holds b m z j) k u in
-          record { middle = m; left = y; right = z; middle-lt = l; left-lt = p; right-lt = q; left-holds = v; right-holds = w; smaller-is = e }
+          record {
+            middle = m;
+            left = y;
+            right = z;
+            middle-lt = l;
+            left-lt = p;
+            right-lt = q;
+            left-holds = v;
+            right-holds = w;
+            smaller-is = e;
+          }
 
-      join-weighs : (i k j : ℕ) → i < count → j < count → (m : Meets i k j) → (u v : ℕ) × Weighs t (m .left) u × Weighs t (m .right) v × Weighs t k (min u v)
+      join-weighs : (i k j : ℕ) → i < count → j < count → (m : Meets i k j) → (u v : ℕ) × Weighs t (m .left) u × Weighs t (m .right) v ×
+          Weighs t k (min u v)
       join-weighs i k j hi hj m =
           let (u, p) = c .only i (m .left) (m .middle) hi (m .left-lt) (m .middle-lt) (m .left-holds) in
           let (v, q) = d .only (m .middle) (m .right) j (m .middle-lt) (m .right-lt) hj (m .right-holds) in
@@ -135,7 +149,8 @@ module _ (t : Table) where
           let e = getD (operands t) (m .middle) 0 in
           Memᴰ·cast (ap (λ (l : ℕ). triple f l g) (weighs-one t few w n))
           (join-in t xs ys (carries-known c) (carries-known d) (triple f u e) (triple e v g)
-          (c .there i (m .left) (m .middle) f u e p y o (m .left-holds)) (d .there (m .middle) (m .right) j e v g o z q (m .right-holds)) refl)
+          (c .there i (m .left) (m .middle) f u e p y o (m .left-holds))
+          (d .there (m .middle) (m .right) j e v g o z q (m .right-holds)) refl)
 
       join-back : (i k j f x g : ℕ) → Operand i f → Weighs t k x → Operand j g → List·Memᴰ (triple f x g) (literal.join t xs ys)
           → T (holds (join count a b) i k j)
@@ -193,7 +208,8 @@ module _ (t : Table) where
             priority = min (r .priority) v;
             weighs = weighs-min t few (r .weighs) w;
             end-lt = hj;
-            lap = λ f g p q. cycle.Lap.again {a = triple f (r .priority) e} {b = triple e v g} (r .lap f e p o) (c .there m y j e v g o w q h) refl;
+            lap = λ f g p q. cycle.Lap.again {a = triple f (r .priority) e} {b = triple e v g} (r .lap f e p o)
+                (c .there m y j e v g o w q h) refl;
           }
 
       lap-fits : {a : Triple} → cycle.Lap xs a → Fits t a

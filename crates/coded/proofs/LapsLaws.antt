@@ -114,7 +114,8 @@ module _ (n : ℕ) where
     still s t l =
         lap-tab s
         ∙ those-same n (holds (lap n a s)) (holds s)
-        (λ f x g hf hx hg. same-truth (holds (lap n a s) f x g) (holds s f x g) (same-of (holds s) (holds (lap n a s)) (lap-sub s) l f x g hf hx hg) (lap-sub s f x g hf hx hg))
+        (λ f x g hf hx hg. same-truth (holds (lap n a s) f x g) (holds s f x g)
+        (same-of (holds s) (holds (lap n a s)) (lap-sub s) l f x g hf hx hg) (lap-sub s f x g hf hx hg))
         ∙ sym t
 
     -- rounds enough for what is lacking reach what a round no longer changes
@@ -122,7 +123,8 @@ module _ (n : ℕ) where
     rounds zero s t l = still s t (omega arith)
     rounds (suc k) s t l = go (decLt (lacks (holds (lap n a s))) (lacks (holds s))) (rounds k (lap n a s) (lap-tab s))
       where
-        go : Dec (lacks (holds (lap n a s)) < lacks (holds s)) → (lacks (holds (lap n a s)) ≤ k → lap n a (repeat k (lap n a) (lap n a s)) ≡ repeat k (lap n a) (lap n a s))
+        go : Dec (lacks (holds (lap n a s)) < lacks (holds s))
+            → (lacks (holds (lap n a s)) ≤ k → lap n a (repeat k (lap n a) (lap n a s)) ≡ repeat k (lap n a) (lap n a s))
             → lap n a (repeat k (lap n a) (lap n a s)) ≡ repeat k (lap n a) (lap n a s)
         go (yes p) f = f (omega arith)
         go (no p) f =
@@ -143,7 +145,8 @@ module _ (n : ℕ) where
         elim (or-cases (holds s f x g) (holds (join n s a) f x g) (subst T (lap-holds s f x g hf hx hg) t)) [
           | inl p ↦ k f x g hf hx hg p
           | inr p ↦
-              let (m, hm, u) = some-of n (λ m. smaller (λ y. holds s f y m) (λ z. holds a m z g) x) (subst T (join-holds n s a f x g hf hx hg) p) in
+              let (m, hm, u) = some-of n (λ m. smaller (λ y. holds s f y m) (λ z. holds a m z g) x)
+              (subst T (join-holds n s a f x g hf hx hg) p) in
               let (y, z, hy, hz, i, j, e) = smaller-of (λ y. holds s f y m) (λ z. holds a m z g) x u in
               subst (λ (w : ℕ). Lap n a f w g) e (again (k f y m hf hy hm i) hz hg j)
         ]

@@ -74,7 +74,8 @@ module _ (v : Marks) (m : ℕ) (r : List Bool) where
       by : Dec (e ≡ m) → T (marked v e k) ⊎ ((e ≡ m) × T (bit-of r k))
       by (yes q) =
           let l : m < length v = omega (arith, marked-lt (put v m r) e k h, put-length) in
-          let i : T (bit-of (weighs both-of) k) = subst (λ (s : List Bool). T (bit-of s k)) (ap (λ (i : ℕ). getD (put v m r) i []) q ∙ put-row l) h in
+          let i : T (bit-of (weighs both-of) k) =
+          subst (λ (s : List Bool). T (bit-of s k)) (ap (λ (i : ℕ). getD (put v m r) i []) q ∙ put-row l) h in
           elim (or-cases (bit-of (getD v m []) k) (bit-of r k) (weighs-at both-of k i .1))
           [ inl a ↦ inl (subst⁻¹ (λ (i : ℕ). T (marked v i k)) q a) | inr b ↦ inr (q, b) ]
       by (no q) = inl (subst (λ (s : List Bool). T (bit-of s k)) (getD-set-other v m e (weighs both-of) [] q) h)
@@ -105,7 +106,8 @@ module _ (v : Marks) (m : ℕ) (r : List Bool) where
         by (no q) = ap length (getD-set-other v m e (weighs both-of) [] q) ∙ s e (omega (arith, put-length))
 
 -- marks put at each of a list
-mark-of : (ms : List ℕ) (r : List Bool) (v : Marks) (e k : ℕ) → T (marked (mark ms r v) e k) → T (marked v e k) ⊎ (List·Memᴰ e ms × T (bit-of r k))
+mark-of : (ms : List ℕ) (r : List Bool) (v : Marks) (e k : ℕ) → T (marked (mark ms r v) e k)
+    → T (marked v e k) ⊎ (List·Memᴰ e ms × T (bit-of r k))
 mark-of [] r v e k h = inl h
 mark-of (m ∷ ms) r v e k h =
     elim (mark-of ms r (put v m r) e k h) [
@@ -161,7 +163,8 @@ module _ (w : Subset) where
       (mark-old (moves o (has w e)) (passed o j (getD v e [])) v s d k h)
 
   -- two lots of marks, one inside the other
-  marks-inside : (v u : Marks) → length v ≡ length u → Eight v → Eight u → ((e k : ℕ) → T (marked v e k) → T (marked u e k)) → Pairs Inside v u
+  marks-inside : (v u : Marks) → length v ≡ length u → Eight v → Eight u → ((e k : ℕ) → T (marked v e k) → T (marked u e k))
+      → Pairs Inside v u
   marks-inside [] [] l s r f = Pairs.none
   marks-inside [] (b ∷ u) l s r f = absurd (omega arith)
   marks-inside (a ∷ v) [] l s r f = absurd (omega arith)
@@ -233,7 +236,8 @@ part-first {t} {e = e} s = ap (operator t) {x = e} {y = e + 0} (omega arith) ∙
 
 part-fix : {t p : Table} {o : Operator} {e j : ℕ} → Part t (o ∷ p) e j → T (is-fix o) → Weighs t j e
 part-fix {t} {p} {o} {e} {j} s h =
-    Weighs.fixpoint (subst (λ (k : ℕ). At (fixes-from 0 t) k e) {x = j + 0} {y = j} (omega arith) (s .ranks 0 e (or-first (is-fix o) (fixes-from (suc e) p) h)))
+    Weighs.fixpoint (subst (λ (k : ℕ). At (fixes-from 0 t) k e) {x = j + 0} {y = j} (omega arith)
+    (s .ranks 0 e (or-first (is-fix o) (fixes-from (suc e) p) h)))
 
 -- what an operator passes on
 module _ (t : Table) (few : length (fixes-from 0 t) ≤ 7) where
@@ -256,11 +260,13 @@ module _ (t : Table) (few : length (fixes-from 0 t) ≤ 7) where
   unfolding passed
   passed-in o e j r g y x k h u = by (is-fix o) g
     where
-      by : (b : Bool) → (T b → Weighs t j e) → Weighs t k (cond b (min x e) x) → T (bit-of (cond b (weighs (smaller (bit-of r) (eqb j))) r) k)
+      by : (b : Bool) → (T b → Weighs t j e) → Weighs t k (cond b (min x e) x)
+          → T (bit-of (cond b (weighs (smaller (bit-of r) (eqb j))) r) k)
       by true g v =
           let l = weighs-lt t few v in
           subst⁻¹ T (weighs-bit (smaller (bit-of r) (eqb j)) k l)
-          (smaller-in (bit-of r) (eqb j) y j k (weighs-lt t few u) (weighs-lt t few (g tt)) h (eqb-refl j) (weighs-rank t few (weighs-min t few u (g tt)) v))
+          (smaller-in (bit-of r) (eqb j) y j k (weighs-lt t few u) (weighs-lt t few (g tt)) h (eqb-refl j)
+          (weighs-rank t few (weighs-min t few u (g tt)) v))
       by false g v = subst (λ (l : ℕ). T (bit-of r l)) (weighs-rank t few u v) h
 
   module _ (w : Subset) (f : ℕ) where
@@ -286,7 +292,8 @@ module _ (t : Table) (few : length (fixes-from 0 t) ≤ 7) where
         ])
 
     -- a sweep marks what a move from a mark leads to
-    sweep-closed : (p : Table) (e j : ℕ) → Part t p e j → (v u : Marks) → Eight v → ((d k : ℕ) → T (marked (sweep p w e j v) d k) → T (marked u d k))
+    sweep-closed : (p : Table) (e j : ℕ) → Part t p e j → (v u : Marks) → Eight v
+        → ((d k : ℕ) → T (marked (sweep p w e j v) d k) → T (marked u d k))
         → (i d m y x k : ℕ) → d ≡ e + i → T (marked v d y) → Weighs t y x → List·Memᴰ m (moves (operator p i) (has w d)) → m < length v
         → Weighs t k (cond (is-fix (operator p i)) (min x d) x) → T (marked u m k)
     unfolding passed
@@ -297,11 +304,13 @@ module _ (t : Table) (few : length (fixes-from 0 t) ≤ 7) where
         g m k
         (sweep-old w p (suc e) (cond (is-fix o) (suc j) j) (swept w o e j v) (mark-eight (moves o (has w e)) (passed o j r) v h) m k
         (mark-new (moves o (has w e)) (passed o j r) v h m k (subst (λ (i : ℕ). List·Memᴰ m (moves o (has w i))) z c) l (weighs-lt t few n)
-        (passed-in o e j r (part-fix s) y x k (subst (λ (i : ℕ). T (marked v i y)) z a) b (subst (λ (i : ℕ). Weighs t k (cond (is-fix o) (min x i) x)) z n))))
+        (passed-in o e j r (part-fix s) y x k (subst (λ (i : ℕ). T (marked v i y)) z a) b
+        (subst (λ (i : ℕ). Weighs t k (cond (is-fix o) (min x i) x)) z n))))
     sweep-closed (o ∷ p) e j s v u h g (suc i) d m y x k q a b c l n =
         let r = getD v e [] in
         let ms = moves o (has w e) in
-        sweep-closed p (suc e) (cond (is-fix o) (suc j) j) (rest s) (swept w o e j v) u (mark-eight ms (passed o j r) v h) g i d m y x k (omega arith)
+        sweep-closed p (suc e) (cond (is-fix o) (suc j) j) (rest s) (swept w o e j v) u (mark-eight ms (passed o j r) v h) g i d m y x k
+        (omega arith)
         (mark-old ms (passed o j r) v h d y a) b c (omega (arith, mark-length ms (passed o j r) v)) n
 
     -- before the first sweep f alone is marked, with priority none
@@ -336,8 +345,12 @@ module _ (t : Table) (few : length (fixes-from 0 t) ≤ 7) where
 
         by : Dec (e ≡ f) → (x : ℕ) × Weighs t k x × Comes t w f e x
         by (yes q) =
-            let a : T (bit-of (weighs (eqb 7)) k) = subst (λ (r : List Bool). T (bit-of r k)) (ap (λ (i : ℕ). getD start i []) q ∙ start-row (omega (arith, inside))) h in
-            (length t, subst (λ (l : ℕ). Weighs t l (length t)) (eqb→eq 7 k (weighs-at (eqb 7) k a .1)) Weighs.none, subst⁻¹ (λ (i : ℕ). Comes t w f i (length t)) q Comes.begin)
+            let a : T (bit-of (weighs (eqb 7)) k) =
+            subst (λ (r : List Bool). T (bit-of r k)) (ap (λ (i : ℕ). getD start i []) q ∙ start-row (omega (arith, inside))) h in (
+              length t,
+              subst (λ (l : ℕ). Weighs t l (length t)) (eqb→eq 7 k (weighs-at (eqb 7) k a .1)) Weighs.none,
+              subst⁻¹ (λ (i : ℕ). Comes t w f i (length t)) q Comes.begin,
+            )
         by (no q) =
             let r = getD-set-other (map (λ (o : Operator). blank) t) f e (weighs (eqb 7)) [] q ∙ blank-row e inside in
             absurd (weighs-at (λ x. false) k (subst (λ (r : List Bool). T (bit-of r k)) r h) .1)
@@ -366,7 +379,8 @@ module _ (t : Table) (few : length (fixes-from 0 t) ≤ 7) where
     reached-rest : sweep t w 0 0 (reached t w f) ≡ reached t w f
     unfolding passed
     reached-rest =
-        comes-to-rest (sweep t w 0 0) Shape shape-kept (missing w) (λ v s. sweep-less w t v (s .1)) (8 * length t) start (start-length, start-eight)
+        comes-to-rest (sweep t w 0 0) Shape shape-kept (missing w) (λ v s. sweep-less w t v (s .1)) (8 * length t) start
+        (start-length, start-eight)
         (omega (arith, missing-few w start start-eight, start-length))
 
     -- and everywhere where they come.

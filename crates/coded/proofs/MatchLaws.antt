@@ -6,7 +6,9 @@
 use mathlib.Core.Path.{_≡_, refl, sym, ap, subst, subst⁻¹, _∙_}
 use mathlib.Core.Logic.{_⊎_, inl, inr}
 use mathlib.Core.Bool.{Bool, cond}
-use mathlib.Core.List.{List, [], _∷_, _++_, map, append-nil, append-assoc, List·Memᴰ, List·Memᴰ·head, List·Memᴰ·tail, List·Memᴰ·not-nil, List·Memᴰ·cases-cons, List·Memᴰ·append-cases, List·Memᴰ·eq-of-singleton, Memᴰ·append-left, Memᴰ·append-right}
+use mathlib.Core.List.{List, [], _∷_, _++_, map, append-nil, append-assoc, List·Memᴰ, List·Memᴰ·head, List·Memᴰ·tail}
+use mathlib.Core.List.{List·Memᴰ·not-nil, List·Memᴰ·cases-cons, List·Memᴰ·append-cases, List·Memᴰ·eq-of-singleton, Memᴰ·append-left}
+use mathlib.Core.List.{Memᴰ·append-right}
 use Prim.Native.Nat.{ℕ, zero, suc, _+_, _≤_, _<_}
 use native.Mathlib.Omega.{arith}
 use lib.Dec.{T}
@@ -32,13 +34,16 @@ fresh-seen : {L K : Type 0} (same : K → K → Bool) (edges : K → List (Edge 
 fresh-seen same edges s r [] f g = refl
 fresh-seen {L} {K} same edges s r (x ∷ xs) f g =
     let q : Item L K → Bool = λ y. same (x .at) (y .at) in
-    let e : seen-in same edges s (x .at) ≡ seen-in same edges r (x .at) = same-truth (any q s) (any q r) (any-ext q s r f) (any-ext q r s g) in
+    let e : seen-in same edges s (x .at) ≡ seen-in same edges r (x .at) =
+    same-truth (any q s) (any q r) (any-ext q s r f) (any-ext q r s g) in
     ap (λ (b : Bool). cond b (fresh same edges s xs) (x ∷ fresh same edges (x ∷ s) xs)) e
-    ∙ ap (λ (l : List (Item L K)). cond (seen-in same edges r (x .at)) l (x ∷ fresh same edges (x ∷ s) xs)) (fresh-seen same edges s r xs f g)
+    ∙ ap (λ (l : List (Item L K)). cond (seen-in same edges r (x .at)) l (x ∷ fresh same edges (x ∷ s) xs))
+    (fresh-seen same edges s r xs f g)
     ∙ ap (λ (l : List (Item L K)). cond (seen-in same edges r (x .at)) (fresh same edges r xs) (x ∷ l))
     (fresh-seen same edges (x ∷ s) (x ∷ r) xs (one-more f) (one-more g))
   where
-    one-more : {a b : List (Item L K)} → ((y : Item L K) → List·Memᴰ y a → List·Memᴰ y b) → (y : Item L K) → List·Memᴰ y (x ∷ a) → List·Memᴰ y (x ∷ b)
+    one-more : {a b : List (Item L K)} → ((y : Item L K) → List·Memᴰ y a → List·Memᴰ y b) → (y : Item L K) → List·Memᴰ y (x ∷ a)
+        → List·Memᴰ y (x ∷ b)
     one-more h y m = elim (List·Memᴰ·cases-cons m) [ inl e ↦ List·Memᴰ·head e | inr r ↦ List·Memᴰ·tail (h y r) ]
 
 walk-length : {L K : Type 0} (same : K → K → Bool) (edges : K → List (Edge L K)) (fuel : ℕ) (done queue : List (Item L K))
@@ -122,7 +127,8 @@ module _ {L K M J : Type 0} (letter : L → M) (Codes : J → K → Type 0) wher
       parent-before f e = elim (f .way) [ inl h ↦ omega (arith, h .0) | inr g ↦ omega (arith, g .2, at-lt (g .3)) ]
 
   -- a way's letters are the labels along the parents
-  upto-letters : (fuel : ℕ) {xs : List (Numbered M J)} {ys : List (Item L K)} → Matches xs ys → {i : ℕ} {y : Item L K} → At ys i y → i < fuel
+  upto-letters : (fuel : ℕ) {xs : List (Numbered M J)} {ys : List (Item L K)} → Matches xs ys → {i : ℕ} {y : Item L K} → At ys i y
+      → i < fuel
       → labels-upto fuel xs (suc i) ≡ letters y
   upto-letters zero m a l = absurd (omega arith)
   upto-letters (suc fuel) {xs} {ys} m {i} {y} a l =
@@ -131,7 +137,8 @@ module _ {L K M J : Type 0} (letter : L → M) (Codes : J → K → Type 0) wher
       ap (after (labels-upto fuel xs)) d
       ∙ elim (f .way) [
         | inl e ↦
-            ap (λ (n : ℕ). labels-upto fuel xs n ++ (x .label ∷ [])) (e .0) ∙ ap (λ (s : List M). s ++ (x .label ∷ [])) (labels-none fuel xs) ∙ sym (e .1)
+            ap (λ (n : ℕ). labels-upto fuel xs n ++ (x .label ∷ [])) (e .0)
+            ∙ ap (λ (s : List M). s ++ (x .label ∷ [])) (labels-none fuel xs) ∙ sym (e .1)
         | inr e ↦
             ap (λ (n : ℕ). labels-upto fuel xs n ++ (x .label ∷ [])) (e .2)
             ∙ ap (λ (s : List M). s ++ (x .label ∷ [])) (upto-letters fuel m (e .3) (omega (arith, e .2)))
@@ -142,7 +149,8 @@ module _ {L K M J : Type 0} (letter : L → M) (Codes : J → K → Type 0) wher
       → labels-to xs (suc i) ≡ letters y
   labels-letters m {i} a = upto-letters (suc i) m a (omega arith)
 
-  module _ (same : K → K → Bool) (edges : K → List (Edge L K)) (sound : (a b : K) → T (same a b) → a ≡ b) (reflexive : (a : K) → T (same a a))
+  module _ (same : K → K → Bool) (edges : K → List (Edge L K)) (sound : (a b : K) → T (same a b) → a ≡ b)
+      (reflexive : (a : K) → T (same a a))
       (same′ : J → J → Bool) (sound′ : (a b : J) → T (same′ a b) → a ≡ b) (reflexive′ : (a : J) → T (same′ a a))
       (one-k : (j : J) (k l : K) → Codes j k → Codes j l → k ≡ l) (one-j : (i j : J) (k : K) → Codes i k → Codes j k → i ≡ j)
     where
@@ -192,7 +200,8 @@ module _ {L K M J : Type 0} (letter : L → M) (Codes : J → K → Type 0) wher
           (λ z m. elim (List·Memᴰ·cases-cons m) [ inl e ↦ Memᴰ·append-right ys (List·Memᴰ·head e) | inr a ↦ Memᴰ·append-left (y ∷ []) a ]))
 
       -- what is added on the one side is what is new on the other
-      pub adds-matches : {all s fs : List (Item L K)} {es : List (Numbered M J)} → Thins all s es fs → {xs : List (Numbered M J)} {ys : List (Item L K)}
+      pub adds-matches : {all s fs : List (Item L K)} {es : List (Numbered M J)} → Thins all s es fs
+          → {xs : List (Numbered M J)} {ys : List (Item L K)}
           → Matches xs ys → ((x : Numbered M J) (y : Item L K) → Follows all x y → Follows ys x y) → ((k : K) → Visits k s → Visits k ys)
           → Matches (adds same′ xs es) (ys ++ fresh same edges ys fs)
       adds-matches none {xs} {ys} m grow in-all = subst⁻¹ (Matches xs) (append-nil ys) m
@@ -206,7 +215,8 @@ module _ {L K M J : Type 0} (letter : L → M) (Codes : J → K → Type 0) wher
           (λ t q.
           subst⁻¹ (λ (b : Bool). Matches (adds same′ (cond b xs (xs ++ (x ∷ []))) es) (ys ++ fresh same edges ys fs)) q
           (adds-matches r m grow
-          (λ k v. elim (visits-cons v) [ inl d ↦ subst⁻¹ (λ (a : K). Visits a ys) d (seen-visits same edges sound ys (y .at) t) | inr u ↦ in-all k u ])))
+          (λ k v. elim (visits-cons v)
+          [ inl d ↦ subst⁻¹ (λ (a : K). Visits a ys) d (seen-visits same edges sound ys (y .at) t) | inr u ↦ in-all k u ])))
           (λ n q.
           subst⁻¹ (λ (b : Bool). Matches (adds same′ (cond b xs (xs ++ (x ∷ []))) es) (ys ++ (y ∷ fresh same edges (y ∷ ys) fs))) q
           (subst (Matches (adds same′ (xs ++ (x ∷ [])) es)) (last-first ys y fs)
@@ -219,26 +229,33 @@ module _ {L K M J : Type 0} (letter : L → M) (Codes : J → K → Type 0) wher
           e
       adds-matches (skip {y} {xs = es} {ys = fs} v r) {xs} {ys} m grow in-all =
           let (z, i, j) = in-all (y .at) v in
-          let t : T (seen-in same edges ys (y .at)) = any-in (λ w. same (y .at) (w .at)) i (subst (λ (a : K). T (same (y .at) a)) j (reflexive (y .at))) in
-          subst⁻¹ (λ (b : Bool). Matches (adds same′ xs es) (ys ++ cond b (fresh same edges ys fs) (y ∷ fresh same edges (y ∷ ys) fs))) (of-T (seen-in same edges ys (y .at)) t)
+          let t : T (seen-in same edges ys (y .at)) =
+          any-in (λ w. same (y .at) (w .at)) i (subst (λ (a : K). T (same (y .at) a)) j (reflexive (y .at))) in
+          subst⁻¹ (λ (b : Bool). Matches (adds same′ xs es) (ys ++ cond b (fresh same edges ys fs) (y ∷ fresh same edges (y ∷ ys) fs)))
+          (of-T (seen-in same edges ys (y .at)) t)
           (adds-matches r m grow in-all)
 
       module _ (onward′ : ℕ → Numbered M J → List (Numbered M J))
           (expands : (all : List (Item L K)) (p : ℕ) (x : Numbered M J) (y : Item L K) → At all p y → Codes (x .at) (y .at)
           → Thins all [] (onward′ p x) (onwards same edges y))
         where
-          settled : (fuel′ : ℕ) (done : List (Item L K)) (xs : List (Numbered M J)) → Matches xs (done ++ []) → spread same′ onward′ fuel′ (length done) xs ≡ xs
-          settled fuel′ done xs m = spread-done same′ onward′ fuel′ (length done) xs (omega (arith, matches-length m, length-append done []))
+          settled : (fuel′ : ℕ) (done : List (Item L K)) (xs : List (Numbered M J)) → Matches xs (done ++ [])
+              → spread same′ onward′ fuel′ (length done) xs ≡ xs
+          settled fuel′ done xs m =
+              spread-done same′ onward′ fuel′ (length done) xs (omega (arith, matches-length m, length-append done []))
 
           -- the searches from a state of the one and of the other, each with fuel enough
           walk-matches : (fuel fuel′ : ℕ) (done queue : List (Item L K)) (xs : List (Numbered M J)) → Matches xs (done ++ queue)
-              → length (walk same edges fuel done queue) ≤ fuel + length done → length (walk same edges fuel done queue) ≤ fuel′ + length done
+              → length (walk same edges fuel done queue) ≤ fuel + length done → length (walk same edges fuel done queue) ≤ fuel′ +
+              length done
               → Matches (spread same′ onward′ fuel′ (length done) xs) (walk same edges fuel done queue)
           walk-matches zero fuel′ done (y ∷ queue) xs m h k = absurd (omega (arith, length-append done (y ∷ queue)))
-          walk-matches zero fuel′ done [] xs m h k = subst⁻¹ (λ (l : List (Numbered M J)). Matches l (done ++ [])) (settled fuel′ done xs m) m
+          walk-matches zero fuel′ done [] xs m h k =
+              subst⁻¹ (λ (l : List (Numbered M J)). Matches l (done ++ [])) (settled fuel′ done xs m) m
           walk-matches (suc fuel) fuel′ done [] xs m h k =
               subst⁻¹ (λ (l : List (Numbered M J)). Matches l done) (settled fuel′ done xs m) (subst (Matches xs) (append-nil done) m)
-          walk-matches (suc fuel) zero done (y ∷ queue) xs m h k = absurd (omega (arith, walk-length same edges (suc fuel) done (y ∷ queue)))
+          walk-matches (suc fuel) zero done (y ∷ queue) xs m h k =
+              absurd (omega (arith, walk-length same edges (suc fuel) done (y ∷ queue)))
           walk-matches (suc fuel) (suc fuel′) done (y ∷ queue) xs m h k =
               let all = done ++ (y ∷ queue) in
               let new = new-items same edges y done queue in
@@ -248,12 +265,15 @@ module _ {L K M J : Type 0} (letter : L → M) (Codes : J → K → Type 0) wher
               let longer = length-append done (y ∷ []) in
               let both : Matches (adds same′ xs (onward′ (length done) x)) (all ++ new) =
               adds-matches (expands all (length done) x y here (f .codes)) m (λ z w g. g) (λ j v. absurd (List·Memᴰ·not-nil (v .1))) in
-              subst⁻¹ (λ (l : List (Numbered M J)). Matches (spread-on same′ onward′ (spread same′ onward′ fuel′ (suc (length done))) (length done) xs l)
+              subst⁻¹ (λ (l : List (Numbered M J)). Matches
+              (spread-on same′ onward′ (spread same′ onward′ fuel′ (suc (length done))) (length done) xs l)
               (walk same edges fuel (done ++ (y ∷ [])) (queue ++ new))) e
-              (subst (λ (n : ℕ). Matches (spread same′ onward′ fuel′ n (adds same′ xs (onward′ (length done) x))) (walk same edges fuel (done ++ (y ∷ [])) (queue ++ new)))
+              (subst (λ (n : ℕ). Matches (spread same′ onward′ fuel′ n (adds same′ xs (onward′ (length done) x)))
+              (walk same edges fuel (done ++ (y ∷ [])) (queue ++ new)))
               {x = length (done ++ (y ∷ []))} {y = suc (length done)} (omega arith)
               (walk-matches fuel fuel′ (done ++ (y ∷ [])) (queue ++ new) (adds same′ xs (onward′ (length done) x))
-              (subst⁻¹ (Matches (adds same′ xs (onward′ (length done) x))) (regroup same edges y done queue new) both) (omega arith) (omega arith)))
+              (subst⁻¹ (Matches (adds same′ xs (onward′ (length done) x))) (regroup same edges y done queue new) both) (omega arith)
+              (omega arith)))
 
           -- from candidates for the starts, one for one
           pub search-matches : (fuel fuel′ : ℕ) (starts : List (Item L K)) (es : List (Numbered M J)) → Thins [] [] es starts
@@ -264,7 +284,8 @@ module _ {L K M J : Type 0} (letter : L → M) (Codes : J → K → Type 0) wher
               (adds-matches r none (λ z w g. g) (λ j v. v)) (omega arith) (omega arith)
 
 -- candidates that are paired one for one
-pub pairs-thins : {L K M J : Type 0} {letter : L → M} {Codes : J → K → Type 0} {all : List (Item L K)} {xs : List (Numbered M J)} {ys : List (Item L K)}
+pub pairs-thins : {L K M J : Type 0} {letter : L → M} {Codes : J → K → Type 0} {all : List (Item L K)} {xs : List (Numbered M J)}
+    {ys : List (Item L K)}
     → Pairs (Follows letter Codes all) xs ys → (s : List (Item L K)) → Thins letter Codes all s xs ys
 pairs-thins Pairs.none s = Thins.none
 pairs-thins (Pairs.more {y = y} f p) s = Thins.both f (pairs-thins p (y ∷ s))

@@ -63,7 +63,8 @@ module _ (t : Table) where
       nodes-reachable t (x, at-in b, sym e)
 
   -- where a transition of a node leads
-  pub leads-in : {j : ℕ} {v : Subset} (s : Transition) → At node-sets j v → List·Memᴰ s (transitions t v) → At node-sets (number-of node-sets (s .to)) (s .to)
+  pub leads-in : {j : ℕ} {v : Subset} (s : Transition) → At node-sets j v → List·Memᴰ s (transitions t v)
+      → At node-sets (number-of node-sets (s .to)) (s .to)
   leads-in s a m =
       let (x, r, e) = nodes-all t (by-transition (node-reachable a) m) in
       number-at node-sets (Memᴰ·cast e (Memᴰ·map set-at r))
@@ -76,7 +77,8 @@ module _ (t : Table) where
 
   -- a node that is not the root is among the others
   pub other-visits : {i : ℕ} {v : Subset} → At node-sets i v → 0 < i → Visits v (tail (nodes t))
-  other-visits a l = others-all t (node-reachable a) (λ q. absurd (omega (arith, one-number (nodes t) (nodes-distinct t) a (subst⁻¹ (At node-sets 0) q root-first))))
+  other-visits a l = others-all t (node-reachable a)
+      (λ q. absurd (omega (arith, one-number (nodes t) (nodes-distinct t) a (subst⁻¹ (At node-sets 0) q root-first))))
 
   -- equal numbers, equal nodes
   pub same-numbers : {i j : ℕ} {u v : Subset} → At node-sets i u → At node-sets j v → eqb i j ≡ same-subset u v

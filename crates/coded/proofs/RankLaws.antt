@@ -68,13 +68,17 @@ fixes-all [] e d f = absurd f
 fixes-all (o ∷ t) e zero f =
     (0, subst (At (fixes-from e (o ∷ t)) 0) {x = e} {y = e + 0} (omega arith) (or-first (is-fix o) (fixes-from (suc e) t) f))
 fixes-all (o ∷ t) e (suc d) f =
-    let (i, a) = fixes-all t (suc e) d f in
-    (cond (is-fix o) (suc i) i, subst (At (fixes-from e (o ∷ t)) (cond (is-fix o) (suc i) i)) {x = suc e + d} {y = e + suc d} (omega arith) (or-rest (is-fix o) e a))
+    let (i, a) = fixes-all t (suc e) d f in (
+      cond (is-fix o) (suc i) i,
+      subst (At (fixes-from e (o ∷ t)) (cond (is-fix o) (suc i) i)) {x = suc e + d} {y = e + suc d}
+          (omega arith) (or-rest (is-fix o) e a),
+    )
 
 -- by rising number
 fixes-rise : (t : Table) (e : ℕ) {i j x y : ℕ} → At (fixes-from e t) i x → At (fixes-from e t) j y → i < j → x < y
 fixes-rise [] e a b l = absurd (omega (arith, at-lt a))
-fixes-rise (o ∷ t) e {i} {j} {x} {y} a b l = both (is-fix o) (first-or (is-fix o) a) (first-or (is-fix o) b) (λ k m c d. fixes-rise t (suc e) c d)
+fixes-rise (o ∷ t) e {i} {j} {x} {y} a b l =
+    both (is-fix o) (first-or (is-fix o) a) (first-or (is-fix o) b) (λ k m c d. fixes-rise t (suc e) c d)
   where
     both : (b : Bool) → (T b × (i ≡ 0) × (x ≡ e)) ⊎ ((k : ℕ) × At (fixes-from (suc e) t) k x × (i ≡ cond b (suc k) k))
         → (T b × (j ≡ 0) × (y ≡ e)) ⊎ ((k : ℕ) × At (fixes-from (suc e) t) k y × (j ≡ cond b (suc k) k))
@@ -95,10 +99,13 @@ leasts-length (o ∷ t) e = by (is-fix o) (leasts-length t (suc e))
 
 priorities-are : (t : Table) (e : ℕ) → priorities-from e t ≡ fixes-from e t ++ ((e + length t) ∷ [])
 priorities-are [] e = ap (λ (n : ℕ). n ∷ []) {x = e} {y = e + 0} (omega arith)
-priorities-are (o ∷ t) e = by (is-fix o) (priorities-are t (suc e) ∙ ap (λ (n : ℕ). fixes-from (suc e) t ++ (n ∷ [])) {x = suc e + length t} {y = e + suc (length t)} (omega arith))
+priorities-are (o ∷ t) e =
+    by (is-fix o) (priorities-are t (suc e) ∙ ap (λ (n : ℕ). fixes-from (suc e) t ++ (n ∷ [])) {x = suc e + length t}
+    {y = e + suc (length t)} (omega arith))
   where
     by : (b : Bool) → priorities-from (suc e) t ≡ fixes-from (suc e) t ++ ((e + suc (length t)) ∷ [])
-        → cond b (e ∷ priorities-from (suc e) t) (priorities-from (suc e) t) ≡ cond b (e ∷ fixes-from (suc e) t) (fixes-from (suc e) t) ++ ((e + suc (length t)) ∷ [])
+        → cond b (e ∷ priorities-from (suc e) t) (priorities-from (suc e) t) ≡ cond b (e ∷ fixes-from (suc e) t) (fixes-from (suc e) t)
+        ++ ((e + suc (length t)) ∷ [])
     by true q = ap (λ (l : List ℕ). e ∷ l) q
     by false q = q
 

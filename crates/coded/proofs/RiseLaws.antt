@@ -33,7 +33,8 @@ rise-up r = record { rises = r .rises; below = λ p. omega (arith, r .below p) }
 rise-one : {k : ℕ} (xs : List Found) (z : Found) → z .at .first ≡ k → Rise k xs → Rise k (xs ++ (z ∷ []))
 rise-one {k} xs z e r = record {
   rises = λ p q l. elim (at-split xs z p) [
-    | inl u ↦ elim (at-split xs z q) [ inl v ↦ r .rises u v l | inr v ↦ omega (arith, r .below u, e, ap (λ (y : Found). y .at .first) (v .1)) ]
+    | inl u ↦ elim (at-split xs z q)
+        [ inl v ↦ r .rises u v l | inr v ↦ omega (arith, r .below u, e, ap (λ (y : Found). y .at .first) (v .1)) ]
     | inr u ↦ elim (at-split xs z q) [
       | inl v ↦ absurd (omega (arith, at-lt v, u .0))
       | inr v ↦ omega (arith, ap (λ (y : Found). y .at .first) (u .1), ap (λ (y : Found). y .at .first) (v .1))
@@ -47,7 +48,8 @@ rise-add true xs z e r = r
 rise-add false xs z e r = rise-one xs z e r
 
 -- what is made of transitions, all with the same first node
-rise-adds : {k : ℕ} (f : Transition → Found) → ((s : Transition) → f s .at .first ≡ k) → (xs : List Found) (ss : List Transition) → Rise k xs
+rise-adds : {k : ℕ} (f : Transition → Found) → ((s : Transition) → f s .at .first ≡ k) → (xs : List Found) (ss : List Transition)
+    → Rise k xs
     → Rise k (adds same-profile xs (map f ss))
 rise-adds f e xs [] r = r
 rise-adds f e xs (s ∷ ss) r = rise-adds f e (add same-profile xs (f s)) ss (rise-add (seen same-profile (f s .at) xs) xs (f s) (e s) r)

@@ -28,8 +28,10 @@ use Rattle.profile.proofs.ProfileLaws.{profile-sound, profile-refl, few}
 use Rattle.coded.specs.Spread.{adds, spread}
 use Rattle.coded.specs.Triples.{same-triples, join}
 use Rattle.coded.specs.Marks.{triples}
-use Rattle.coded.specs.Runs.{Profile, same-profile, Found, follow, longer, number-of, single-of, ones-from, ones, profiles-from, profiles}
-use Rattle.coded.proofs.NodeNumbers.{sets, tail-sets, one-number, node-sets, root-first, leads-in, others, other-visits, same-numbers}
+use Rattle.coded.specs.Runs.{Profile, same-profile, Found, follow, longer, number-of, single-of, ones-from, ones, profiles-from}
+use Rattle.coded.specs.Runs.{profiles}
+use Rattle.coded.proofs.NodeNumbers.{sets, tail-sets, one-number, node-sets, root-first, leads-in, others, other-visits}
+use Rattle.coded.proofs.NodeNumbers.{same-numbers}
 use Rattle.coded.proofs.TriplesLaws.{same-triples-sound, same-triples-refl}
 use Rattle.coded.proofs.CarryLaws.{Carries, carries-set, carries-table, carries-join}
 use Rattle.coded.proofs.TableLaws.{Formed, carries-triples}
@@ -51,7 +53,8 @@ same-refl : (a : Profile) → T (same-profile a a)
 same-refl a =
     let u = eqb (a .first) (a .first) in
     let v = eqb (a .last) (a .last) in
-    and-both (u && v) (same-triples (a .carried) (a .carried)) (and-both u v (eqb-refl (a .first)) (eqb-refl (a .last))) (same-triples-refl (a .carried))
+    and-both (u && v) (same-triples (a .carried) (a .carried)) (and-both u v (eqb-refl (a .first)) (eqb-refl (a .last)))
+    (same-triples-refl (a .carried))
 
 -- of lists for each node, those of one node alone
 gather-append : {A B : Type 0} (f : A → List B) (xs ys : List A) → gather f (xs ++ ys) ≡ gather f xs ++ gather f ys
@@ -148,7 +151,8 @@ module _ (t : Table) where
         let z = carries-table t (formed .few) (a .carried) (b .carried) (c .carried) (p .carried) (q .carried) in
         λ i. record { first = x i; last = y i; carried = z i }
 
-    leads-on : {j : ℕ} {v : Subset} (s : Transition) → At (node-sets t) j v → List·Memᴰ s (transitions t v) → 0 < number-of (node-sets t) (s .to)
+    leads-on : {j : ℕ} {v : Subset} (s : Transition) → At (node-sets t) j v → List·Memᴰ s (transitions t v)
+        → 0 < number-of (node-sets t) (s .to)
     leads-on {v = v} s a m = by (number-of (node-sets t) (s .to)) (leads-in t s a m)
       where
         by : (i : ℕ) → At (node-sets t) i (s .to) → 0 < i
@@ -164,11 +168,13 @@ module _ (t : Table) where
     ones-pairs : {D : Type 0} (P : Found → D → Type 0) (h : Subset → Transition → D) (xs : List (Item Transition Subset)) (i : ℕ)
         → ((k : ℕ) (x : Item Transition Subset) → At xs k x → At (node-sets t) (i + k) (x .at))
         → ((j : ℕ) (v : Subset) (s : Transition) → At (node-sets t) j v → List·Memᴰ s (transitions t v) → P (one j v s) (h v s))
-        → Pairs P (ones-from t (node-sets t) i (sets xs)) (gather (λ (x : Item Transition Subset). map (h (x .at)) (transitions t (x .at))) xs)
+        → Pairs P (ones-from t (node-sets t) i (sets xs))
+        (gather (λ (x : Item Transition Subset). map (h (x .at)) (transitions t (x .at))) xs)
     unfolding triples transitions
     ones-pairs P h [] i f g = Pairs.none
     ones-pairs P h (x ∷ xs) i f g =
-        let a : At (node-sets t) i (x .at) = subst (λ (n : ℕ). At (node-sets t) n (x .at)) {x = i + 0} {y = i} (omega arith) (f 0 x At.here) in
+        let a : At (node-sets t) i (x .at) = subst (λ (n : ℕ). At (node-sets t) n (x .at)) {x = i + 0} {y = i} (omega arith)
+        (f 0 x At.here) in
         pairs-append (pairs-maps (one i (x .at)) (h (x .at)) (transitions t (x .at)) (λ s m. g i (x .at) s a m))
         (ones-pairs P h xs (suc i)
         (λ k y b. subst (λ (n : ℕ). At (node-sets t) n (y .at)) {x = i + suc k} {y = suc i + k} (omega arith) (f (suc k) y (At.there b))) g)
@@ -226,8 +232,10 @@ module _ (t : Table) where
                     last = d .last;
                     on = d .on;
                     carried =
-                        subst⁻¹ (λ (w : Subset). Carries t (join n (x .at .carried) (triples t v (s .choice))) (literal-triples.join t (y .at .carried) (literal-triples.triples t w (s .choice)))) q
-                        (carries-join t (formed .few) (x .at .carried) (triples t v (s .choice)) (y .at .carried) (literal-triples.triples t v (s .choice)) (c .carried)
+                        subst⁻¹ (λ (w : Subset). Carries t (join n (x .at .carried) (triples t v (s .choice)))
+                        (literal-triples.join t (y .at .carried) (literal-triples.triples t w (s .choice)))) q
+                        (carries-join t (formed .few) (x .at .carried) (triples t v (s .choice)) (y .at .carried)
+                        (literal-triples.triples t v (s .choice)) (c .carried)
                         (d .carried));
                   };
               way = inr (y, p, refl, here, map-append letter (y .way) (s ∷ []));
@@ -267,10 +275,12 @@ module _ (t : Table) where
         unfolding join literal-triples.triples literal-triples.join transitions
         expands =
             let (kept, e, thin) = adds-thin same-profile same-sound [] [] all-ones (λ z m. m) in
-            subst⁻¹ (λ (l : List Found). Thins letter Codes all [] (gather (follow n p x) l) (onwards literal.same-profile (literal.profile-edges t) y))
+            subst⁻¹ (λ (l : List Found). Thins letter Codes all [] (gather (follow n p x) l)
+            (onwards literal.same-profile (literal.profile-edges t) y))
             (ones-are ∙ e)
             (subst (Thins letter Codes all [] (gather (follow n p x) kept))
-            (one-picked u (transitions t) next (tail (nodes t)) (later (subst Distinct (nodes-first t) (nodes-distinct t))) (other-visits t (c .last) (c .on))
+            (one-picked u (transitions t) next (tail (nodes t)) (later (subst Distinct (nodes-first t) (nodes-distinct t)))
+            (other-visits t (c .last) (c .on))
             ∙ sym (map-again (onward literal.same-profile (literal.profile-edges t) y) (literal.longer t (y .at)) (transitions t u)))
             (gather-thins letter Codes one-profile all (follow n p x) follows-alike thin
             (ones-pairs (Steps letter Codes one-profile all (follow n p x)) (picked u (transitions t) next) (tail (nodes t)) 1
@@ -282,6 +292,9 @@ module _ (t : Table) where
         → Matches letter Codes (profiles fuel t (node-sets t)) (literal.profiles t (nodes t))
     unfolding profiles profiles-from join literal.profiles literal-triples.triples literal-triples.join transitions
     profiles-match fuel h =
-        subst⁻¹ (λ (l : List Found). Matches letter Codes (spread same-profile (longer (length (operands t)) (ones t (node-sets t))) fuel 0 l) (literal.profiles t (nodes t))) ones-are
-        (search-matches letter Codes literal.same-profile (literal.profile-edges t) profile-sound profile-refl same-profile same-sound same-refl one-profile one-code
-        (longer (length (operands t)) (ones t (node-sets t))) expands (literal.profile-room t (length (nodes t))) fuel starts all-ones start-thins (omega (arith, few t)) h)
+        subst⁻¹ (λ (l : List Found). Matches letter Codes
+        (spread same-profile (longer (length (operands t)) (ones t (node-sets t))) fuel 0 l) (literal.profiles t (nodes t))) ones-are
+        (search-matches letter Codes literal.same-profile (literal.profile-edges t) profile-sound profile-refl same-profile same-sound
+        same-refl one-profile one-code
+        (longer (length (operands t)) (ones t (node-sets t))) expands (literal.profile-room t (length (nodes t))) fuel starts all-ones
+        start-thins (omega (arith, few t)) h)

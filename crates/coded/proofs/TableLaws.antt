@@ -53,7 +53,8 @@ table-of n s p q r =
     (λ g _ hg. values-are false (getD (getD s f []) g []) 8 (r f g (omega arith) (omega arith))))
 
 -- the next operators and their operands
-operands-are : (p : Table) (e : ℕ) → ((i g : ℕ) → List·Memᴰ g (next-of (operator p i)) → g ≡ suc (e + i)) → operands p ≡ map suc (nexts-from e p)
+operands-are : (p : Table) (e : ℕ) → ((i g : ℕ) → List·Memᴰ g (next-of (operator p i)) → g ≡ suc (e + i))
+    → operands p ≡ map suc (nexts-from e p)
 operands-are [] e f = refl
 operands-are (Operator.leaf l ∷ p) e f = operands-are p (suc e) (λ i g m. f (suc i) g m ∙ omega arith)
 operands-are (Operator.variable b ∷ p) e f = operands-are p (suc e) (λ i g m. f (suc i) g m ∙ omega arith)
@@ -64,7 +65,8 @@ operands-are (Operator.next h ∷ p) e f =
     λ i. q i ∷ r i
 operands-are (Operator.fix b l ∷ p) e f = operands-are p (suc e) (λ i g m. f (suc i) g m ∙ omega arith)
 
-nexts-in : (p : Table) (e : ℕ) {x : ℕ} → List·Memᴰ x (nexts-from e p) → (d g : ℕ) × (x ≡ e + d) × (d < length p) × List·Memᴰ g (next-of (operator p d))
+nexts-in : (p : Table) (e : ℕ) {x : ℕ} → List·Memᴰ x (nexts-from e p) → (d g : ℕ) × (x ≡ e + d) × (d < length p) × List·Memᴰ g
+    (next-of (operator p d))
 nexts-in [] e m = absurd (List·Memᴰ·not-nil m)
 nexts-in (o ∷ p) e m =
     elim (List·Memᴰ·append-cases (map (λ (g : ℕ). e) (next-of o)) m) [
@@ -105,7 +107,8 @@ module _ (t : Table) (formed : Formed t) where
         at = a;
         operand = refl;
         inside = next-inside a;
-        next = subst (λ (h : ℕ). List·Memᴰ h (next-of (operator t e))) (formed .after d g m .0 ∙ ap suc (sym z)) (subst⁻¹ (λ (i : ℕ). List·Memᴰ g (next-of (operator t i))) z m);
+        next = subst (λ (h : ℕ). List·Memᴰ h (next-of (operator t e))) (formed .after d g m .0 ∙ ap suc (sym z))
+            (subst⁻¹ (λ (i : ℕ). List·Memᴰ g (next-of (operator t i))) z m);
       }
 
   next-of-operand : {i g : ℕ} → Operand t i g → Next i g
@@ -126,7 +129,8 @@ module _ (t : Table) (formed : Formed t) where
 
     cell-of : (e d k : ℕ) → T (bit-of (cell e d) k) → T (has v (suc e)) × T (marked (reached t w (suc e)) d k)
     cell-of e d k =
-        by-test (has v (suc e)) (λ b. T (bit-of (cond b (getD (reached t w (suc e)) d []) blank) k) → T b × T (marked (reached t w (suc e)) d k))
+        by-test (has v (suc e)) (λ b. T (bit-of (cond b (getD (reached t w (suc e)) d []) blank) k)
+        → T b × T (marked (reached t w (suc e)) d k))
         (λ h m. (tt, m))
         (λ h m. absurd (weighs-at (λ x. false) k m .1))
 
@@ -202,7 +206,8 @@ module _ (t : Table) (formed : Formed t) where
         reached-in t (formed .few) w f (formed .ranged) (formed .after (a .number) f (a .next) .1) c k (subst⁻¹ (Weighs t k) same u) in
         subst⁻¹ T (bit-at a b k)
         (cell-in (a .number) (b .number) k (subst (λ (n : ℕ). T (has v n)) (a .operand) h)
-        (subst (λ (n : ℕ). T (marked (reached t w n) (b .number) k)) (a .operand) (subst (λ (n : ℕ). T (marked (reached t w f) n k)) here mark)))
+        (subst (λ (n : ℕ). T (marked (reached t w n) (b .number) k)) (a .operand)
+        (subst (λ (n : ℕ). T (marked (reached t w f) n k)) here mark)))
 
     -- Theorem: the table carries the triples of the transition.
     pub carries-triples : Carries t (triples t v w) (literal.triples t v w)

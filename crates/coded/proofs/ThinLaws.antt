@@ -3,7 +3,8 @@
 use mathlib.Core.Path.{_≡_, refl, sym, ap, subst, subst⁻¹, _∙_}
 use mathlib.Core.Logic.{_⊎_, inl, inr}
 use mathlib.Core.Bool.{Bool, cond}
-use mathlib.Core.List.{List, [], _∷_, _++_, append-nil, append-assoc, List·Memᴰ, List·Memᴰ·head, List·Memᴰ·tail, List·Memᴰ·cases-cons, List·Memᴰ·append-cases, List·Memᴰ·eq-of-singleton}
+use mathlib.Core.List.{List, [], _∷_, _++_, append-nil, append-assoc, List·Memᴰ, List·Memᴰ·head, List·Memᴰ·tail, List·Memᴰ·cases-cons}
+use mathlib.Core.List.{List·Memᴰ·append-cases, List·Memᴰ·eq-of-singleton}
 use Prim.Native.Nat.{ℕ}
 use native.Mathlib.Omega.{arith}
 use lib.Dec.{T}
@@ -37,7 +38,8 @@ module _ {M J : Type 0} where
         (λ n.
         let (xs, e, r) =
         adds-thin (old ++ (y ∷ [])) (y ∷ s) ys
-        (λ z m. elim (List·Memᴰ·append-cases old m) [ inl a ↦ List·Memᴰ·tail (f z a) | inr b ↦ List·Memᴰ·head (List·Memᴰ·eq-of-singleton b) ]) in
+        (λ z m. elim (List·Memᴰ·append-cases old m)
+        [ inl a ↦ List·Memᴰ·tail (f z a) | inr b ↦ List·Memᴰ·head (List·Memᴰ·eq-of-singleton b) ]) in
         (y ∷ xs, e ∙ append-assoc old (y ∷ []) xs, Thin.keep r))
 
 -- lists one after another
@@ -88,8 +90,12 @@ module _ {L K M J : Type 0} (letter : L → M) (Codes : J → K → Type 0) (one
                   (λ z m z₁ q k d.
                   elim (List·Memᴰ·cases-cons m) [
                     | inl i ↦
-                        let same : z₁ ≡ x₁ = one-only (ap follow (sym i) ∙ q) (e .2) in
-                        (y₁, List·Memᴰ·head refl, one-k (x₁ .at) k (y₁ .at) (subst (λ (w : Numbered M J). Codes (w .at) k) same d) (e .4 .codes))
+                        let same : z₁ ≡ x₁ = one-only (ap follow (sym i) ∙ q) (e .2) in (
+                          y₁,
+                          List·Memᴰ·head refl,
+                          one-k (x₁ .at) k (y₁ .at) (subst (λ (w : Numbered M J). Codes (w .at) k) same d)
+                              (e .4 .codes),
+                        )
                     | inr a ↦ visits-later y₁ (c z a z₁ q k d)
                   ]))))
             ]

@@ -65,7 +65,8 @@ module _ (q r : ℕ → Bool) where
         eqb→eq (min y z) k (and-right (r z) (eqb (min y z) k) w),
       )
 
-pub smaller-same : (a b c d : ℕ → Bool) (k : ℕ) → ((i : ℕ) → i < 8 → a i ≡ c i) → ((i : ℕ) → i < 8 → b i ≡ d i) → smaller a b k ≡ smaller c d k
+pub smaller-same : (a b c d : ℕ → Bool) (k : ℕ) → ((i : ℕ) → i < 8 → a i ≡ c i) → ((i : ℕ) → i < 8 → b i ≡ d i)
+    → smaller a b k ≡ smaller c d k
 unfolding smaller
 smaller-same a b c d k f g =
     some-same 8 (first a b k) (first c d k)
@@ -84,7 +85,8 @@ Agree n q r = (f x g : ℕ) → f < n → x < 8 → g < n → q f x g ≡ r f x 
 pub holds-those : (n : ℕ) (q : Test) → Agree n (holds (those n q)) q
 unfolding holds those
 holds-those n q f x g hf hx hg =
-    ap (λ (l : List (List Bool)). getD (getD l g []) x false) (values-at (λ f. map (λ g. map (λ x. q f x g) (numbers 0 8)) (numbers 0 n)) 0 n f [] hf)
+    ap (λ (l : List (List Bool)). getD (getD l g []) x false)
+    (values-at (λ f. map (λ g. map (λ x. q f x g) (numbers 0 8)) (numbers 0 n)) 0 n f [] hf)
     ∙ ap (λ (l : List Bool). getD l x false) (values-at (λ g. map (λ x. q (0 + f) x g) (numbers 0 8)) 0 n g [] hg)
     ∙ values-at (λ x. q (0 + f) x (0 + g)) 0 8 x false hx
     ∙ ap (λ (i : ℕ). q i (0 + x) (0 + g)) {x = 0 + f} {y = f} (omega arith)
@@ -94,7 +96,8 @@ holds-those n q f x g hf hx hg =
 pub those-same : (n : ℕ) (q r : Test) → Agree n q r → those n q ≡ those n r
 unfolding those
 those-same n q r h =
-    values-same (λ f. map (λ g. map (λ x. q f x g) (numbers 0 8)) (numbers 0 n)) (λ f. map (λ g. map (λ x. r f x g) (numbers 0 8)) (numbers 0 n)) 0 n
+    values-same (λ f. map (λ g. map (λ x. q f x g) (numbers 0 8)) (numbers 0 n))
+    (λ f. map (λ g. map (λ x. r f x g) (numbers 0 8)) (numbers 0 n)) 0 n
     (λ f _ hf. values-same (λ g. map (λ x. q f x g) (numbers 0 8)) (λ g. map (λ x. r f x g) (numbers 0 8)) 0 n
     (λ g _ hg. values-same (λ x. q f x g) (λ x. r f x g) 0 8 (λ x _ hx. h f x g (omega arith) (omega arith) (omega arith))))
 
@@ -111,7 +114,8 @@ unfolding join
 join-those n q r =
     those-same n (joins n (holds (those n q)) (holds (those n r))) (joins n q r)
     (λ f x g hf hx hg.
-    some-same n (λ m. smaller (λ y. holds (those n q) f y m) (λ z. holds (those n r) m z g) x) (λ m. smaller (λ y. q f y m) (λ z. r m z g) x)
+    some-same n (λ m. smaller (λ y. holds (those n q) f y m) (λ z. holds (those n r) m z g) x)
+    (λ m. smaller (λ y. q f y m) (λ z. r m z g) x)
     (λ m hm.
     smaller-same (λ y. holds (those n q) f y m) (λ z. holds (those n r) m z g) (λ y. q f y m) (λ z. r m z g) x
     (λ y hy. holds-those n q f y m hf hy hm) (λ z hz. holds-those n r m z g hm hz hg)))

@@ -32,7 +32,13 @@ Found = Numbered ℕ Profile
 abbrev pub follow : ℕ → ℕ → Found → Found → List Found
 unfolding join
 follow n p x s =
-    let r : Found = record { at = record { first = x .at .first; last = s .at .last; carried = join n (x .at .carried) (s .at .carried) }; parent = suc p; label = s .label } in
+    let r : Found = record {
+      at = record
+          { first = x .at .first; last = s .at .last; carried = join n (x .at .carried) (s .at .carried) };
+      parent = suc p;
+      label =
+          s .label;
+    } in
     cond (eqb (x .at .last) (s .at .first)) (r ∷ []) []
 
 -- one transition more: the profiles of one transition that begin where this one ends
@@ -52,7 +58,11 @@ number-of (u ∷ us) v = let r = suc (number-of us v) in cond (same-subset u v) 
 
 -- the profile of a transition of node i, which is the set v
 abbrev pub single-of : Table → List Subset → (i : ℕ) → Subset → Transition → Found
-single-of t ns i v s = record { at = record { first = i; last = number-of ns (s .to); carried = triples t v (s .choice) }; parent = 0; label = s .letter }
+single-of t ns i v s = record {
+  at = record { first = i; last = number-of ns (s .to); carried = triples t v (s .choice) };
+  parent = 0;
+  label = s .letter;
+}
 
 -- the runs of one transition from node i
 abbrev pub ones-of : Table → List Subset → ℕ → Subset → List Found
@@ -78,4 +88,5 @@ profiles fuel t ns = profiles-from fuel (length (operands t)) (ones t ns)
 -- back to its first node, and not rejecting
 unfoldable pub accepting : Table → Found → Bool
 unfolding rejecting
-accepting t x = let k = leasts t in eqb (x .at .first) (x .at .last) && not (rejecting (λ i. getD k i false) (length (operands t)) (x .at .carried))
+accepting t x = let k = leasts t in
+    eqb (x .at .first) (x .at .last) && not (rejecting (λ i. getD k i false) (length (operands t)) (x .at .carried))

@@ -41,7 +41,8 @@ after : {Question : Type 0} {code : ℕ} {After : Verdict → Type 0} {o : Verdi
 after (Asked.passed q a) r = a
 after (Asked.failed n) r = absurd (n r)
 
-read-of : {N M workspace buffer : ℕ} {f : Formula} {o : Verdict} → Answered N M workspace buffer (Reading.accepted f) o → Decided N M workspace buffer (table f) o
+read-of : {N M workspace buffer : ℕ} {f : Formula} {o : Verdict} → Answered N M workspace buffer (Reading.accepted f) o
+    → Decided N M workspace buffer (table f) o
 read-of (Answered.read d) = d
 
 -- nothing is refused
@@ -52,7 +53,8 @@ pub record Unrefused (N M workspace buffer : ℕ) (t : Table) : Type 0 where
   pub nodes-fit : node-count t ≤ N
   pub profiles-fit : profile-count t ≤ M
 
-fitting : {N M workspace buffer : ℕ} {t : Table} {o : Verdict} → Decided N M workspace buffer t o → Unrefused N M workspace buffer t → Concluded t o
+fitting : {N M workspace buffer : ℕ} {t : Table} {o : Verdict} → Decided N M workspace buffer t o → Unrefused N M workspace buffer t
+    → Concluded t o
 fitting d f = after (after (after (after (after d (f .capacity)) (f .workspace-fits)) (f .buffer-fits)) (f .nodes-fit)) (f .profiles-fit)
 
 module _ (bytes : List ℕ) (f : Formula) (reads : parse bytes ≡ Reading.accepted f) where
@@ -92,7 +94,8 @@ module _ (bytes : List ℕ) (f : Formula) (reads : parse bytes ≡ Reading.accep
   decided-says {o} d = asked-says (asked-says (asked-says (asked-says (asked-says (λ o c. concluded-says c))))) o d
 
 -- Theorem: a verdict that answers the questions says what is so.
-pub answered-says : {N M workspace buffer : ℕ} (bytes : List ℕ) {r : Reading Formula} {o : Verdict} → parse bytes ≡ r → Answered N M workspace buffer r o → Says bytes o
+pub answered-says : {N M workspace buffer : ℕ} (bytes : List ℕ) {r : Reading Formula} {o : Verdict} → parse bytes ≡ r
+    → Answered N M workspace buffer r o → Says bytes o
 answered-says bytes e Answered.unread = e
 answered-says bytes e (Answered.read {f} d) = decided-says bytes f e d
 
@@ -104,14 +107,17 @@ pub verdict-met : (N M workspace buffer : ℕ) (bytes : List ℕ) (stem cycle K 
     → verdict N M workspace buffer bytes ≡ Verdict.satisfiable stem cycle K P letters → Met bytes stem cycle K P letters
 verdict-met N M workspace buffer bytes stem cycle K P letters e = subst (Says bytes) e (verdict-says N M workspace buffer bytes)
 
-pub verdict-unmet : (N M workspace buffer : ℕ) (bytes : List ℕ) (K P : ℕ) → verdict N M workspace buffer bytes ≡ Verdict.unsatisfiable K P → Unmet bytes K P
+pub verdict-unmet : (N M workspace buffer : ℕ) (bytes : List ℕ) (K P : ℕ) → verdict N M workspace buffer bytes ≡ Verdict.unsatisfiable K
+    P → Unmet bytes K P
 verdict-unmet N M workspace buffer bytes K P e = subst (Says bytes) e (verdict-says N M workspace buffer bytes)
 
 -- Theorem: where nothing is refused, the verdict is MET exactly if some lasso meets the formula.
-pub verdict-exact : (N M workspace buffer : ℕ) (bytes : List ℕ) (f : Formula) → parse bytes ≡ Reading.accepted f → Unrefused N M workspace buffer (table f)
+pub verdict-exact : (N M workspace buffer : ℕ) (bytes : List ℕ) (f : Formula) → parse bytes ≡ Reading.accepted f
+    → Unrefused N M workspace buffer (table f)
     → IsMet (verdict N M workspace buffer bytes) ↔ ((c : Lasso) × (meets c f ≡ true))
 verdict-exact N M workspace buffer bytes f e fits =
-    exact (fitting (read-of (subst (λ (r : Reading Formula). Answered N M workspace buffer r (verdict N M workspace buffer bytes)) e (verdict-answered N M workspace buffer bytes))) fits)
+    exact (fitting (read-of (subst (λ (r : Reading Formula). Answered N M workspace buffer r (verdict N M workspace buffer bytes)) e
+    (verdict-answered N M workspace buffer bytes))) fits)
   where
     exact : {o : Verdict} → Concluded (table f) o → IsMet o ↔ ((c : Lasso) × (meets c f ≡ true))
     exact (Concluded.met {stem} {letters = letters} w) = (λ h. (lasso letters stem, witness-holds bytes f e w), λ h. tt)

@@ -3,7 +3,8 @@
 -- reading at most 97. Assumes nothing.
 use mathlib.Core.Path.{_≡_, refl, sym, subst⁻¹, _∙_}
 use mathlib.Core.Logic.{inl, inr}
-use mathlib.Core.List.{List, [], _∷_, _++_, map, map-append, List·Memᴰ, List·Memᴰ·not-nil, List·Memᴰ·eq-of-singleton, List·Memᴰ·append-cases}
+use mathlib.Core.List.{List, [], _∷_, _++_, map, map-append, List·Memᴰ, List·Memᴰ·not-nil, List·Memᴰ·eq-of-singleton}
+use mathlib.Core.List.{List·Memᴰ·append-cases}
 use Prim.Native.Nat.{ℕ, _≤_, _<_}
 use native.Mathlib.Omega.{arith}
 use lib.ListN.{length, length-map}
@@ -38,18 +39,27 @@ Bounded N M (Refused code) = code ≤ 15
 Bounded N M (Unread why) = (why .code ≤ 9) × (why .at ≤ 97)
 
 module _ {N M : ℕ} where
-  asked-bounded : {Question : Type 0} {code : ℕ} {After : Verdict → Type 0} → code ≤ 15 → (Question → (o : Verdict) → After o → Bounded N M (says o))
+  asked-bounded : {Question : Type 0} {code : ℕ} {After : Verdict → Type 0} → code ≤ 15
+      → (Question → (o : Verdict) → After o → Bounded N M (says o))
       → (o : Verdict) → Asked Question code After o → Bounded N M (says o)
   asked-bounded h s o (Asked.passed q a) = s q o a
   asked-bounded h s o (Asked.failed n) = h
 
-  concluded-bounded : (t : Table) → Capacity N M → node-count t ≤ N → profile-count t ≤ M → (o : Verdict) → Concluded t o → Bounded N M (says o)
+  concluded-bounded : (t : Table) → Capacity N M → node-count t ≤ N → profile-count t ≤ M → (o : Verdict) → Concluded t o
+      → Bounded N M (says o)
   concluded-bounded t c n p o (Concluded.met w) =
-      record { capacity = c; stem-few = omega (arith, w .stem-short); cycle-few = omega (arith, w .cycle-short); nodes-few = n; profiles-few = p }
+      record {
+        capacity = c;
+        stem-few = omega (arith, w .stem-short);
+        cycle-few = omega (arith, w .cycle-short);
+        nodes-few = n;
+        profiles-few = p;
+      }
   concluded-bounded t c n p o (Concluded.unmet u) =
       record { capacity = c; stem-few = omega (arith, c .some-nodes); cycle-few = omega arith; nodes-few = n; profiles-few = p }
 
-  answered-bounded : {workspace buffer : ℕ} (bytes : List ℕ) {r : Reading Formula} → parse bytes ≡ r → (o : Verdict) → Answered N M workspace buffer r o
+  answered-bounded : {workspace buffer : ℕ} (bytes : List ℕ) {r : Reading Formula} → parse bytes ≡ r → (o : Verdict)
+      → Answered N M workspace buffer r o
       → Bounded N M (says o)
   answered-bounded bytes e o (Answered.unread {code} {place}) = (parse-stopped bytes code place e .known, parse-early bytes code place e)
   answered-bounded bytes e o (Answered.read d) =
@@ -61,7 +71,8 @@ module _ {N M : ℕ} where
 -- Theorem: what the decision answers is bounded.
 pub decided-bounded : {bytes : List ℕ} {N M : ℕ} {w w′ b b′ : List ℕ} {v : code.Verdict} → Decided bytes N M w w′ b b′ v → Bounded N M v
 decided-bounded {bytes} {N} {M} {w} {b} d =
-    subst⁻¹ (Bounded N M) (d .answered) (answered-bounded bytes refl (verdict N M (length w) (length b) bytes) (verdict-answered N M (length w) (length b) bytes))
+    subst⁻¹ (Bounded N M) (d .answered)
+    (answered-bounded bytes refl (verdict N M (length w) (length b) bytes) (verdict-answered N M (length w) (length b) bytes))
 
 -- letters of sixteen bits
 abbrev pub Small : List ℕ → Type 0

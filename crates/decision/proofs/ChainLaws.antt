@@ -34,7 +34,8 @@ module _ (of : ℕ → Found) {n : ℕ} (linked : Linked of n) where
   letters-at : (k : ℕ) → 0 < k → k ≤ n → letters-to of k ≡ letters-to of (of (k - 1) .parent) ++ (of (k - 1) .label ∷ [])
   letters-at zero h l = absurd (omega arith)
   letters-at (suc i) h l =
-      letters-next i (omega arith) ∙ ap (λ (j : ℕ). letters-to of (of j .parent) ++ (of j .label ∷ [])) {x = i} {y = suc i - 1} (omega arith)
+      letters-next i (omega arith) ∙ ap (λ (j : ℕ). letters-to of (of j .parent) ++ (of j .label ∷ [])) {x = i} {y = suc i - 1}
+      (omega arith)
 
   pub parent-less : (k : ℕ) → 0 < k → k ≤ n → of (k - 1) .parent < k
   parent-less k h l = omega (arith, linked (k - 1) (omega arith))
@@ -80,7 +81,8 @@ pub written-none : (from : ℕ) (l : List ℕ) → Written from [] l l
 written-none from l = record { same-length = refl; below = λ i h. refl; inside = λ i h. absurd (omega arith); beyond = λ i h. refl }
 
 -- one more at the end
-pub written-last : (from : ℕ) (ls l m : List ℕ) (x : ℕ) → Written from ls l m → from + length ls < length l → Written from (ls ++ (x ∷ [])) l (set m (from + length ls) x)
+pub written-last : (from : ℕ) (ls l m : List ℕ) (x : ℕ) → Written from ls l m → from + length ls < length l
+    → Written from (ls ++ (x ∷ [])) l (set m (from + length ls) x)
 written-last from ls l m x w h =
     let longer = length-append ls (x ∷ []) in
     record {
@@ -88,7 +90,8 @@ written-last from ls l m x w h =
       below = λ i k. getD-set-other m (from + length ls) i x 0 (λ e. omega arith) ∙ w .below i k;
       inside = λ i k.
           elim (decLt i (length ls)) [
-            | yes y ↦ getD-set-other m (from + length ls) (from + i) x 0 (λ e. omega arith) ∙ w .inside i y ∙ sym (List·getD-append ls (x ∷ []) 0 i y)
+            | yes y ↦ getD-set-other m (from + length ls) (from + i) x 0 (λ e. omega arith) ∙ w .inside i y
+                ∙ sym (List·getD-append ls (x ∷ []) 0 i y)
             | no y ↦ last i (omega arith)
           ];
       beyond = λ i k. getD-set-other m (from + length ls) i x 0 (λ e. omega arith) ∙ w .beyond i (omega arith);
@@ -112,7 +115,8 @@ written-first a b ls l m x e w h =
     }
   where
     by : (i : ℕ) → i < length (x ∷ ls) → getD (set m a x) (a + i) 0 ≡ getD (x ∷ ls) i 0
-    by zero k = ap (λ (j : ℕ). getD (set m a x) j 0) {x = a + 0} {y = a} (omega arith) ∙ getD-set-same m a x 0 (omega (arith, w .same-length))
+    by zero k = ap (λ (j : ℕ). getD (set m a x) j 0) {x = a + 0} {y = a} (omega arith)
+        ∙ getD-set-same m a x 0 (omega (arith, w .same-length))
     by (suc i) k =
         getD-set-other m a (a + suc i) x 0 (λ q. omega arith)
         ∙ ap (λ (j : ℕ). getD m j 0) {x = a + suc i} {y = b + i} (omega arith)
@@ -147,7 +151,8 @@ written-is ls l m w h =
     ext-getD 0 m (ls ++ drop (length ls) l) (omega (arith, w .same-length))
     (λ i k.
     elim (decLt i (length ls)) [
-      | yes y ↦ ap (λ (o : ℕ). getD m o 0) {x = i} {y = 0 + i} (omega arith) ∙ w .inside i y ∙ sym (List·getD-append ls (drop (length ls) l) 0 i y)
+      | yes y ↦ ap (λ (o : ℕ). getD m o 0) {x = i} {y = 0 + i} (omega arith) ∙ w .inside i y
+          ∙ sym (List·getD-append ls (drop (length ls) l) 0 i y)
       | no y ↦ rest i (i - length ls) (omega arith)
     ])
   where
@@ -168,7 +173,8 @@ pub record Backward (of : ℕ → Found) (from p at left : ℕ) (before after : 
   pub left-is : left ≡ length (letters-to of at)
   pub written : Written (from + left) rest before after
 
-pub back-start : (of : ℕ → Found) (from p left : ℕ) (l : List ℕ) {at : ℕ} → at ≡ suc p → left ≡ length (letters-to of (suc p)) → Backward of from p at left l l
+pub back-start : (of : ℕ → Found) (from p left : ℕ) (l : List ℕ) {at : ℕ} → at ≡ suc p → left ≡ length (letters-to of (suc p))
+    → Backward of from p at left l l
 back-start of from p left l q e =
     subst⁻¹ (λ (k : ℕ). Backward of from p k left l l) q
     (record {
@@ -200,12 +206,21 @@ module _ {of : ℕ → Found} {from p at left : ℕ} {before after : List ℕ} (
   pub turn-index : from + (left - 1) < length after
   turn-index =
       let b = t .back in
-      omega (arith, ap length (b .whole), length-append (letters-to of at) (b .rest), b .left-is, b .written .same-length, t .room, turn-some)
+      omega (
+        arith,
+        ap length (b .whole),
+        length-append (letters-to of at) (b .rest),
+        b .left-is,
+        b .written .same-length,
+        t .room,
+        turn-some,
+      )
 
   pub turn-less : {up : ℕ} → up ≡ of (at - 1) .parent → up < at
   turn-less e = omega (arith, parent-less of (t .linked) at (t .some) (t .back .low))
 
-  pub turn-next : {up x : ℕ} → up ≡ of (at - 1) .parent → x ≡ of (at - 1) .label → Backward of from p up (left - 1) before (set after (from + (left - 1)) x)
+  pub turn-next : {up x : ℕ} → up ≡ of (at - 1) .parent → x ≡ of (at - 1) .label
+      → Backward of from p up (left - 1) before (set after (from + (left - 1)) x)
   turn-next {up} {x} e q =
       let b = t .back in
       let index = turn-index in

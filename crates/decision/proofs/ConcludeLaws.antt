@@ -45,7 +45,8 @@ use Rattle.decision.proofs.StemLaws.{stem-length, distance-short}
 use Rattle.decision.proofs.WitnessLaws.{first-witness}
 
 -- the test of the code's mask is the definition's
-pub accepts-same : (t : Table) (n : ℕ) (least : ℕ → Bool) (x : Found) → n ≡ length (operands t) → ((i : ℕ) → least i ≡ getD (leasts t) i false)
+pub accepts-same : (t : Table) (n : ℕ) (least : ℕ → Bool) (x : Found) → n ≡ length (operands t)
+    → ((i : ℕ) → least i ≡ getD (leasts t) i false)
     → accepts least n x ≡ accepting t x
 unfolding accepts accepting
 accepts-same t n least x e f =
@@ -57,12 +58,14 @@ accepts-same t n least x e f =
 module _ (least : ℕ → Bool) (n : ℕ) (x : Found) {a b : ℕ} (first-is : a ≡ x .at .first) (last-is : b ≡ x .at .last) where
   pub accepts-open : (a ≡ b → ⊥) → false ≡ accepts least n x
   unfolding accepts
-  accepts-open h = sym (ap (λ (c : Bool). c && not (rejecting least n (x .at .carried))) (ne-eqb (x .at .first) (x .at .last) (λ e. h (first-is ∙ e ∙ sym last-is))))
+  accepts-open h = sym (ap (λ (c : Bool). c && not (rejecting least n (x .at .carried)))
+      (ne-eqb (x .at .first) (x .at .last) (λ e. h (first-is ∙ e ∙ sym last-is))))
 
   pub accepts-closed : a ≡ b → {r : Bool} → r ≡ rejecting least n (x .at .carried) → not r ≡ accepts least n x
   unfolding accepts
   accepts-closed h {r} e =
-      ap not e ∙ sym (ap (λ (c : Bool). c && not (rejecting least n (x .at .carried))) (eq-eqb (x .at .first) (x .at .last) (sym first-is ∙ h ∙ last-is)))
+      ap not e ∙ sym (ap (λ (c : Bool). c && not (rejecting least n (x .at .carried)))
+      (eq-eqb (x .at .first) (x .at .last) (sym first-is ∙ h ∙ last-is)))
 
 pub first-same : {p q : ℕ → Bool} {n r : ℕ} → ((i : ℕ) → p i ≡ q i) → First p n r → First q n r
 first-same e f = record { low = f .low; passes = λ h. sym (e _) ∙ f .passes h; before = λ i h. sym (e i) ∙ f .before i h }
@@ -76,7 +79,8 @@ record-at s area P i h =
     (at-of (stored s area P) i (record-of s area i) (omega (arith, stored-length s area P)))
 
 -- the letters followed from each profile are those of its run
-module _ {t : Table} {xs : List Found} {ys : List Listed} (a : Agrees t xs ys) (of : ℕ → Found) (stands : (i : ℕ) → i < length xs → At xs i (of i)) where
+module _ {t : Table} {xs : List Found} {ys : List Listed} (a : Agrees t xs ys) (of : ℕ → Found)
+    (stands : (i : ℕ) → i < length xs → At xs i (of i)) where
   all-linked : Linked of (length xs)
   all-linked i h = a .each i (of i) (stands i h) .before
 
@@ -107,7 +111,8 @@ module _ {rows : List ℕ} {count : ℕ} {area : List ℕ} {s : Shelf} {K P : �
       let d = h .decoded in
       let (fuel, enough, e) = h .stored-are in
       subst⁻¹ (λ (l : List Found). Agrees t l (literal.profiles t (nodes t))) e
-      (subst⁻¹ (λ (u : Table). length (literal.profiles u (nodes u)) ≤ fuel → Agrees u (profiles fuel u (sets (nodes u))) (literal.profiles u (nodes u))) (d .is)
+      (subst⁻¹ (λ (u : Table). length (literal.profiles u (nodes u)) ≤ fuel
+      → Agrees u (profiles fuel u (sets (nodes u))) (literal.profiles u (nodes u))) (d .is)
       (agrees (d .bytes) (d .formula) (d .parsed) fuel) (omega (arith, h .profiles-are)))
 
   apart : (v : Subset) (x : Transition) → List·Memᴰ x (transitions t v) → x .to ≡ root t → ⊥
@@ -133,7 +138,8 @@ module _ {rows : List ℕ} {count : ℕ} {area : List ℕ} {s : Shelf} {K P : �
   first-node p l = omega (arith, at-lt (counterpart p l .first), length-map (nodes t) (λ x. x .at))
 
   -- behind the stem there is room for its letters
-  pub cycle-fits : (p : ℕ) → p < P → {before mid : List ℕ} {j stem cycle : ℕ} → K + P ≤ length before → j < node-count t → Stemmed t j before mid stem
+  pub cycle-fits : (p : ℕ) → p < P → {before mid : List ℕ} {j stem cycle : ℕ} → K + P ≤ length before → j < node-count t
+      → Stemmed t j before mid stem
       → cycle ≡ length (letters-to of (suc p)) → stem + cycle ≤ length mid
   cycle-fits p l {j = j} room k m e =
       omega (
@@ -156,7 +162,8 @@ module _ {rows : List ℕ} {count : ℕ} {area : List ℕ} {s : Shelf} {K P : �
         (λ j y c k g. never (ap (accepting t) (at-one c (record-at s area P j (omega arith))) ∙ f .before j k) g)
 
     cycle-of : AcceptingCycle t (item .at .first) (item .way)
-    cycle-of = accepting-cycle t (at-in (counterpart p l .stands)) (subst T (counterpart p l .accepts) (to-T (accepting t (of p)) (f .passes l)))
+    cycle-of = accepting-cycle t (at-in (counterpart p l .stands))
+        (subst T (counterpart p l .accepts) (to-T (accepting t (of p)) (f .passes l)))
 
     -- behind any shortest stem to its first node the profile's letters are a witness
     witness-of : {letters : List ℕ} → Stem t (of p .at .first) letters
@@ -172,7 +179,8 @@ module _ {rows : List ℕ} {count : ℕ} {area : List ℕ} {s : Shelf} {K P : �
           accepted = cycle-of;
           stem-is = sym (m .short ∙ ap (λ (v : Subset). length (stem-to v (nodes t))) e);
           cycle-is = refl;
-          letters-are = ap (λ (x : List ℕ). x ++ letters-to of (suc p)) (m .letters-are) ∙ ap (λ (x : List ℕ). map (λ (s : Transition). s .letter) (m .there) ++ x) (letters-are p l)
+          letters-are = ap (λ (x : List ℕ). x ++ letters-to of (suc p)) (m .letters-are)
+              ∙ ap (λ (x : List ℕ). map (λ (s : Transition). s .letter) (m .there) ++ x) (letters-are p l)
               ∙ sym (map-append (λ (s : Transition). s .letter) (m .there) (item .way));
           cycle-fewest = w .cycle-fewest;
           stem-fewest = w .stem-fewest;
@@ -188,8 +196,10 @@ module _ {rows : List ℕ} {count : ℕ} {area : List ℕ} {s : Shelf} {K P : �
         (stem-size ∙ ap (λ (v : Subset). length (stem-to v (nodes t))) (at-get (counterpart p l .first) []))
         (e ∙ ap length (letters-are p l) ∙ length-map (item .way) (λ (s : Transition). s .letter))
         (witness-of (m .stem))
-        (written-is (m .letters ++ letters-to of (suc p)) before after whole (omega (arith, length-append (m .letters) (letters-to of (suc p)), letters-short of (profiled-linked p l) (suc p), stem-low))
-        ∙ ap (λ (k : ℕ). (m .letters ++ letters-to of (suc p)) ++ drop k before) {x = length (m .letters ++ letters-to of (suc p))} {y = stem + cycle}
+        (written-is (m .letters ++ letters-to of (suc p)) before after whole
+        (omega (arith, length-append (m .letters) (letters-to of (suc p)), letters-short of (profiled-linked p l) (suc p), stem-low))
+        ∙ ap (λ (k : ℕ). (m .letters ++ letters-to of (suc p)) ++ drop k before) {x = length (m .letters ++ letters-to of (suc p))}
+        {y = stem + cycle}
         (omega (arith, length-append (m .letters) (letters-to of (suc p)), m .count-is)))
       where
         stem-size : stem ≡ distance t (of p .at .first)
@@ -201,26 +211,32 @@ module _ {rows : List ℕ} {count : ℕ} {area : List ℕ} {s : Shelf} {K P : �
         whole : Written 0 (m .letters ++ letters-to of (suc p)) before after
         whole =
             written-both 0 (m .letters) (letters-to of (suc p)) before mid after (m .written)
-            (subst (λ (k : ℕ). Written k (letters-to of (suc p)) mid after) {x = stem} {y = 0 + length (m .letters)} (omega (arith, m .count-is)) w)
+            (subst (λ (k : ℕ). Written k (letters-to of (suc p)) mid after) {x = stem} {y = 0 + length (m .letters)}
+            (omega (arith, m .count-is)) w)
 
-        answer : {o : Option Listed} {x : Listed} {letters : List ℕ} → o ≡ some x → stem ≡ length (stem-to (x .at .first) (nodes t)) → cycle ≡ length (x .way)
-            → Witness t (length (stem-to (x .at .first) (nodes t))) (length (x .way)) letters → after ≡ letters ++ drop (stem + cycle) before
+        answer : {o : Option Listed} {x : Listed} {letters : List ℕ} → o ≡ some x → stem ≡ length (stem-to (x .at .first) (nodes t))
+            → cycle ≡ length (x .way)
+            → Witness t (length (stem-to (x .at .first) (nodes t))) (length (x .way)) letters
+            → after ≡ letters ++ drop (stem + cycle) before
             → Answers t (conclude (nodes t) (literal.profiles t (nodes t)) o) before after (Satisfiable stem cycle K P)
         answer {o} {x} {letters} q a b v r =
-            subst⁻¹ (λ (o : Option Listed). Answers t (conclude (nodes t) (literal.profiles t (nodes t)) o) before after (Satisfiable stem cycle K P)) q
+            subst⁻¹ (λ (o : Option Listed). Answers t (conclude (nodes t) (literal.profiles t (nodes t)) o) before after
+            (Satisfiable stem cycle K P)) q
             (record {
               answered = λ i. Satisfiable (a i) (b i) (h .nodes-are i) (h .profiles-are i);
               buffered = (letters, v, r ∙ ap (λ (k : ℕ). letters ++ drop k before) (λ i. a i + b i));
             })
 
     -- Theorem: the stem and then the profile's letters, written, are the answer.
-    pub witness-answers : {before mid after : List ℕ} {j stem cycle : ℕ} → K + P ≤ length before → j ≡ of p .at .first → Stemmed t j before mid stem
+    pub witness-answers : {before mid after : List ℕ} {j stem cycle : ℕ} → K + P ≤ length before → j ≡ of p .at .first
+        → Stemmed t j before mid stem
         → cycle ≡ length (letters-to of (suc p)) → Written stem (letters-to of (suc p)) mid after
         → Answers t (concluded t) before after (Satisfiable stem cycle K P)
     witness-answers {before} {mid} {stem = stem} room q m e w = stem-answers room (subst (λ (i : ℕ). Stemmed t i before mid stem) q m) e w
 
   -- Theorem: where no profile that is kept is accepting, the answer is NOT.
-  pub none-answers : {r : ℕ} (before : List ℕ) → P ≤ r → First (λ i. accepting t (of i)) P r → Answers t (concluded t) before before (Unsatisfiable K P)
+  pub none-answers : {r : ℕ} (before : List ℕ) → P ≤ r → First (λ i. accepting t (of i)) P r
+      → Answers t (concluded t) before before (Unsatisfiable K P)
   none-answers {r} before l f =
       subst⁻¹ (λ (o : Option Listed). Answers t (conclude (nodes t) (literal.profiles t (nodes t)) o) before before (Unsatisfiable K P))
       (none-accepting agreed

@@ -107,7 +107,8 @@ module _ {rows : List ℕ} {count : ℕ} (d : Decoded rows count) {N M buffer : 
     -- Theorem: without room for them the answer is 14.
     pub nodes-14 : N < known → (letters : List ℕ) → Searched t N M a area letters letters (Refused 14)
     nodes-14 h letters =
-        searched-14 N M t letters (omega (arith, holds .known-is, reachable-length)) (within-of area-length (λ i k. area-beyond i (omega arith)))
+        searched-14 N M t letters (omega (arith, holds .known-is, reachable-length))
+        (within-of area-length (λ i k. area-beyond i (omega arith)))
 
 -- The nodes have room, and the shelf s stands behind them.
 pub record Behind (rows : List ℕ) (count N M buffer : ℕ) (a area : List ℕ) (known : ℕ) (r : Ranks) (s : Shelf) : Type 0 where
@@ -120,7 +121,8 @@ pub record Behind (rows : List ℕ) (count N M buffer : ℕ) (a area : List ℕ)
   pub capacity-is : s .capacity ≡ M
   pub nexts-are : s .n ≡ r .nexts
 
-module _ {rows : List ℕ} {count N M buffer : ℕ} {a area : List ℕ} {known : ℕ} {r : Ranks} {s : Shelf} (b : Behind rows count N M buffer a area known r s) where
+module _ {rows : List ℕ} {count N M buffer : ℕ} {a area : List ℕ} {known : ℕ} {r : Ranks} {s : Shelf}
+    (b : Behind rows count N M buffer a area known r s) where
   abbrev table′ : Table
   table′ = table-of rows count
 
@@ -165,7 +167,8 @@ module _ {rows : List ℕ} {count N M buffer : ℕ} {a area : List ℕ} {known :
         sets = λ i h. node-sets sized kept i (omega (arith, known-length));
       }
 
-  module _ {all : ℕ} {after : List ℕ} (g : (fuel : ℕ) → s .capacity < fuel → Grown s 0 area all after (profiles fuel table′ (nodes-in count area known))) where
+  module _ {all : ℕ} {after : List ℕ}
+      (g : (fuel : ℕ) → s .capacity < fuel → Grown s 0 area all after (profiles fuel table′ (nodes-in count area known))) where
     -- fuel enough for both searches
     abbrev fuel : ℕ
     fuel = M + profile-count table′ + 1
@@ -177,7 +180,8 @@ module _ {rows : List ℕ} {count N M buffer : ℕ} {a area : List ℕ} {known :
 
     profiles-length : length (profiles fuel table′ (reachable table′)) ≡ profile-count table′
     profiles-length =
-        subst⁻¹ (λ (u : Table). length (literal.profiles u (nodes u)) ≤ fuel → Agrees u (profiles fuel u (sets (nodes u))) (literal.profiles u (nodes u)))
+        subst⁻¹ (λ (u : Table). length (literal.profiles u (nodes u)) ≤ fuel
+        → Agrees u (profiles fuel u (sets (nodes u))) (literal.profiles u (nodes u)))
         (b .decoded .is) (agrees (b .decoded .bytes) (b .decoded .formula) (b .decoded .parsed) fuel) (omega arith) .count
 
     all-within : Within (8 * N + 192 * M) a after
@@ -190,7 +194,8 @@ module _ {rows : List ℕ} {count N M buffer : ℕ} {a area : List ℕ} {known :
     -- Theorem: without room for all profiles the answer is 15.
     pub profiles-15 : M < all → (letters : List ℕ) → Searched table′ N M a after letters letters (Refused 15)
     profiles-15 h letters =
-        searched-15 N M table′ letters (omega (arith, known-is, b .fits)) (omega (arith, grown .count-is, profiles-length, b .capacity-is)) all-within
+        searched-15 N M table′ letters (omega (arith, known-is, b .fits))
+        (omega (arith, grown .count-is, profiles-length, b .capacity-is)) all-within
 
     module _ (h : all ≤ M) where
       all-is : all ≡ profile-count table′
@@ -207,7 +212,9 @@ module _ {rows : List ℕ} {count N M buffer : ℕ} {a area : List ℕ} {known :
                   few = omega (arith, known-is, b .fits, b .lends .few-nodes);
                   room = omega (arith, known-is, b .fits, b .lends .workspace-fits, grown .elsewhere .same-length, same-length);
                   words = λ i l.
-                      kept-at (kept-same kept after (λ j k. grown .elsewhere .below j (omega (arith, b .fits, b .base-is, known-length)))) i (omega (arith, known-is, known-length));
+                      kept-at (kept-same kept after
+                      (λ j k. grown .elsewhere .below j (omega (arith, b .fits, b .base-is, known-length)))) i
+                      (omega (arith, known-is, known-length));
                 };
             lent = on-shelf after (grown .elsewhere .same-length ∙ same-length);
             operands-are = b .nexts-are ∙ b .ranks .nexts-are;
@@ -221,5 +228,6 @@ module _ {rows : List ℕ} {count N M buffer : ℕ} {a area : List ℕ} {known :
       buffer-room = omega (arith, b .fits, b .lends .buffer-fits)
 
       -- and the answer over them is the answer.
-      pub answer-on : {before after′ : List ℕ} {v : code.Verdict} → Answers table′ (concluded table′) before after′ v → Searched table′ N M a after before after′ v
+      pub answer-on : {before after′ : List ℕ} {v : code.Verdict} → Answers table′ (concluded table′) before after′ v
+          → Searched table′ N M a after before after′ v
       answer-on v = searched-on N M table′ (omega (arith, known-is, b .fits)) (omega (arith, all-is)) v all-within

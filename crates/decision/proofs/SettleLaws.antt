@@ -73,21 +73,24 @@ module _ (N M : ℕ) (t : Table) where
       (λ j. refl))
       (λ k. refl)
     where
-      by : (o : Option (Item Transition literal.Profile)) → cleared N M (conclude (nodes t) (literal.profiles t (nodes t)) o) w ≡ zeroed N M w
+      by : (o : Option (Item Transition literal.Profile)) → cleared N M (conclude (nodes t) (literal.profiles t (nodes t)) o) w ≡ zeroed
+          N M w
       by none = refl
       by (some x) = refl
 
   answers-refused : (c : ℕ) {l : List ℕ} → decide N M t ≡ Verdict.refused c → Answers t (decide N M t) l l (Refused c)
   answers-refused c {l} e = subst⁻¹ (λ (v : Verdict). Answers t v l l (Refused c)) e (record { answered = refl; buffered = refl })
 
-  pub searched-14 : {area area′ : List ℕ} (l : List ℕ) → N < node-count t → Within (8 * N + 192 * M) area area′ → Searched t N M area area′ l l (Refused 14)
+  pub searched-14 : {area area′ : List ℕ} (l : List ℕ) → N < node-count t → Within (8 * N + 192 * M) area area′
+      → Searched t N M area area′ l l (Refused 14)
   searched-14 l h w = record { answers = answers-refused 14 (decided-14 h); within = w }
 
   pub searched-15 : {area area′ : List ℕ} (l : List ℕ) → node-count t ≤ N → M < profile-count t → Within (8 * N + 192 * M) area area′
       → Searched t N M area area′ l l (Refused 15)
   searched-15 l k h w = record { answers = answers-refused 15 (decided-15 k h); within = w }
 
-  pub searched-on : {area area′ before after : List ℕ} {r : code.Verdict} → node-count t ≤ N → profile-count t ≤ M → Answers t (concluded t) before after r
+  pub searched-on : {area area′ before after : List ℕ} {r : code.Verdict} → node-count t ≤ N → profile-count t ≤ M
+      → Answers t (concluded t) before after r
       → Within (8 * N + 192 * M) area area′ → Searched t N M area area′ before after r
   searched-on {before = before} {after} {r} k h a w =
       record { answers = subst⁻¹ (λ (v : Verdict). Answers t v before after r) (decided-on k h) a; within = w }
@@ -117,7 +120,8 @@ module _ (N M : ℕ) (workspace buffer : List ℕ) (t : Table) where
   asked-13 : Capacity N M → 8 * N + 192 * M ≤ W → lent N M W B t ≡ third
   asked-13 c h = asked-12 c ∙ pick-yes (leb (8 * N + 192 * M) W) third (Verdict.refused 12) (le→leb (8 * N + 192 * M) W h)
 
-  refuses : (c : ℕ) → cleared N M (Verdict.refused c) workspace ≡ workspace → lent N M W B t ≡ Verdict.refused c → Settled t N M workspace workspace buffer buffer (Refused c)
+  refuses : (c : ℕ) → cleared N M (Verdict.refused c) workspace ≡ workspace → lent N M W B t ≡ Verdict.refused c
+      → Settled t N M workspace workspace buffer buffer (Refused c)
   refuses c k e =
       record {
         answers = subst⁻¹ (λ (v : Verdict). Answers t v buffer buffer (Refused c)) e (record { answered = refl; buffered = refl });
@@ -142,14 +146,21 @@ module _ (N M : ℕ) (workspace buffer : List ℕ) (t : Table) where
   settled-on {area′} {area″} {buffer′} {r} l s e =
       record {
         answers = subst⁻¹ (λ (v : Verdict). Answers t v buffer buffer′ r) whole (s .answers);
-        worked = e ∙ ap (λ (x : List ℕ). zeros (8 * N + 192 * M) ++ x) (s .within .behind) ∙ sym (ap (λ (v : Verdict). cleared N M v workspace) whole ∙ decided-clears N M t workspace);
+        worked = e ∙ ap (λ (x : List ℕ). zeros (8 * N + 192 * M) ++ x) (s .within .behind)
+            ∙ sym (ap (λ (v : Verdict). cleared N M v workspace) whole ∙ decided-clears N M t workspace);
       }
     where
       capacity : Capacity N M
-      capacity = record { some-nodes = l .some-nodes; nodes-fit = l .few-nodes; some-profiles = l .some-profiles; profiles-fit = l .few-profiles }
+      capacity = record {
+        some-nodes = l .some-nodes;
+        nodes-fit = l .few-nodes;
+        some-profiles = l .some-profiles;
+        profiles-fit = l .few-profiles;
+      }
 
       whole : lent N M W B t ≡ decide N M t
-      whole = asked-13 capacity (l .workspace-fits) ∙ pick-yes (leb (N + M) B) (decide N M t) (Verdict.refused 13) (le→leb (N + M) B (l .buffer-fits))
+      whole = asked-13 capacity (l .workspace-fits) ∙ pick-yes (leb (N + M) B) (decide N M t) (Verdict.refused 13)
+          (le→leb (N + M) B (l .buffer-fits))
 
 -- An answer over the table of what was read.
 same-formula : {f g : Formula} → Reading.accepted f ≡ Reading.accepted g → f ≡ g
@@ -159,7 +170,8 @@ module _ (bytes : List ℕ) (N M : ℕ) (workspace buffer : List ℕ) where
   abbrev whole-verdict : Verdict
   whole-verdict = verdict N M (length workspace) (length buffer) bytes
 
-  buffered : (f : Formula) (buffer′ : List ℕ) → parse bytes ≡ Reading.accepted f → (v : Verdict) → whole-verdict ≡ v → Leaves (table f) v buffer buffer′
+  buffered : (f : Formula) (buffer′ : List ℕ) → parse bytes ≡ Reading.accepted f → (v : Verdict) → whole-verdict ≡ v
+      → Leaves (table f) v buffer buffer′
       → Buffered bytes v buffer buffer′
   buffered f buffer′ p (Verdict.unread c q) e l = l
   buffered f buffer′ p (Verdict.refused c) e l = l
@@ -190,18 +202,21 @@ module _ (bytes : List ℕ) (N M : ℕ) (workspace buffer : List ℕ) where
       ap (after-reading N M (length workspace) (length buffer)) p in
       record {
         answered = s .answers .answered ∙ sym (ap says e);
-        buffered = buffered f buffer′ p whole-verdict refl (subst⁻¹ (λ (v : Verdict). Leaves (table f) v buffer buffer′) e (s .answers .buffered));
+        buffered = buffered f buffer′ p whole-verdict refl
+            (subst⁻¹ (λ (v : Verdict). Leaves (table f) v buffer buffer′) e (s .answers .buffered));
         worked = s .worked ∙ sym (ap (λ (v : Verdict). cleared N M v workspace) e);
       }
 
   -- Theorem: settled over the table of the formula that was read, it is decided.
   pub held-decided : {workspace′ buffer′ : List ℕ} {r : code.Verdict} {t : Stored} → Held bytes t
-      → Settled (table-of (t .rows) (t .count)) N M workspace workspace′ buffer buffer′ r → Decided bytes N M workspace workspace′ buffer buffer′ r
+      → Settled (table-of (t .rows) (t .count)) N M workspace workspace′ buffer buffer′ r
+      → Decided bytes N M workspace workspace′ buffer buffer′ r
   held-decided {workspace′} {buffer′} {r} h s =
       settled-decided (h .formula) (h .parsed) (subst (λ (u : Table). Settled u N M workspace workspace′ buffer buffer′ r) (h .operators) s)
 
   -- Theorem: a refusal of reading, passed on.
-  pub unread-decided : (why : Refusal) → parse bytes ≡ Reading.refused (why .code) (why .at) → Decided bytes N M workspace workspace buffer buffer (Unread why)
+  pub unread-decided : (why : Refusal) → parse bytes ≡ Reading.refused (why .code) (why .at)
+      → Decided bytes N M workspace workspace buffer buffer (Unread why)
   unfolding verdict
   unread-decided why p =
       let e : whole-verdict ≡ Verdict.unread (why .code) (why .at) = ap (after-reading N M (length workspace) (length buffer)) p in

@@ -22,7 +22,8 @@ use Rattle.tableau.specs.Transition.{operators-in, requires, letter-of, Transit
 use Rattle.tableau.specs.Nodes.{root, nodes}
 use Rattle.tableau.specs.Run.{Along}
 use Rattle.tableau.proofs.TransitionLaws.{transition-is}
-use Rattle.tableau.proofs.NodeLaws.{way-length, reachable-length, nodes-along, nodes-distinct, nodes-sorted, nodes-near, nodes-short, nodes-first}
+use Rattle.tableau.proofs.NodeLaws.{way-length, reachable-length, nodes-along, nodes-distinct, nodes-sorted, nodes-near, nodes-short}
+use Rattle.tableau.proofs.NodeLaws.{nodes-first}
 use Rattle.decision.specs.Verdict.{stem-to}
 use Rattle.decision.specs.Promise.{node-count}
 use Rattle.decision.specs.Stem.{node-at, distance, Nearer, Comes, Stem, Written, Stemmed}
@@ -33,7 +34,8 @@ use Rattle.decision.proofs.WitnessLaws.{stem-of}
 use Rattle.decision.proofs.ChainLaws.{written-none, written-last}
 
 module _ {L K : Type 0} where
-  sorted-at : (rank : Item L K → ℕ) {xs : List (Item L K)} → Sorted rank xs → {i j : ℕ} {x y : Item L K} → At xs i x → At xs j y → i ≤ j → rank x ≤ rank y
+  sorted-at : (rank : Item L K → ℕ) {xs : List (Item L K)} → Sorted rank xs → {i j : ℕ} {x y : Item L K} → At xs i x → At xs j y → i ≤ j
+      → rank x ≤ rank y
   sorted-at rank (Sorted.more f s) At.here At.here h = omega arith
   sorted-at rank (Sorted.more f s) At.here (At.there b) h = f _ (at-in b)
   sorted-at rank (Sorted.more f s) (At.there a) At.here h = absurd (omega arith)
@@ -47,7 +49,8 @@ module _ {L K : Type 0} where
 
 -- the last transition of a run that leaves its first node
 last-step : {t : Table} {v : Subset} {ss : List Transition} → Along t (root t) ss v → (v ≡ root t → ⊥)
-    → (u : Subset) × (rs : List Transition) × (s : Transition) × Along t (root t) rs u × List·Memᴰ s (transitions t u) × (s .to ≡ v) × (length ss ≡ length rs + 1)
+    → (u : Subset) × (rs : List Transition) × (s : Transition) × Along t (root t) rs u × List·Memᴰ s (transitions t u) × (s .to ≡ v) ×
+    (length ss ≡ length rs + 1)
 last-step Along.stay n = absurd (n refl)
 last-step (Along.on {u} {ss} {s} a m) n = (u, ss, s, a, m, refl, length-append ss (s ∷ []))
 
@@ -75,15 +78,18 @@ module _ (t : Table) where
 
   -- the last transition of the way to node j starts at a node that is nearer
   last-node : {j : ℕ} {y : Item Transition Subset} → At (nodes t) j y → 0 < j
-      → (i : ℕ) × (x : Item Transition Subset) × (s : Transition) × At (nodes t) i x × List·Memᴰ s (transitions t (x .at)) × (s .to ≡ y .at) × (way-length x + 1 ≤ way-length y)
+      → (i : ℕ) × (x : Item Transition Subset) × (s : Transition) × At (nodes t) i x × List·Memᴰ s (transitions t (x .at)) ×
+      (s .to ≡ y .at) × (way-length x + 1 ≤ way-length y)
   last-node {j} {y} b h =
-      let (u, rs, s, a, m, e, l) = last-step (nodes-along t (at-in b)) (λ q. absurd (omega (arith, distinct-at (nodes-distinct t) b root-item q))) in
+      let (u, rs, s, a, m, e, l) =
+      last-step (nodes-along t (at-in b)) (λ q. absurd (omega (arith, distinct-at (nodes-distinct t) b root-item q))) in
       let (x, n, q, k) = nodes-near t a in
       let (i, c) = in-at n in
       (i, x, s, c, subst (λ (w : Subset). List·Memᴰ s (transitions t w)) q m, e, omega arith)
 
   -- a transition leads at most one further
-  next-node : {i j : ℕ} {x y : Item Transition Subset} {s : Transition} → At (nodes t) i x → At (nodes t) j y → List·Memᴰ s (transitions t (x .at))
+  next-node : {i j : ℕ} {x y : Item Transition Subset} {s : Transition} → At (nodes t) i x → At (nodes t) j y
+      → List·Memᴰ s (transitions t (x .at))
       → s .to ≡ y .at → way-length y ≤ way-length x + 1
   next-node {j = j} {x} {y} {s} a b m e =
       let (z, n, q, k) = nodes-near t (Along.on (nodes-along t (at-in a)) m) in
@@ -116,14 +122,23 @@ module _ (t : Table) where
         omega (arith, sorted-at way-length (nodes-sorted t) b a (from-beyond j none a b m e))
 
     -- Theorem: the first node that leads to node j is one transition nearer to the root.
-    pub first-nearer : (i : ℕ) → i < j → None-to j i → (s : Transition) → List·Memᴰ s (transitions t (node-at t i)) → s .to ≡ node-at t j → Nearer t j i (s .letter)
+    pub first-nearer : (i : ℕ) → i < j → None-to j i → (s : Transition) → List·Memᴰ s (transitions t (node-at t i))
+        → s .to ≡ node-at t j → Nearer t j i (s .letter)
     first-nearer i before none s m e =
         let (y, b) = node-item j inside in
         let (x, a) = node-item i (omega arith) in
         let (k, z, r, c, n, q, l) = last-node b behind in
         let near = sorted-at way-length (nodes-sorted t) a c (from-beyond i none c b n q) in
         let far = next-node a b (subst (λ (w : Subset). List·Memᴰ s (transitions t w)) (node-is a) m) (e ∙ node-is b) in
-        record { before = before; move = s; step = m; leads = e; letter-is = refl; small = letter-small t (node-at t i) m; closer = omega (arith, distance-of a, distance-of b) }
+        record {
+          before = before;
+          move = s;
+          step = m;
+          leads = e;
+          letter-is = refl;
+          small = letter-small t (node-at t i) m;
+          closer = omega (arith, distance-of a, distance-of b);
+        }
 
   pub distance-short : (i : ℕ) → i < node-count t → distance t i < node-count t
   distance-short i h = let (x, a) = node-item i h in omega (arith, distance-of a, nodes-short t (at-in a))
@@ -148,7 +163,8 @@ module _ (t : Table) where
         short = length-append (s .there) (n .move ∷ []) ∙ omega (arith, s .short, n .closer);
       }
     where
-      ends : {letter : ℕ} {letters : List ℕ} (ss : List Transition) (m : Transition) → letters ≡ map (λ (s : Transition). s .letter) ss → letter ≡ m .letter
+      ends : {letter : ℕ} {letters : List ℕ} (ss : List Transition) (m : Transition) → letters ≡ map (λ (s : Transition). s .letter) ss
+          → letter ≡ m .letter
           → letters ++ (letter ∷ []) ≡ map (λ (s : Transition). s .letter) (ss ++ (m ∷ []))
       ends ss m p q = cc (map-append (λ (s : Transition). s .letter) ss (m ∷ []))
 
@@ -190,7 +206,9 @@ module _ {t : Table} {j i letter n : ℕ} {l m : List ℕ} (e : Ending t j i let
         stem = stem-more t (e .nearer) (s .stem);
         count-is = omega (arith, s .count-is, length-append (s .letters) (letter ∷ []));
         written =
-            subst⁻¹ (λ (k : ℕ). Written 0 (s .letters ++ (letter ∷ [])) l (set m k (letter % 65536))) {x = n} {y = 0 + length (s .letters)} (omega (arith, s .count-is))
-            (subst⁻¹ (λ (x : ℕ). Written 0 (s .letters ++ (letter ∷ [])) l (set m (0 + length (s .letters)) x)) (mod-eq-of-lt (e .nearer .small))
+            subst⁻¹ (λ (k : ℕ). Written 0 (s .letters ++ (letter ∷ [])) l (set m k (letter % 65536))) {x = n}
+            {y = 0 + length (s .letters)} (omega (arith, s .count-is))
+            (subst⁻¹ (λ (x : ℕ). Written 0 (s .letters ++ (letter ∷ [])) l (set m (0 + length (s .letters)) x))
+            (mod-eq-of-lt (e .nearer .small))
             (written-last 0 (s .letters) l m letter (s .written) (omega (arith, ending-low, e .room, s .count-is))));
       }

@@ -3,7 +3,8 @@
 -- that leads to node j (`comes-none`, `comes-next`, `comes-found`). Assumes nothing.
 use mathlib.Core.Path.{_≡_, refl, sym, ap, subst, subst⁻¹, _∙_}
 use mathlib.Core.Bool.{Bool, true, false, cond, _&&_}
-use mathlib.Core.List.{List, [], _∷_, List·Memᴰ, List·Memᴰ·head, List·Memᴰ·not-nil, List·Memᴰ·cases-cons, List·Memᴰ·eq-of-singleton, Memᴰ·map, Memᴰ·of-map}
+use mathlib.Core.List.{List, [], _∷_, List·Memᴰ, List·Memᴰ·head, List·Memᴰ·not-nil, List·Memᴰ·cases-cons, List·Memᴰ·eq-of-singleton}
+use mathlib.Core.List.{Memᴰ·map, Memᴰ·of-map}
 use mathlib.Core.Logic.{inl, inr}
 use Prim.Native.Nat.{ℕ, zero, suc, _+_, _*_, _^_, _≤_, _<_}
 use native.Mathlib.Omega.{arith}
@@ -16,7 +17,8 @@ use Rattle.base.proofs.Inside.{inside-length}
 use Rattle.base.proofs.WordLaws.{word-inj}
 use Rattle.formula.specs.Table.{Operator, Table}
 use Rattle.tableau.specs.Saturation.{Subset, nothing, saturate}
-use Rattle.tableau.specs.Transition.{operators-in, within, possible, letter-of, next-of, ors, choice-of, choices, Transition, transition-of, by-word, transitions}
+use Rattle.tableau.specs.Transition.{operators-in, within, possible, letter-of, next-of, ors, choice-of, choices, Transition}
+use Rattle.tableau.specs.Transition.{transition-of, by-word, transitions}
 use Rattle.tableau.specs.Promise.{table-of, step, Stepped-by}
 use Rattle.tableau.specs.Area.{eight}
 use Rattle.tableau.specs.declared.NodeNumber.{NodeNumber}
@@ -33,7 +35,8 @@ use Rattle.decision.specs.declared.Came.the-variants.{From, Nowhere}
 use Rattle.decision.proofs.StemLaws.{None-to, some-before, first-nearer, node-length}
 
 -- one transition, if a test holds
-one-found : (b : Bool) (x : Transition) (from : NodeNumber) (u : Subset) (to p : ℕ) → to ≡ word u → length (x .to) ≡ length u → Leads to p ≡ step (cond b (x ∷ []) [])
+one-found : (b : Bool) (x : Transition) (from : NodeNumber) (u : Subset) (to p : ℕ) → to ≡ word u → length (x .to) ≡ length u
+    → Leads to p ≡ step (cond b (x ∷ []) [])
     → Tried (cond b (x ∷ []) []) from u (From from p)
 one-found true x from u to p h l e =
     let a : to ≡ word (x .to) = cc in
@@ -41,7 +44,8 @@ one-found true x from u to p h l e =
     subst⁻¹ (λ (n : ℕ). Tried (x ∷ []) from u (From from n)) q (Tried.found (List·Memᴰ·head refl) (word-inj (x .to) u l (sym a ∙ h)))
 one-found false x from u to p h l e = absurd (let z : _≡_ {A = ℕ} 0 1 = cc in omega arith)
 
-one-other : (b : Bool) (x : Transition) (from : NodeNumber) (u : Subset) (to p : ℕ) → (to ≡ word u → ⊥) → Leads to p ≡ step (cond b (x ∷ []) [])
+one-other : (b : Bool) (x : Transition) (from : NodeNumber) (u : Subset) (to p : ℕ) → (to ≡ word u → ⊥)
+    → Leads to p ≡ step (cond b (x ∷ []) [])
     → Tried (cond b (x ∷ []) []) from u Nowhere
 one-other true x from u to p n e =
     let a : to ≡ word (x .to) = cc in
@@ -70,7 +74,8 @@ module _ {rows : List ℕ} {count x from : ℕ} (number : NodeNumber) (set : ℕ
       record {
         is = λ v u l k p q.
             one-found (within w (saturate t w v) && possible (os v)) (transition-with t w (saturate t w v)) number u to letter (h ∙ q)
-            (sym (inside-length (add-inside (gather next-of (os v)) (nothing t))) ∙ length-map t (λ _. false) ∙ table-length rows count ∙ sym k)
+            (sym (inside-length (add-inside (gather next-of (os v)) (nothing t))) ∙ length-map t (λ _. false) ∙ table-length rows count
+            ∙ sym k)
             (sym e ∙ st .is v l p);
       }
 
@@ -79,7 +84,8 @@ module _ {rows : List ℕ} {count x from : ℕ} (number : NodeNumber) (set : ℕ
   tries-other {to} {letter} e n =
       record {
         is = λ v u l k p q.
-            one-other (within w (saturate t w v) && possible (os v)) (transition-with t w (saturate t w v)) number u to letter (λ h. n (h ∙ sym q))
+            one-other (within w (saturate t w v) && possible (os v)) (transition-with t w (saturate t w v)) number u to letter
+            (λ h. n (h ∙ sym q))
             (sym e ∙ st .is v l p);
       }
 
@@ -87,7 +93,8 @@ numbers-lt : (k n : ℕ) {x : ℕ} → List·Memᴰ x (numbers k n) → x < k + 
 numbers-lt k zero m = absurd (List·Memᴰ·not-nil m)
 numbers-lt k (suc n) m = elim (List·Memᴰ·cases-cons m) [ inl e ↦ omega arith | inr r ↦ omega (arith, numbers-lt (suc k) n r) ]
 
-untried : {ss : List Transition} {from : NodeNumber} {u : Subset} → Tried ss from u Nowhere → (s : Transition) → List·Memᴰ s ss → s .to ≡ u → ⊥
+untried : {ss : List Transition} {from : NodeNumber} {u : Subset} → Tried ss from u Nowhere → (s : Transition) → List·Memᴰ s ss
+    → s .to ≡ u → ⊥
 untried (Tried.none n) = n
 
 -- found among some, found among all
@@ -142,17 +149,21 @@ module _ (t : Table) (count : ℕ) (number : NodeNumber) (from set : ℕ) where
         }
 
 -- The nodes one after another.
-module _ {rows : List ℕ} {count : ℕ} {area : List ℕ} (standing : Standing rows count area) (j set : ℕ) (inside : j < node-count (table-of rows count)) (is : set ≡ eight area (8 * j)) where
+module _ {rows : List ℕ} {count : ℕ} {area : List ℕ} (standing : Standing rows count area) (j set : ℕ)
+    (inside : j < node-count (table-of rows count)) (is : set ≡ eight area (8 * j)) where
   abbrev all : Table
   all = table-of rows count
 
-  tried-at : {number : NodeNumber} {from i : ℕ} {r : Came} → i < node-count all → from ≡ eight area (8 * i) → Tries (transitions all) count number from set r
+  tried-at : {number : NodeNumber} {from i : ℕ} {r : Came} → i < node-count all → from ≡ eight area (8 * i)
+      → Tries (transitions all) count number from set r
       → Tried (transitions all (node-at all i)) number (node-at all j) r
   tried-at {i = i} l e h =
-      h .is (node-at all i) (node-at all j) (node-length all i l ∙ table-length rows count) (node-length all j inside ∙ table-length rows count)
+      h .is (node-at all i) (node-at all j) (node-length all i l ∙ table-length rows count)
+      (node-length all j inside ∙ table-length rows count)
       (e ∙ standing .words i l) (is ∙ standing .words j inside)
 
-  pub comes-next : {number : NodeNumber} {from i : ℕ} {r : Came} → i < j → from ≡ eight area (8 * i) → r ≡ Nowhere → Tries (transitions all) count number from set r
+  pub comes-next : {number : NodeNumber} {from i : ℕ} {r : Came} → i < j → from ≡ eight area (8 * i) → r ≡ Nowhere
+      → Tries (transitions all) count number from set r
       → None-to all j i → None-to all j (i + 1)
   comes-next {number} {from} {i} l e q h f k m s n p =
       elim (decLt k i) [
@@ -162,11 +173,13 @@ module _ {rows : List ℕ} {count : ℕ} {area : List ℕ} (standing : Standing 
             (subst (λ (y : ℕ). List·Memᴰ s (transitions all (node-at all y))) {x = k} {y = i} (omega arith) n) p
       ]
 
-  pub comes-found : {number : NodeNumber} {from i : ℕ} {r : Came} (a : NodeNumber) (p : ℕ) → number .0 ≡ i → i < j → from ≡ eight area (8 * i) → r ≡ From a p
+  pub comes-found : {number : NodeNumber} {from i : ℕ} {r : Came} (a : NodeNumber) (p : ℕ) → number .0 ≡ i → i < j
+      → from ≡ eight area (8 * i) → r ≡ From a p
       → Tries (transitions all) count number from set r → None-to all j i → Comes all j r
   comes-found {number} {from} {i} a p o l e q h f = by a p q (tried-at (omega arith) e h)
     where
-      by : {r : Came} (a : NodeNumber) (p : ℕ) → r ≡ From a p → Tried (transitions all (node-at all i)) number (node-at all j) r → Comes all j r
+      by : {r : Came} (a : NodeNumber) (p : ℕ) → r ≡ From a p → Tried (transitions all (node-at all i)) number (node-at all j) r
+          → Comes all j r
       by a p q (Tried.found {s} m u) =
           subst⁻¹ (λ (y : ℕ). Nearer all j y (s .letter)) o (first-nearer all j inside (omega arith) i l f s m u)
       by a p q (Tried.none n) = absurd (let z : _≡_ {A = ℕ} 0 1 = cc in omega arith)

@@ -35,7 +35,8 @@ pub data Asked (Question : Type 0) (code : ℕ) (After : Verdict → Type 0) : V
 pub data Concluded (t : Table) : Verdict → Type 0 where
   met : {stem cycle : ℕ} {letters : List ℕ} → Witness t stem cycle letters
       → Concluded t (Verdict.satisfiable stem cycle (node-count t) (profile-count t) letters)
-  unmet : ((v : Subset) (ss : List Transition) → AcceptingCycle t v ss → ⊥) → Concluded t (Verdict.unsatisfiable (node-count t) (profile-count t))
+  unmet : ((v : Subset) (ss : List Transition) → AcceptingCycle t v ss → ⊥)
+      → Concluded t (Verdict.unsatisfiable (node-count t) (profile-count t))
 
 -- question 11
 pub record Capacity (N M : ℕ) : Type 0 where
@@ -62,9 +63,11 @@ pub data Answered (N M workspace buffer : ℕ) : Reading Formula → Verdict →
 -- A test that answers the question.
 module _ {Question : Type 0} (code : ℕ) (After : Verdict → Type 0) (o : Verdict) where
   asked : (b : Bool) → (T b → Question) → (Question → T b) → After o → Asked Question code After (cond b o (Verdict.refused code))
-  asked b f g a = by-test b (λ b. Asked Question code After (cond b o (Verdict.refused code))) (λ h. passed (f h) a) (λ h. failed (λ q. h (g q)))
+  asked b f g a = by-test b (λ b. Asked Question code After (cond b o (Verdict.refused code))) (λ h. passed (f h) a)
+      (λ h. failed (λ q. h (g q)))
 
-asked-le : (m n code : ℕ) (After : Verdict → Type 0) (o : Verdict) → After o → Asked (m ≤ n) code After (cond (leb m n) o (Verdict.refused code))
+asked-le : (m n code : ℕ) (After : Verdict → Type 0) (o : Verdict) → After o
+    → Asked (m ≤ n) code After (cond (leb m n) o (Verdict.refused code))
 asked-le m n code After o = asked code After o (leb m n) (leb→le m n) (le→leb m n)
 
 pub capacity-of : (N M : ℕ) → T (between 1 1024 N && between 1 4096 M) → Capacity N M
@@ -104,7 +107,8 @@ read-answered N M workspace buffer (Reading.accepted f) =
     (concluded f (first (accepting t) ps) refl))))))
 
 -- Theorem: the verdict answers the questions.
-pub verdict-answered : (N M workspace buffer : ℕ) (bytes : List ℕ) → Answered N M workspace buffer (parse bytes) (verdict N M workspace buffer bytes)
+pub verdict-answered : (N M workspace buffer : ℕ) (bytes : List ℕ)
+    → Answered N M workspace buffer (parse bytes) (verdict N M workspace buffer bytes)
 unfolding verdict
 verdict-answered N M workspace buffer bytes = read-answered N M workspace buffer (parse bytes)
 
@@ -145,4 +149,5 @@ concluded-settled t o p (unmet n) (unmet m) = refl
 pub answered-settled : (N M workspace buffer : ℕ) (r : Reading Formula) → Settles (Answered N M workspace buffer r)
 answered-settled N M workspace buffer r o p unread unread = refl
 answered-settled N M workspace buffer r o p (read {f} a) (read b) =
-    asked-settled _ 11 _ (asked-settled _ 12 _ (asked-settled _ 13 _ (asked-settled _ 14 _ (asked-settled _ 15 _ (concluded-settled (table f)))))) o p a b
+    asked-settled _ 11 _ (asked-settled _ 12 _
+    (asked-settled _ 13 _ (asked-settled _ 14 _ (asked-settled _ 15 _ (concluded-settled (table f)))))) o p a b

@@ -39,7 +39,8 @@ witness-length w =
     ∙ omega (arith, length-append (w .there) (w .around), w .stem-is, w .cycle-is)
 
 -- the stem to a node is the way that the node comes with
-pub stem-of : (ns : List (Item Transition Subset)) → Distinct ns → {x : Item Transition Subset} → List·Memᴰ x ns → stem-to (x .at) ns ≡ x .way
+pub stem-of : (ns : List (Item Transition Subset)) → Distinct ns → {x : Item Transition Subset} → List·Memᴰ x ns
+    → stem-to (x .at) ns ≡ x .way
 stem-of [] d m = absurd (List·Memᴰ·not-nil m)
 stem-of (n ∷ ns) (Distinct.more f d) {x} m =
     by-test (same-subset (x .at) (n .at)) (λ b. cond b (n .way) (stem-to (x .at) ns) ≡ x .way)
@@ -54,7 +55,8 @@ stem-of (n ∷ ns) (Distinct.more f d) {x} m =
       | inr r ↦ stem-of ns d r
     ])
 
-re-rank : {L K : Type 0} (r q : Item L K → ℕ) {xs : List (Item L K)} → Sorted r xs → ((x : Item L K) → List·Memᴰ x xs → r x ≡ q x) → Sorted q xs
+re-rank : {L K : Type 0} (r q : Item L K → ℕ) {xs : List (Item L K)} → Sorted r xs → ((x : Item L K) → List·Memᴰ x xs → r x ≡ q x)
+    → Sorted q xs
 re-rank r q Sorted.none f = Sorted.none
 re-rank r q (Sorted.more {x} {xs} g s) f =
     Sorted.more {x = x} {xs = xs} (λ y m. omega (arith, g y m, f x (List·Memᴰ·head refl), f y (List·Memᴰ·tail m)))
@@ -80,7 +82,8 @@ module _ (t : Table) where
       re-rank (λ n. length (n .way)) (λ n. distance (n .at)) (rest (subst (Sorted (λ n. length (n .way))) (nodes-first t) (nodes-sorted t)))
       (λ n m. distance-is n (others-in t m))
     where
-      rest : {x : Item Transition Subset} {xs : List (Item Transition Subset)} → Sorted (λ n. length (n .way)) (x ∷ xs) → Sorted (λ n. length (n .way)) xs
+      rest : {x : Item Transition Subset} {xs : List (Item Transition Subset)} → Sorted (λ n. length (n .way)) (x ∷ xs)
+          → Sorted (λ n. length (n .way)) xs
       rest (Sorted.more f s) = s
 
   near : (n : Item Transition Subset) → List·Memᴰ n (nodes t) → distance (n .at) < node-count t

@@ -47,7 +47,8 @@ pub record Witness (t : Table) (stem cycle : ℕ) (letters : List ℕ) : Type 0 
   pub cycle-is : cycle ≡ length around
   pub letters-are : letters ≡ map (λ (s : Transition). s .letter) (there ++ around)
   pub cycle-fewest : (v : Subset) (ss : List Transition) → AcceptingCycle t v ss → cycle ≤ length ss
-  pub stem-fewest : (v : Subset) (ss rs : List Transition) → AcceptingCycle t v ss → length ss ≡ cycle → Along t (root t) rs v → stem ≤ length rs
+  pub stem-fewest : (v : Subset) (ss rs : List Transition) → AcceptingCycle t v ss → length ss ≡ cycle → Along t (root t) rs v
+      → stem ≤ length rs
   pub stem-short : stem < node-count t
   pub cycle-short : cycle ≤ profile-count t
 

@@ -160,7 +160,8 @@ fn write_cycle(area: &[u8], shelf: Shelf, p: usize, letters: &mut [u16], from: u
     requires { ⌜ Lent shelf (length (now area)) ⌝ }
     requires { ⌜ (p < shelf .capacity) × Linked (record-of shelf (now area)) (suc p) ⌝ }
     requires { ⌜ (n ≡ length (letters-to (record-of shelf (now area)) (suc p))) × (from + n ≤ length (now letters)) ⌝ }
-    ensures { λ r. ⌜ Written from (letters-to (record-of shelf (now (area .entry))) (suc p)) (now (letters .entry)) (now (letters .exit)) ⌝ }
+    ensures { λ r. ⌜ Written from (letters-to (record-of shelf (now (area .entry))) (suc p)) (now (letters .entry))
+        (now (letters .exit)) ⌝ }
 {
     let mut at = p + 1;
     let mut left = n;
@@ -215,7 +216,8 @@ fn witnessed(
     requires { ⌜ Profiled (now rows) count (now area) shelf nodes profiles ⌝ }
     requires { ⌜ (p < profiles) × First (λ i. accepting (table-of (now rows) count) (record-of shelf (now area) i)) profiles p ⌝ }
     requires { ⌜ nodes + profiles ≤ length (now letters) ⌝ }
-    ensures { λ r. ⌜ Answers (table-of (now (rows .entry)) count) (concluded (table-of (now (rows .entry)) count)) (now (letters .entry)) (now (letters .exit)) r ⌝ }
+    ensures { λ r. ⌜ Answers (table-of (now (rows .entry)) count) (concluded (table-of (now (rows .entry)) count))
+        (now (letters .entry)) (now (letters .exit)) r ⌝ }
 {
     let cycle = length_of(area, shelf, p);
     let e = runs::ends_of(area, shelf, p);
@@ -244,7 +246,8 @@ fn answered(
     requires { ⌜ Profiled (now rows) count (now area) shelf nodes profiles ⌝ }
     requires { ⌜ Ranked (fix-rank (now rows)) count (now fix) ⌝ }
     requires { ⌜ nodes + profiles ≤ length (now letters) ⌝ }
-    ensures { λ r. ⌜ Answers (table-of (now (rows .entry)) count) (concluded (table-of (now (rows .entry)) count)) (now (letters .entry)) (now (letters .exit)) r ⌝ }
+    ensures { λ r. ⌜ Answers (table-of (now (rows .entry)) count) (concluded (table-of (now (rows .entry)) count))
+        (now (letters .entry)) (now (letters .exit)) r ⌝ }
 {
     let mask = traces::least_mask(rows, count, fix);
     let p = accepting(area, shelf, profiles, mask);
@@ -267,7 +270,8 @@ fn profiles_of(
     nodes: usize,
 ) -> usize
     requires { ⌜ Given (now rows) count r shelf nodes (now area) ⌝ }
-    ensures { λ all. ⌜ ((fuel : ℕ) → shelf .capacity < fuel → Grown shelf 0 (now (area .entry)) all (now (area .exit)) (profiles fuel (table-of (now (rows .entry)) count) (nodes-in count (now (area .entry)) nodes))) ⌝ }
+    ensures { λ all. ⌜ ((fuel : ℕ) → shelf .capacity < fuel → Grown shelf 0 (now (area .entry)) all (now (area .exit))
+        (profiles fuel (table-of (now (rows .entry)) count) (nodes-in count (now (area .entry)) nodes))) ⌝ }
 {
     let ones = runs::singles(rows, count, r, shelf, area, nodes);
     if shelf.capacity < ones {
@@ -287,7 +291,8 @@ fn searched(
 ) -> Verdict
     requires { ⌜ Decoded (now rows) count ⌝ }
     requires { ⌜ Lends «node_capacity» «profile_capacity» (length (now area)) (length (now letters)) ⌝ }
-    ensures { λ r. ⌜ Searched (table-of (now (rows .entry)) count) «node_capacity» «profile_capacity» (now (area .entry)) (now (area .exit)) (now (letters .entry)) (now (letters .exit)) r ⌝ }
+    ensures { λ r. ⌜ Searched (table-of (now (rows .entry)) count) «node_capacity» «profile_capacity» (now (area .entry))
+        (now (area .exit)) (now (letters .entry)) (now (letters .exit)) r ⌝ }
 {
     let nodes = tableau::nodes(rows, count, area, node_capacity);
     if node_capacity < nodes {
@@ -310,7 +315,8 @@ fn searched(
 // The questions after reading, in their order.
 fn lent(t: Table, n: usize, m: usize, workspace: &mut [u8], letters: &mut [u16]) -> Verdict
     requires { ⌜ Decoded (t .rows) (t .count) ⌝ }
-    ensures { λ r. ⌜ Settled (table-of (t .rows) (t .count)) n m (now (workspace .entry)) (now (workspace .exit)) (now (letters .entry)) (now (letters .exit)) r ⌝ }
+    ensures { λ r. ⌜ Settled (table-of (t .rows) (t .count)) n m (now (workspace .entry)) (now (workspace .exit))
+        (now (letters .entry)) (now (letters .exit)) r ⌝ }
 {
     if n < 1 {
         return Verdict::Refused(11);
@@ -338,7 +344,8 @@ fn lent(t: Table, n: usize, m: usize, workspace: &mut [u8], letters: &mut [u16])
 
 // Whether any lasso meets the formula in the bytes s, with capacities n of nodes and m of profiles.
 pub fn decide(s: &[u8], n: usize, m: usize, workspace: &mut [u8], letters: &mut [u16]) -> Verdict
-    ensures { λ r. ⌜ Decided (now (s .entry)) n m (now (workspace .entry)) (now (workspace .exit)) (now (letters .entry)) (now (letters .exit)) r ⌝ }
+    ensures { λ r. ⌜ Decided (now (s .entry)) n m (now (workspace .entry)) (now (workspace .exit)) (now (letters .entry))
+        (now (letters .exit)) r ⌝ }
 {
     let r = formula::read(s);
     let outcome = r.outcome;

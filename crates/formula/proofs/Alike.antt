@@ -11,7 +11,8 @@ use native.Mathlib.Omega.{arith}
 use lib.Dec.{T, ltb, leb, ltb→lt}
 use lib.ListN.{length, getD}
 use Rattle.formula.specs.Formula.{Formula}
-use Rattle.formula.specs.Reading.{Opcode, opcode, Head, Read, Reader, and-then, byte-from, byte, answered, known, within, one-more, counted, Scope, operands, questions, formula}
+use Rattle.formula.specs.Reading.{Opcode, opcode, Head, Read, Reader, and-then, byte-from, byte, answered, known, within}
+use Rattle.formula.specs.Reading.{one-more, counted, Scope, operands, questions, formula}
 use Rattle.formula.proofs.Commands.{or-command, next-command, fix-command, one-if, counted-is, behind}
 
 -- the same head at another place, over other bytes
@@ -82,7 +83,8 @@ module _ (P : ℕ → ℕ → Type 0) where
     got : {a : A} {h : Head} {l : List ℕ} → R h l → Alike place R (Read.got a h) (Read.got a (moved place h l))
 
   then-alike : {A B : Type 0} {place : ℕ → ℕ} {R S : Head → List ℕ → Type 0} {x y : Read A} (f g : A → Reader B) → Alike place R x y
-      → ((a : A) (h : Head) (l : List ℕ) → R h l → Alike place S (f a h) (g a (moved place h l))) → Alike place S (and-then f x) (and-then g y)
+      → ((a : A) (h : Head) (l : List ℕ) → R h l → Alike place S (f a h) (g a (moved place h l)))
+      → Alike place S (and-then f x) (and-then g y)
   then-alike f g (Alike.refused p) go = Alike.refused p
   then-alike f g (Alike.got r) go = go _ _ _ r
 
@@ -94,7 +96,8 @@ module _ (P : ℕ → ℕ → Type 0) where
         ap place e ∙ omega (arith, along i)
 
     -- a question about that byte
-    ask-alike : {A : Type 0} {S : Head → List ℕ → Type 0} {n m s : ℕ} {x y : List ℕ} (h : Head) (b : Bool) (code : ℕ) (f g : Unit {0} → Reader A)
+    ask-alike : {A : Type 0} {S : Head → List ℕ → Type 0} {n m s : ℕ} {x y : List ℕ} (h : Head) (b : Bool) (code : ℕ)
+        (f g : Unit {0} → Reader A)
         → AtByte code → Near R n m s (behind h x) y → (T b → Alike place S (f tt (behind h x)) (g tt (moved place (behind h x) y)))
         → Alike place S (and-then f (answered b code (behind h x))) (and-then g (answered b code (moved place (behind h x) y)))
     ask-alike h true code f g c r go = go tt
@@ -121,7 +124,8 @@ module _ (P : ℕ → ℕ → Type 0) where
 
     -- two readers of a formula that go alike on at most n and m bytes
     module _ (n m : ℕ) (self other : Scope → Reader Formula)
-        (agree : (scope : Scope) (h : Head) (l : List ℕ) → Near R n m 1 h l → Alike place (Near R n m 1) (self scope h) (other scope (moved place h l))) where
+        (agree : (scope : Scope) (h : Head) (l : List ℕ) → Near R n m 1 h l
+        → Alike place (Near R n m 1) (self scope h) (other scope (moved place h l))) where
       abbrev Agree : Read Formula → Read Formula → Type 0
       Agree = Alike place (Near R n m 1)
 
@@ -153,12 +157,14 @@ module _ (P : ℕ → ℕ → Type 0) where
           let p = one-if (next-command op) in
           let q = one-if (fix-command op) in
           rw (counted-is op h, counted-is op (moved place h l))
-          (operands-alike scope op (one-more o p q h) l (record { alike = looks .count o p q h l c (r .alike); first = r .first; second = r .second }))
+          (operands-alike scope op (one-more o p q h) l
+          (record { alike = looks .count o p q h l c (r .alike); first = r .first; second = r .second }))
 
       -- the question about the limits, and what follows
       limits-alike : (scope : Scope) (op : Opcode) (h : Head) (x y : List ℕ) → h .commands < 48 → Near R n m 0 (behind h x) y
           → Agree (and-then (λ u k. operands self scope op (counted op k)) (answered (within op (behind h x)) 4 (behind h x)))
-          (and-then (λ u k. operands other scope op (counted op k)) (answered (within op (moved place (behind h x) y)) 4 (moved place (behind h x) y)))
+          (and-then (λ u k. operands other scope op (counted op k))
+          (answered (within op (moved place (behind h x) y)) 4 (moved place (behind h x) y)))
       limits-alike scope op h x y c r =
           rw (within-moved place op (behind h x) y)
           (ask-alike h (within op (behind h x)) 4 _ _ AtByte.limits r λ t. counted-alike scope op (behind h x) y c r)
@@ -177,7 +183,8 @@ module _ (P : ℕ → ℕ → Type 0) where
     -- where one bound on the nesting is used up, neither has a byte left
     none-left : {n m : ℕ} {h : Head} {x y : List ℕ} (d e : ℕ) (scope : Scope) → Look (R 0) h x y → length x ≤ 0 ⊎ length y ≤ 0
         → Alike place (Near R n m 1) (formula d scope (over h x)) (formula e scope (moved place h y))
-    none-left {h = h} d e scope (Look.none p) z = rw (no-byte d scope (over h []), no-byte e scope (moved place h [])) (Alike.refused (p 1 AtEnd.command))
+    none-left {h = h} d e scope (Look.none p) z =
+        rw (no-byte d scope (over h []), no-byte e scope (moved place h [])) (Alike.refused (p 1 AtEnd.command))
     none-left d e scope (Look.some q) z = absurd (⊎-elim (λ i. omega arith) (λ i. omega arith) z)
 
     pub formula-alike : (d e : ℕ) (scope : Scope) (h : Head) (l : List ℕ) → Near R d e 1 h l

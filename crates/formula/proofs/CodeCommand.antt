@@ -17,7 +17,8 @@ use Rattle.formula.specs.declared.Refusal.{Refusal}
 use Rattle.formula.specs.declared.Taken.{Taken}
 use Rattle.formula.specs.declared.Taken.the-variants as taken
 use Rattle.formula.specs.declared.Outcome.the-variants.{Accepted, Refused}
-use Rattle.formula.specs.Promise.{point, enclosing, binders, Further, Ready, Agrees, Command, Opening, Opened, Completed, Around, Inside}
+use Rattle.formula.specs.Promise.{point, enclosing, binders, Further, Ready, Agrees, Command, Opening, Opened, Completed, Around}
+use Rattle.formula.specs.Promise.{Inside}
 use Rattle.formula.proofs.CodeOpcodes.{pair-opcode, fix-opcode}
 use Rattle.formula.proofs.CodeFormula.{clash, refuses, accepted, refused-first, unary, second}
 

@@ -84,12 +84,14 @@ agrees-from f (Agrees.got g) = Agrees.got (record {
 
 -- a refusal of an operand is the formula's
 pub refused-first : {s : List ℕ} {e d : ℕ} {from h : Head} {bs inner rows rows′ : List ℕ} {r : Parsed} {x : Read Formula}
-    (f : Formula → Reader Formula) (why : Refusal) → r .outcome ≡ Refused why → Agrees s d h inner rows r x → Agrees s e from bs rows′ r (and-then f x)
+    (f : Formula → Reader Formula) (why : Refusal) → r .outcome ≡ Refused why → Agrees s d h inner rows r x
+    → Agrees s e from bs rows′ r (and-then f x)
 refused-first f why o (Agrees.refused g) = Agrees.refused g
 refused-first f why o (Agrees.got g) = clash (g .outcome) o
 
 -- a formula of one operand: C makes it of the operand
-pub unary : {s : List ℕ} {e : ℕ} {from h : Head} {bs inner rows : List ℕ} {op : ℕ} {p r : Parsed} {x : Read Formula} (C : Formula → Formula) →
+pub unary : {s : List ℕ} {e : ℕ} {from h : Head} {bs inner rows : List ℕ} {op : ℕ} {p r : Parsed} {x : Read Formula}
+    (C : Formula → Formula) →
     ((a : Formula) → Shape e bs op 0 (C a) (size a) (table-from (e + 1) inner a) (ends-from (e + 1) a)) →
     Further from h → Agrees s (e + 1) h inner rows p x → Completed p e op 0 r → Agrees s e from bs rows r (and-then (λ a. done (C a)) x)
 unary C shape f (Agrees.refused o) c = Agrees.refused (c .refused _ o)
@@ -150,7 +152,8 @@ argued-leaf {s} {e} {h} {x} {bs} {rows} {r} n a fin =
     subst (λ (y : Read Formula). Agrees s e h bs rows r y) (sym (a .is)) (Agrees.got (alone (a .single) (a .count ∙ n) (a .further) fin))
 
 pub refused-leaf : {s : List ℕ} {e : ℕ} {h : Head} {bs rows : List ℕ} {r : Parsed} {answer : Read Formula}
-    {t : Taken} {why : Refusal} (op : ℕ) → t ≡ taken.Refused why → Argument e bs op answer s h t → r .outcome ≡ Refused why → Agrees s e h bs rows r answer
+    {t : Taken} {why : Refusal} (op : ℕ) → t ≡ taken.Refused why → Argument e bs op answer s h t → r .outcome ≡ Refused why
+    → Agrees s e h bs rows r answer
 refused-leaf {s} {e} {h} {bs} {rows} {r} {answer} op q a o = refuses (subst (λ (t : Taken). Argument e bs op answer s h t) q a) o
 
 pub not-complete : {p : Parsed} {e op argument : ℕ} {why : Refusal} → p .outcome ≡ Refused why → Completed p e op argument p

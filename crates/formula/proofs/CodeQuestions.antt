@@ -147,7 +147,8 @@ module _ (s : List ℕ) (h : Head) (op : ℕ) (scope : Scope) (self : Enclosing 
               place,
             )
 
-        pub variable-argued : (e up : ℕ) (p : Head) → up ≡ next-byte s h → scope .depth - 1 - up < scope .guarded → p ≡ behind h → Limits h →
+        pub variable-argued : (e up : ℕ) (p : Head) → up ≡ next-byte s h → scope .depth - 1 - up < scope .guarded → p ≡ behind h
+            → Limits h →
             Argued e (binders scope) op answer s h (getD (scope .binders) (scope .depth - 1 - up) 0) p
         variable-argued e up p same l q w = record {
           got = Formula.variable (next-byte s h);

@@ -60,7 +60,8 @@ module _ (scope : Scope) (e op : ℕ) (nested : scope .guarded ≤ scope .depth)
 
   -- a fixpoint is innermost, and not guarded yet
   pub inside-fix : 8 < op → e < 48 → scope .depth < 7 → length (scope .binders) ≡ 7 →
-      Inside scope e op (record { depth = scope .depth + 1; guarded = scope .guarded; binders = set (scope .binders) (scope .depth) (e % 256) })
+      Inside scope e op (record
+      { depth = scope .depth + 1; guarded = scope .guarded; binders = set (scope .binders) (scope .depth) (e % 256) })
   inside-fix h small few seven = record {
     pair = λ q. absurd (omega arith);
     next = λ q. absurd (omega arith);

@@ -41,7 +41,8 @@ fix-command op = sort op .fix
 abbrev pub one-if : Bool → ℕ
 one-if b = cond b 1 0
 
-pub counted-is : (op : Opcode) (h : Head) → counted op h ≡ one-more (one-if (or-command op)) (one-if (next-command op)) (one-if (fix-command op)) h
+pub counted-is : (op : Opcode) (h : Head) → counted op h ≡ one-more (one-if (or-command op)) (one-if (next-command op))
+    (one-if (fix-command op)) h
 counted-is Opcode.unknown h = refl
 counted-is (Opcode.constant b) h = refl
 counted-is (Opcode.signal b) h = refl

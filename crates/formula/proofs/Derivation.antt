@@ -8,7 +8,8 @@ use native.Mathlib.Omega.{arith}
 use lib.Dec.{T, ltb, leb, ltb→lt, leb→le}
 use lib.ListN.{length, getD}
 use Rattle.formula.specs.Formula.{Leaf, Formula}
-use Rattle.formula.specs.Reading.{Opcode, opcode, Head, Read, Reader, and-then, byte, byte-from, answered, known, within, counted, Scope, operands, questions, formula, Reading, ended, whole, start, parse}
+use Rattle.formula.specs.Reading.{Opcode, opcode, Head, Read, Reader, and-then, byte, byte-from, answered, known, within}
+use Rattle.formula.specs.Reading.{counted, Scope, operands, questions, formula, Reading, ended, whole, start, parse}
 use Rattle.formula.proofs.Commands.{behind}
 
 -- a byte was there: reading went on from h to k
@@ -36,7 +37,8 @@ pub data Reads : Scope → Head → Formula → Head → Type 0 where
       → Reads scope h (Formula.variable d) k
   pair : {scope : Scope} {h i j k : Head} {o : Bool} {a b : Formula} → Begins (Opcode.pair o) h i → Reads scope i a j → Reads scope j b k
       → Reads scope h (Formula.pair o a b) k
-  next : {scope : Scope} {h j k : Head} {a : Formula} → Begins Opcode.next h j → Reads (map (λ _. true) scope) j a k → Reads scope h (Formula.next a) k
+  next : {scope : Scope} {h j k : Head} {a : Formula} → Begins Opcode.next h j → Reads (map (λ _. true) scope) j a k
+      → Reads scope h (Formula.next a) k
   fix : {scope : Scope} {h j k : Head} {g : Bool} {a : Formula} → Begins (Opcode.fix g) h j → Reads (false ∷ scope) j a k
       → Reads scope h (Formula.fix g a) k
 
@@ -63,8 +65,10 @@ done-reads {scope} {h} {j} {k} {a} {f} r e =
     let q : j ≡ k = cc in
     rw (← p, ← q) r
 
-module _ (self : Scope → Reader Formula) (good : (scope : Scope) (h : Head) (f : Formula) (k : Head) → self scope h ≡ Read.got f k → Reads scope h f k) where
-  operands-reads : (scope : Scope) (op : Opcode) (h j : Head) (f : Formula) (k : Head) → Begins op h j → operands self scope op j ≡ Read.got f k
+module _ (self : Scope → Reader Formula)
+    (good : (scope : Scope) (h : Head) (f : Formula) (k : Head) → self scope h ≡ Read.got f k → Reads scope h f k) where
+  operands-reads : (scope : Scope) (op : Opcode) (h j : Head) (f : Formula) (k : Head) → Begins op h j
+      → operands self scope op j ≡ Read.got f k
       → Reads scope h f k
   operands-reads scope Opcode.unknown h j f k c e = absurd (c .known)
   operands-reads scope (Opcode.constant b) h j f k c e = done-reads (Reads.constant c) e
@@ -106,7 +110,8 @@ ended-reads f h [] g e = (cc, refl)
 ended-reads f h (b ∷ l) g e = absurd (let z : _≡_ {A = ℕ} 0 1 = cc in omega arith)
 
 -- an accepted formula was read from the start, and no byte is left behind it
-pub parse-reads : (bytes : List ℕ) (f : Formula) → parse bytes ≡ Reading.accepted f → (k : Head) × Reads [] (start bytes) f k × (k .left ≡ [])
+pub parse-reads : (bytes : List ℕ) (f : Formula) → parse bytes ≡ Reading.accepted f
+    → (k : Head) × Reads [] (start bytes) f k × (k .left ≡ [])
 unfolding parse
 parse-reads bytes f e = by (formula (length bytes) [] (start bytes)) refl e
   where

@@ -8,7 +8,8 @@ use native.Mathlib.Nat.{add-zero, zero-add}
 use native.Mathlib.Omega.{arith}
 use lib.ListN.{length, drop, drop-of-length-le}
 use Rattle.formula.specs.Formula.{Formula}
-use Rattle.formula.specs.Reading.{Head, Read, Reading, ended, whole, formula, start, parse, with-entries, reading, places-from, reading-from}
+use Rattle.formula.specs.Reading.{Head, Read, Reading, ended, whole, formula, start, parse, with-entries, reading, places-from}
+use Rattle.formula.specs.Reading.{reading-from}
 use Rattle.formula.proofs.Alike.{Alike, Near, moved, formula-alike}
 use Rattle.formula.proofs.Fuel.{Stopped, Same, looks-same, near}
 

@@ -26,7 +26,13 @@ pub record Same (total s : ℕ) (h : Head) (l : List ℕ) : Type 0 where
 
 other : {total place : ℕ} (code : ℕ) → 1 < code → code ≤ 9 → (code ≡ 5 → ⊥) → place < total → Stopped total code place
 other code a b c i =
-    record { some = omega arith; known = b; inside = omega arith; missing = λ e. absurd (⊎-elim (λ (q : code ≡ 1). omega arith) c e); present = λ x y. i }
+    record {
+      some = omega arith;
+      known = b;
+      inside = omega arith;
+      missing = λ e. absurd (⊎-elim (λ (q : code ≡ 1). omega arith) c e);
+      present = λ x y. i;
+    }
 
 at-byte : {total place code : ℕ} → place < total → AtByte code → Stopped total code place
 at-byte i AtByte.unknown = other 2 (omega arith) (omega arith) (λ q. omega arith) i
@@ -37,8 +43,20 @@ at-byte i AtByte.depth = other 7 (omega arith) (omega arith) (λ q. omega arith)
 at-byte i AtByte.unguarded = other 8 (omega arith) (omega arith) (λ q. omega arith) i
 
 at-end : {total place code : ℕ} → place ≡ total → AtEnd code → Stopped total code place
-at-end i AtEnd.command = record { some = omega arith; known = omega arith; inside = omega arith; missing = λ e. i; present = λ x y. absurd (x refl) }
-at-end i AtEnd.operand = record { some = omega arith; known = omega arith; inside = omega arith; missing = λ e. i; present = λ x y. absurd (y refl) }
+at-end i AtEnd.command = record {
+  some = omega arith;
+  known = omega arith;
+  inside = omega arith;
+  missing = λ e. i;
+  present = λ x y. absurd (x refl);
+}
+at-end i AtEnd.operand = record {
+  some = omega arith;
+  known = omega arith;
+  inside = omega arith;
+  missing = λ e. i;
+  present = λ x y. absurd (y refl);
+}
 
 module _ (total : ℕ) where
   look-same : (s : ℕ) (h : Head) (x : List ℕ) → h .at + length x ≡ total → Look (Stopped total) (Same total s) h x x
@@ -66,7 +84,8 @@ module _ (total : ℕ) where
       → Kept d e (formula d scope h) (formula e scope (over h l))
   kept = formula-alike (Stopped total) same (λ i. refl) (Same total) looks-same
 
-  ended-stopped : (f : Formula) (h : Head) (x : List ℕ) (code place : ℕ) → h .at + length x ≡ total → ended f h x ≡ Reading.refused code place
+  ended-stopped : (f : Formula) (h : Head) (x : List ℕ) (code place : ℕ) → h .at + length x ≡ total
+      → ended f h x ≡ Reading.refused code place
       → Stopped total code place
   ended-stopped f h [] code place i e = absurd (let z : _≡_ {A = ℕ} 0 1 = cc in omega arith)
   ended-stopped f h (b ∷ x) code place i e =
@@ -74,7 +93,8 @@ module _ (total : ℕ) where
       let p : place ≡ h .at = cc in
       other code (omega arith) (omega arith) (λ q. omega arith) (omega arith)
 
-  whole-stopped : {n m : ℕ} {x y : Read Formula} (code place : ℕ) → Kept n m x y → whole x ≡ Reading.refused code place → Stopped total code place
+  whole-stopped : {n m : ℕ} {x y : Read Formula} (code place : ℕ) → Kept n m x y → whole x ≡ Reading.refused code place
+      → Stopped total code place
   whole-stopped code place (Alike.refused {code = c} {at = p} s) e =
       let a : c ≡ code = cc in
       let b : p ≡ place = cc in
@@ -86,7 +106,8 @@ pub near : (n m : ℕ) (h : Head) → length (h .left) ≤ n → length (h .left
     → Near (Same (h .at + length (h .left))) n m 1 h (h .left)
 near n m h i j = record { alike = record { same = refl; sum = refl }; first = i; second = j }
 
-pub formula-fuel : (d e : ℕ) (scope : Scope) (h : Head) → length (h .left) ≤ d → length (h .left) ≤ e → formula d scope h ≡ formula e scope h
+pub formula-fuel : (d e : ℕ) (scope : Scope) (h : Head) → length (h .left) ≤ d → length (h .left) ≤ e
+    → formula d scope h ≡ formula e scope h
 formula-fuel d e scope h i j =
     kept-equal (h .at + length (h .left)) (kept (h .at + length (h .left)) d e scope h (h .left) (near d e h i j))
 
@@ -104,7 +125,8 @@ formula-unfolds scope h = by (h .left)
         let g = over h (b ∷ x) in
         let total = g .at + length (g .left) in
         kept-equal total
-        (questions-alike (Stopped total) same (λ i. refl) (Same total) (looks-same total) (length x) (length x) (formula (length x)) formula-at
+        (questions-alike (Stopped total) same (λ i. refl) (Same total) (looks-same total) (length x) (length x) (formula (length x))
+        formula-at
         (λ scope k l r. subst (Kept total (length x) (length x) (formula (length x) scope k))
         (formula-fuel (length x) (length l) scope (over k l) (r .second) (omega arith))
         (kept total (length x) (length x) scope k l r))
@@ -118,5 +140,6 @@ parse-stopped bytes code place e =
     (kept (length bytes) (length bytes) (length bytes) [] (start bytes) bytes
     (record { alike = record { same = refl; sum = omega arith }; first = omega arith; second = omega arith })) e
 
-pub short-at-length : (bytes : List ℕ) (code place : ℕ) → (code ≡ 1) ⊎ (code ≡ 5) → parse bytes ≡ Reading.refused code place → place ≡ length bytes
+pub short-at-length : (bytes : List ℕ) (code place : ℕ) → (code ≡ 1) ⊎ (code ≡ 5) → parse bytes ≡ Reading.refused code place
+    → place ≡ length bytes
 short-at-length bytes code place c e = parse-stopped bytes code place e .missing c

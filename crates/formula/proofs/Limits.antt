@@ -92,8 +92,16 @@ module _ {count : Head → ℕ} {test : Opcode → Bool} {limit : ℕ} (c : Coun
   begun : {op : Opcode} {h k : Head} → Begins op h k → Grew h k (one-if (test op))
   begun {op} {h} {k} b =
       let g : Head = behind h (b .rest) in
-      let e : count k ≡ count h + one-if (test op) = ap count (b .moved) ∙ c .grows op g ∙ ap (λ (n : ℕ). n + one-if (test op)) (c .kept h (b .rest)) in
-      record { by = e; within = λ i. omega (arith, c .stays op g (b .few) (b .within) (omega (arith, c .kept h (b .rest))), c .kept h (b .rest)) }
+      let e : count k ≡ count h + one-if (test op) = ap count (b .moved) ∙ c .grows op g
+      ∙ ap (λ (n : ℕ). n + one-if (test op)) (c .kept h (b .rest)) in
+      record {
+        by = e;
+        within = λ i. omega (
+          arith,
+          c .stays op g (b .few) (b .within) (omega (arith, c .kept h (b .rest))),
+          c .kept h (b .rest),
+        );
+      }
 
   join : {h j k : Head} {n m : ℕ} → Grew h j n → Grew j k m → Grew h k (n + m)
   join a b = record { by = omega (arith, a .by, b .by); within = λ i. b .within (a .within i) }
@@ -122,15 +130,27 @@ count-commands =
 
 count-ors : Counter (λ (h : Head). h .ors) or-command 12
 count-ors =
-    record { kept = λ h rest. refl; grows = λ op h. ap (λ (k : Head). k .ors) (counted-is op h); stays = λ op h i w l. within-fits op h w .ors l }
+    record {
+      kept = λ h rest. refl;
+      grows = λ op h. ap (λ (k : Head). k .ors) (counted-is op h);
+      stays = λ op h i w l. within-fits op h w .ors l;
+    }
 
 count-nexts : Counter (λ (h : Head). h .nexts) next-command 12
 count-nexts =
-    record { kept = λ h rest. refl; grows = λ op h. ap (λ (k : Head). k .nexts) (counted-is op h); stays = λ op h i w l. within-fits op h w .nexts l }
+    record {
+      kept = λ h rest. refl;
+      grows = λ op h. ap (λ (k : Head). k .nexts) (counted-is op h);
+      stays = λ op h i w l. within-fits op h w .nexts l;
+    }
 
 count-fixpoints : Counter (λ (h : Head). h .fixpoints) fix-command 7
 count-fixpoints =
-    record { kept = λ h rest. refl; grows = λ op h. ap (λ (k : Head). k .fixpoints) (counted-is op h); stays = λ op h i w l. within-fits op h w .fixpoints l }
+    record {
+      kept = λ h rest. refl;
+      grows = λ op h. ap (λ (k : Head). k .fixpoints) (counted-is op h);
+      stays = λ op h i w l. within-fits op h w .fixpoints l;
+    }
 
 reads-ranged : {scope : Scope} {h k : Head} (f : Formula) → Reads scope h f k → Ranged f
 reads-ranged f (Reads.constant b) = tt
@@ -197,7 +217,8 @@ module _ (q : Operator → Bool) (test : Opcode → Bool) (same : (o : Operator)
         from-tally (e + 1) binders a,
         from-tally (e + 1 + size a) binders b,
       )
-  from-tally e binders (Formula.next a) = omega (arith, one-more (Operator.next (e + 1)) (table-from (e + 1) binders a), from-tally (e + 1) binders a)
+  from-tally e binders (Formula.next a) =
+      omega (arith, one-more (Operator.next (e + 1)) (table-from (e + 1) binders a), from-tally (e + 1) binders a)
   from-tally e binders (Formula.fix g a) =
       omega (arith, one-more (Operator.fix g (e + 1)) (table-from (e + 1) (e ∷ binders) a), from-tally (e + 1) (e ∷ binders) a)
 
@@ -206,7 +227,8 @@ module _ (q : Operator → Bool) (test : Opcode → Bool) (same : (o : Operator)
   table-tally f = from-tally 0 [] f
 
 -- an operator is an or, a next, a fixpoint by its opcode
-tests-same : (o : Operator) → (is-or o ≡ or-command (opcode-of o)) × (is-next o ≡ next-command (opcode-of o)) × (is-fix o ≡ fix-command (opcode-of o))
+tests-same : (o : Operator) → (is-or o ≡ or-command (opcode-of o)) × (is-next o ≡ next-command (opcode-of o)) ×
+    (is-fix o ≡ fix-command (opcode-of o))
 tests-same (Operator.leaf (Leaf.constant b)) = (refl, refl, refl)
 tests-same (Operator.leaf (Leaf.signal present s)) = (refl, refl, refl)
 tests-same (Operator.variable m) = (refl, refl, refl)

@@ -51,7 +51,8 @@ coded (suc (suc (suc (suc (suc (suc (suc zero))))))) = Coded.pair 7 (omega arith
 coded (suc (suc (suc (suc (suc (suc (suc (suc zero)))))))) = Coded.next 8 (omega arith)
 coded (suc (suc (suc (suc (suc (suc (suc (suc (suc zero))))))))) = Coded.fix 9 (omega arith) (omega arith)
 coded (suc (suc (suc (suc (suc (suc (suc (suc (suc (suc zero)))))))))) = Coded.fix 10 (omega arith) (omega arith)
-coded (suc (suc (suc (suc (suc (suc (suc (suc (suc (suc (suc c))))))))))) = Coded.unknown (suc (suc (suc (suc (suc (suc (suc (suc (suc (suc (suc c)))))))))))
+coded (suc (suc (suc (suc (suc (suc (suc (suc (suc (suc (suc c))))))))))) =
+    Coded.unknown (suc (suc (suc (suc (suc (suc (suc (suc (suc (suc (suc c)))))))))))
 
 fix-code : {c : ℕ} {op : Opcode} (a e : ℕ) → Coded c op → T (is-fix (operator-of op a e)) → (8 < c) × (c < 11)
 fix-code a e (Coded.unknown c) t = absurd t
@@ -172,7 +173,12 @@ reading-held bytes r e a = by (parse bytes) refl (sym e ∙ ap (λ o. reading-by
     by (Reading.refused n p) q e = absurd (let z : _≡_ {A = ℕ} 0 1 = cc in omega arith)
     by (Reading.accepted f) q e =
         let same : entries f ≡ entries-of (r .table) = cc in
-        record { formula = f; parsed = q; operators = sym (ap (λ (x : Entries). x .operators) same); ends = sym (ap (λ (x : Entries). x .ends) same) }
+        record {
+          formula = f;
+          parsed = q;
+          operators = sym (ap (λ (x : Entries). x .operators) same);
+          ends = sym (ap (λ (x : Entries). x .ends) same);
+        }
 
 module _ {bytes : List ℕ} {t : Table} (h : Held bytes t) where
   pub held-count : t .count ≡ size (h .formula)

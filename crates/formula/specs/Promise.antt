@@ -8,7 +8,8 @@ use lib.Dec.{ltb}
 use lib.ListN.{length, getD, drop}
 use Rattle.formula.specs.Formula.{Formula, size}
 use Rattle.formula.specs.Table.{Operator, Table as Operators, table-from, ends-from}
-use Rattle.formula.specs.Reading.{opcode, Head as Point, Read, Reader, Scope as Enclosing, within, counted, operands, formula, reading-from}
+use Rattle.formula.specs.Reading.{opcode, Head as Point, Read, Reader, Scope as Enclosing, within, counted, operands, formula}
+use Rattle.formula.specs.Reading.{reading-from}
 use Rattle.formula.specs.Rows.{operator-of, operator-at, end-at, operators-of, ends-of, reading-of}
 use Rattle.formula.specs.Holds.{Holds}
 use Rattle.formula.specs.declared.Head.{Head}
@@ -143,12 +144,13 @@ pub record Single (e : ℕ) (binders : List ℕ) (f : Formula) (x : Operator) : 
   pub ends : ends-from e f ≡ (e + 1) ∷ []
 
 -- The definition's answer is a leaf or a variable whose row has the argument; reading went from h to x.
-pub record Argued (e : ℕ) (binders : List ℕ) (op : ℕ) (answer : Read Formula) (s : List ℕ) (h : Head) (argument : ℕ) (x : Head) : Type 0 where
-  pub got : Formula
-  pub is : answer ≡ Read.got got (point s x)
-  pub single : Single e binders got (operator-of (opcode op) argument e)
-  pub count : x .count ≡ h .count
-  pub further : Further h x
+pub record Argued (e : ℕ) (binders : List ℕ) (op : ℕ) (answer : Read Formula) (s : List ℕ) (h : Head) (argument : ℕ) (x : Head) : Type 0
+  where
+    pub got : Formula
+    pub is : answer ≡ Read.got got (point s x)
+    pub single : Single e binders got (operator-of (opcode op) argument e)
+    pub count : x .count ≡ h .count
+    pub further : Further h x
 
 -- That, or the definition's answer is the refusal.
 abbrev pub Argument : ℕ → List ℕ → ℕ → Read Formula → List ℕ → Head → Taken → Type 0

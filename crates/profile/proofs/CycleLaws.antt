@@ -55,7 +55,8 @@ module _ (t : Table) (distance : Subset → ℕ) (d : ℕ) (rising : Sorted (λ 
         let xs = c .carried in
         let (x, m, e, h) = profiles-near t distance d rising near (c .run) (record { reachable = c .reachable; no-root = n }) in
         let good : T (same-subset v v && not (rejecting t xs)) =
-        and-both (same-subset v v) (not (rejecting t xs)) (subset-refl v) (not-T (rejecting t xs) (λ b. c .accepts (rejecting-of t xs b))) in
+        and-both (same-subset v v) (not (rejecting t xs)) (subset-refl v)
+        (not-T (rejecting t xs) (λ b. c .accepts (rejecting-of t xs b))) in
         record {
           item = x;
           present = m;

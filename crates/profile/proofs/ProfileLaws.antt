@@ -88,12 +88,14 @@ module _ (t : Table) where
       → (n : Item Transition Subset) × List·Memᴰ n (tail (nodes t)) × List·Memᴰ x (singles n)
   start-of m = gather-of singles (tail (nodes t)) m
 
-  found-run : (x : Item Transition Profile) → Found same-profile (profile-edges t) starts x → Run t (x .at) (x .way) × Begins t (x .at .first)
+  found-run : (x : Item Transition Profile) → Found same-profile (profile-edges t) starts x
+      → Run t (x .at) (x .way) × Begins t (x .at .first)
   found-run x (Found.start m) =
       let (n, p, q) = start-of m in
       let (s, r, e) = single-of n q in
       let (i, j) = others-reachable t (n, p, refl) in
-      subst (λ (y : Item Transition Profile). Run t (y .at) (y .way) × Begins t (y .at .first)) e (one r, record { reachable = i; no-root = j })
+      subst (λ (y : Item Transition Profile). Run t (y .at) (y .way) × Begins t (y .at .first)) e
+      (one r, record { reachable = i; no-root = j })
   found-run y (Found.go {x} {e} f m) =
       let (s, r, q) = edges-of (x .at) m in
       let (a, b) = found-run x f in
@@ -127,7 +129,8 @@ module _ (t : Table) where
   all-length =
       length-gather (λ (a : Subset). gather (between a) node-sets) (length node-sets * 2 ^ length (all-triples t)) node-sets
       (λ a. length-gather (between a) (2 ^ length (all-triples t)) node-sets
-      (λ b. length-map (parts (all-triples t)) (λ (c : List Triple). record { first = a; last = b; carried = c }) ∙ parts-length (all-triples t)))
+      (λ b. length-map (parts (all-triples t)) (λ (c : List Triple). record { first = a; last = b; carried = c })
+      ∙ parts-length (all-triples t)))
       ∙ simp (length-map, mul-assoc)
 
   pub few : length (profiles t (nodes t)) < room
@@ -135,7 +138,8 @@ module _ (t : Table) where
   few =
       omega (
         arith,
-        search-few same-profile (profile-edges t) profile-refl room starts all-profiles (λ x f. let (a, b) = found-run x f in run-profile a (b .reachable)),
+        search-few same-profile (profile-edges t) profile-refl room starts all-profiles
+            (λ x f. let (a, b) = found-run x f in run-profile a (b .reachable)),
         all-length,
       )
 
@@ -186,7 +190,8 @@ module _ (t : Table) (distance : Subset → ℕ) (d : ℕ) (rising : Sorted (λ 
         let (s, r, q) = single-of t n m in
         subst (λ (z : Item Transition Profile). rank z ≡ d + distance (n .at)) q (ap (λ (k : ℕ). k + distance (n .at)) (one-mul d))
 
-    singles-sorted : (ns : List (Item Transition Subset)) → Sorted (λ (n : Item Transition Subset). distance (n .at)) ns → Sorted rank (gather (singles t) ns)
+    singles-sorted : (ns : List (Item Transition Subset)) → Sorted (λ (n : Item Transition Subset). distance (n .at)) ns
+        → Sorted rank (gather (singles t) ns)
     singles-sorted [] s = Sorted.none
     singles-sorted (n ∷ ns) (Sorted.more g s) =
         sorted-append rank (sorted-same rank (d + distance (n .at)) (singles t n) (single-rank n)) (singles-sorted ns s)
@@ -204,7 +209,8 @@ module _ (t : Table) (distance : Subset → ℕ) (d : ℕ) (rising : Sorted (λ 
     pub profiles-sorted : Sorted rank (profiles t (nodes t))
     unfolding profiles
     profiles-sorted =
-        search-sorted same-profile (profile-edges t) rank d profile-sound raised (starts t) (singles-sorted (tail (nodes t)) rising) starts-tight (room t)
+        search-sorted same-profile (profile-edges t) rank d profile-sound raised (starts t) (singles-sorted (tail (nodes t)) rising)
+        starts-tight (room t)
 
     run-far : {p : Profile} {ss : List Transition} → Run t p ss → Begins t (p .first)
         → Far same-profile (profile-edges t) rank d (starts t) p (length ss * d + distance (p .first))
@@ -222,7 +228,8 @@ module _ (t : Table) (distance : Subset → ℕ) (d : ℕ) (rising : Sorted (λ 
         → Within rank (profiles t (nodes t)) p (length ss * d + distance (p .first))
     unfolding profiles
     profiles-near r b =
-        search-near same-profile (profile-edges t) rank d profile-sound raised (starts t) (singles-sorted (tail (nodes t)) rising) starts-tight (room t)
+        search-near same-profile (profile-edges t) rank d profile-sound raised (starts t) (singles-sorted (tail (nodes t)) rising)
+        starts-tight (room t)
         (omega (arith, few t)) (run-far r b)
 
 -- Theorem: each run's profile is listed, with a run that is no longer.
@@ -230,7 +237,8 @@ pub profiles-all : (t : Table) {p : Profile} {ss : List Transition} → Run t p 
     → Within (λ (x : Item Transition Profile). length (x .way)) (profiles t (nodes t)) p (length ss)
 profiles-all t {p} {ss} r b =
     let (x, m, e, h) =
-    profiles-near t (λ v. 0) 1 (sorted-same (λ (n : Item Transition Subset). 0) 0 (tail (nodes t)) (λ y m. refl)) (λ n m. omega arith) r b in
+    profiles-near t (λ v. 0) 1 (sorted-same (λ (n : Item Transition Subset). 0) 0 (tail (nodes t)) (λ y m. refl)) (λ n m. omega arith) r
+    b in
     (x, m, e, omega (arith, mul-one (length ss), mul-one (length (x .way))))
 
 -- MEANING 4.3: a run that begins at a node which counts has this profile.

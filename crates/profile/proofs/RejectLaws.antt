@@ -92,7 +92,12 @@ module _ (t : Table) (xs : List Triple) where
       let (x, m, q) = any-of (λ (x : Item Triple Triple). bad (x .at)) (laps xs) h in
       let back = eqb (x .at .from) (x .at .to) in
       let least = is-least (operator t (x .at .priority)) in
-      record { triple = x .at; lap = laps-lap xs x m; back = eqb→eq (x .at .from) (x .at .to) (and-left back least q); least = and-right back least q }
+      record {
+        triple = x .at;
+        lap = laps-lap xs x m;
+        back = eqb→eq (x .at .from) (x .at .to) (and-left back least q);
+        least = and-right back least q;
+      }
 
   pub rejecting-in : Rejecting t xs → T (rejecting t xs)
   unfolding rejecting
@@ -101,4 +106,5 @@ module _ (t : Table) (xs : List Triple) where
       let (x, m, q) = laps-all xs a (r .lap) in
       any-in (λ (x : Item Triple Triple). bad (x .at)) m
       (subst (λ (b : Triple). T (bad b)) q
-      (and-both (eqb (a .from) (a .to)) (is-least (operator t (a .priority))) (subst (λ (n : ℕ). T (eqb (a .from) n)) (r .back) (eqb-refl (a .from))) (r .least)))
+      (and-both (eqb (a .from) (a .to)) (is-least (operator t (a .priority)))
+      (subst (λ (n : ℕ). T (eqb (a .from) n)) (r .back) (eqb-refl (a .from))) (r .least)))

@@ -3,7 +3,8 @@
 use mathlib.Core.Path.{_≡_, refl, sym, ap, subst, subst⁻¹, _∙_}
 use mathlib.Core.Logic.{inl, inr}
 use mathlib.Core.Bool.{false}
-use mathlib.Core.List.{List, [], _∷_, List·Memᴰ, List·Memᴰ·head, List·Memᴰ·tail, List·Memᴰ·not-nil, List·Memᴰ·cases-cons, List·Memᴰ·append-cases, List·Memᴰ·eq-of-singleton, Sublistᴰ, Sublistᴰ·slnil, Sublistᴰ·cons, Sublistᴰ·cons-cons}
+use mathlib.Core.List.{List, [], _∷_, List·Memᴰ, List·Memᴰ·head, List·Memᴰ·tail, List·Memᴰ·not-nil, List·Memᴰ·cases-cons}
+use mathlib.Core.List.{List·Memᴰ·append-cases, List·Memᴰ·eq-of-singleton, Sublistᴰ, Sublistᴰ·slnil, Sublistᴰ·cons, Sublistᴰ·cons-cons}
 use Prim.Native.Nat.{ℕ, _+_, _<_}
 use native.Mathlib.Omega.{arith}
 use lib.Dec.{T}
@@ -20,7 +21,8 @@ use Rattle.tableau.proofs.TransitionLaws.{transition-to}
 no-next : {o p : Operator} {g : ℕ} → o ≡ p → next-of p ≡ [] → List·Memᴰ g (next-of o) → ⊥
 no-next {g} e n m = List·Memᴰ·not-nil (subst (λ (l : List ℕ). List·Memᴰ g l) (ap next-of e ∙ n) m)
 
-pub operand-after : (f : Formula) (e : ℕ) (bs : List ℕ) {o : Operator} {g : ℕ} → List·Memᴰ o (table-from e bs f) → List·Memᴰ g (next-of o) → e < g
+pub operand-after : (f : Formula) (e : ℕ) (bs : List ℕ) {o : Operator} {g : ℕ} → List·Memᴰ o (table-from e bs f)
+    → List·Memᴰ g (next-of o) → e < g
 operand-after (Formula.leaf l) e bs m n = absurd (no-next (List·Memᴰ·eq-of-singleton m) refl n)
 operand-after (Formula.variable d) e bs m n = absurd (no-next (List·Memᴰ·eq-of-singleton m) refl n)
 operand-after (Formula.pair o a b) e bs m n =

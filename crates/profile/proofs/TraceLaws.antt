@@ -3,7 +3,8 @@
 -- Assumes nothing.
 use mathlib.Core.Path.{_≡_, refl, ap, subst, subst⁻¹, _∙_}
 use mathlib.Core.Bool.{Bool, true, false, cond}
-use mathlib.Core.List.{List, [], _∷_, map, List·Memᴰ, List·Memᴰ·head, List·Memᴰ·not-nil, List·Memᴰ·eq-of-singleton, Memᴰ·map, Memᴰ·of-map, Memᴰ·cast, Memᴰ·append-left, Memᴰ·append-right}
+use mathlib.Core.List.{List, [], _∷_, map, List·Memᴰ, List·Memᴰ·head, List·Memᴰ·not-nil, List·Memᴰ·eq-of-singleton, Memᴰ·map}
+use mathlib.Core.List.{Memᴰ·of-map, Memᴰ·cast, Memᴰ·append-left, Memᴰ·append-right}
 use Prim.Native.Nat.{ℕ, zero, suc, _+_, _*_, _≤_, _<_, min}
 use native.Mathlib.Omega.{arith}
 use lib.Dec.{T, eqb, eqb→eq, eqb-refl}
@@ -89,7 +90,8 @@ stands-length t =
 stand-in : (t : Table) (s : Stand) → s .subformula < length t → s .priority ≤ length t → List·Memᴰ s (all-stands t)
 stand-in t s h k =
     gather-in (row t) (numbers-in 0 (length t) (s .subformula) (omega arith) (omega arith))
-    (Memᴰ·map (λ (x : ℕ). record { subformula = s .subformula; priority = x }) (numbers-in 0 (suc (length t)) (s .priority) (omega arith) (omega arith)))
+    (Memᴰ·map (λ (x : ℕ). record { subformula = s .subformula; priority = x })
+    (numbers-in 0 (suc (length t)) (s .priority) (omega arith) (omega arith)))
 
 -- The search finds exactly these.
 module _ (t : Table) (w : Subset) (f : ℕ) where
@@ -146,11 +148,13 @@ module _ (t : Table) (v w : Subset) where
       let (f, p, q) = gather-of (λ f. cond (has v f) (triples-of f) []) (operands t) (set-of-of t with-traces a m .1) in
       let (h, o) = cond-of (has v f) (triples-of f) q in
       let (x, n, c) = gather-of (λ (x : Item ℕ Stand). ends t f (x .at)) (stands t w f) o in
-      let (g, k, e) = Memᴰ·of-map (λ (g : ℕ). record { from = f; priority = x .at .priority; to = g }) (next-of (operator t (x .at .subformula))) c in
+      let (g, k, e) = Memᴰ·of-map (λ (g : ℕ). record { from = f; priority = x .at .priority; to = g })
+      (next-of (operator t (x .at .subformula))) c in
       made f (x .at) g a h (stands-go t w f x n) k e
 
   -- and each trace from an operand of a next in v is among the triples.
-  pub trace-triples : MovesInside t → (a : Triple) → a .from < length t → List·Memᴰ (a .from) (operands t) → T (has v (a .from)) → Trace t w a
+  pub trace-triples : MovesInside t → (a : Triple) → a .from < length t → List·Memᴰ (a .from) (operands t) → T (has v (a .from))
+      → Trace t w a
       → List·Memᴰ a (triples t v w)
   unfolding triples
   trace-triples kept a inside p h tr =

@@ -3,7 +3,8 @@
 use mathlib.Core.Path.{_≡_, refl, subst}
 use mathlib.Core.Logic.{inl, inr}
 use mathlib.Core.Bool.{Bool, true, false, cond, _&&_}
-use mathlib.Core.List.{List, [], _∷_, map, List·Memᴰ, List·Memᴰ·head, List·Memᴰ·tail, List·Memᴰ·cases-cons, List·Memᴰ·eq-of-singleton, Memᴰ·map, Memᴰ·of-map, Memᴰ·cast}
+use mathlib.Core.List.{List, [], _∷_, map, List·Memᴰ, List·Memᴰ·head, List·Memᴰ·tail, List·Memᴰ·cases-cons, List·Memᴰ·eq-of-singleton}
+use mathlib.Core.List.{Memᴰ·map, Memᴰ·of-map, Memᴰ·cast}
 use Prim.Native.Nat.{ℕ, zero, suc, _+_, _*_, _≤_, min}
 use native.Mathlib.Omega.{arith}
 use native.Mathlib.Nat.{add-zero}
@@ -156,7 +157,8 @@ join-of t xs ys c m =
     let (b, u, v) = gather-of (meet a) ys q in
     record { left = a; right = b; left-in = p; right-in = u; meets = meet-of a b c v .0; is = meet-of a b c v .1 }
 
-pub join-in : (t : Table) (xs ys : List Triple) → Known t xs → Known t ys → (a b : Triple) → List·Memᴰ a xs → List·Memᴰ b ys → a .to ≡ b .from
+pub join-in : (t : Table) (xs ys : List Triple) → Known t xs → Known t ys → (a b : Triple) → List·Memᴰ a xs → List·Memᴰ b ys
+    → a .to ≡ b .from
     → List·Memᴰ (joined a b) (join t xs ys)
 unfolding join
 join-in t xs ys k l a b m n e =

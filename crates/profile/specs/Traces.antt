@@ -56,7 +56,8 @@ priorities-from e (o ∷ t) = let r = priorities-from (suc e) t in cond (is-fix 
 -- All triples in one fixed order: a set of triples is the part of this list that it holds, so that equal sets are equal lists.
 abbrev pub all-triples : Table → List Triple
 all-triples t =
-    gather (λ (f : ℕ). gather (λ (x : ℕ). map (λ (g : ℕ). record { from = f; priority = x; to = g }) (operands t)) (priorities-from 0 t)) (operands t)
+    gather (λ (f : ℕ). gather (λ (x : ℕ). map (λ (g : ℕ). record { from = f; priority = x; to = g }) (operands t))
+    (priorities-from 0 t)) (operands t)
 
 -- the set of some triples
 abbrev pub set-of : Table → List Triple → List Triple

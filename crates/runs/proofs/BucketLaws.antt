@@ -21,12 +21,14 @@ use Rattle.coded.proofs.RunLaws.{same-sound}
 use Rattle.triples.specs.Promise.{triples-in}
 use Rattle.runs.specs.declared.Ends.{Ends}
 use Rattle.runs.specs.declared.Shelf.{Shelf}
-use Rattle.runs.specs.Stored.{two, profile-of, place, record-of, stored, Changed, row-of, mixed-row, bucket-of, bucket-at, link-at, head-at, Latest, Chained}
+use Rattle.runs.specs.Stored.{two, profile-of, place, record-of, stored, Changed, row-of, mixed-row, bucket-of, bucket-at}
+use Rattle.runs.specs.Stored.{link-at, head-at, Latest, Chained}
 use Rattle.runs.proofs.RecordLaws.{changed-wide, changed-then, two-kept, record-kept}
 use Rattle.runs.proofs.GrowLaws.{seen-never}
 
 -- one value more of a fold over a function's values
-pub fold-more : {A : Type 0} (step : ℕ → A → ℕ) (h : ℕ) (g : ℕ → A) (k : ℕ) {sum r : ℕ} → sum ≡ foldl step h (map g (numbers 0 k)) → r ≡ step sum (g k)
+pub fold-more : {A : Type 0} (step : ℕ → A → ℕ) (h : ℕ) (g : ℕ → A) (k : ℕ) {sum r : ℕ} → sum ≡ foldl step h (map g (numbers 0 k))
+    → r ≡ step sum (g k)
     → r ≡ foldl step h (map g (numbers 0 (k + 1)))
 fold-more step h g k {sum} {r} p q =
     q ∙ ap (λ (i : ℕ). step i (g k)) p
@@ -34,7 +36,8 @@ fold-more step h g k {sum} {r} p q =
     ∙ foldl-append step h (map g (numbers 0 k)) (map g (numbers (0 + k) 1))
     ∙ ap (λ (i : ℕ). step (foldl step h (map g (numbers 0 k))) (g i)) (zero-add k))
 
-pub bucket-is : (s : Shelf) (e : Ends) (t : List ℕ) (h : ℕ) → h ≡ foldl mixed-row (e .first .0 + e .last .0 * 65536) (map (row-of t (s .n)) (numbers 0 (s .n)))
+pub bucket-is : (s : Shelf) (e : Ends) (t : List ℕ) (h : ℕ) → h ≡ foldl mixed-row (e .first .0 + e .last .0 * 65536)
+    (map (row-of t (s .n)) (numbers 0 (s .n)))
     → h / 65536 % s .capacity ≡ bucket-of s (profile-of e (triples-in (s .n) t))
 unfolding bucket-of those
 bucket-is s e t h q = ap (λ (i : ℕ). i / 65536 % s .capacity) q
@@ -63,13 +66,18 @@ latest-this {g} {k} count e = record {
 }
 
 pub chained-none : (s : Shelf) (b : List ℕ) → Chained s b 0
-chained-none s b = record { buckets = λ p h. absurd (omega arith); links = λ p h. absurd (omega arith); heads = λ p h. absurd (omega arith) }
+chained-none s b = record {
+  buckets = λ p h. absurd (omega arith);
+  links = λ p h. absurd (omega arith);
+  heads = λ p h. absurd (omega arith);
+}
 
 -- what stands as the head of bucket k
 module _ {s : Shelf} {b : List ℕ} {count : ℕ} (c : Chained s b count) (k : ℕ) {v : ℕ} (e : v ≡ head-at s b k) where
   head-of : (p : ℕ) → p < count → bucket-at s b p ≡ k → Latest (bucket-at s b) k count v
   head-of p h q =
-      subst (λ (u : ℕ). Latest (bucket-at s b) k count u) (sym e) (subst (λ (i : ℕ). Latest (bucket-at s b) i count (head-at s b i)) q (c .heads p h))
+      subst (λ (u : ℕ). Latest (bucket-at s b) k count u) (sym e)
+      (subst (λ (i : ℕ). Latest (bucket-at s b) i count (head-at s b i)) q (c .heads p h))
 
   pub head-none : (0 < v → v ≤ count → bucket-at s b (v - 1) ≡ k → ⊥) → Latest (bucket-at s b) k count 0
   head-none d = record { among = omega arith; there = λ h. absurd (omega arith); later = λ q h m r. go q m r (decLt q v) (head-of q m r) }
@@ -124,10 +132,12 @@ module _ {s : Shelf} {b : List ℕ} {count : ℕ} (c : Chained s b count) (x : P
   passed-all w h = seen-never s b x count (λ q. w .others q (omega arith))
 
 -- a record's own bytes change
-pub chained-kept : {s : Shelf} {a b : List ℕ} {count : ℕ} → s .n ≤ 12 → Changed (place s count) (place s count + 152) a b → Chained s a count → Chained s b count
+pub chained-kept : {s : Shelf} {a b : List ℕ} {count : ℕ} → s .n ≤ 12 → Changed (place s count) (place s count + 152) a b
+    → Chained s a count → Chained s b count
 chained-kept {s} {a} {b} {count} n w c =
     record {
-      buckets = λ p h. sym (bucket p) ∙ c .buckets p h ∙ ap (λ (y : Found). bucket-of s (y .at)) (sym (record-kept w (s .n) (place s p) n (λ u v. omega arith)));
+      buckets = λ p h. sym (bucket p) ∙ c .buckets p h
+          ∙ ap (λ (y : Found). bucket-of s (y .at)) (sym (record-kept w (s .n) (place s p) n (λ u v. omega arith)));
       links = λ p h. coe 0 1 (i. Latest (λ q. bucket q i) (bucket p i) p (link p i)) (c .links p h);
       heads = λ p h. coe 0 1 (i. Latest (λ q. bucket q i) (bucket p i) count (head (bucket p i) i)) (c .heads p h);
     }
@@ -147,7 +157,8 @@ module _ (s : Shelf) (count k : ℕ) {a a1 a2 b : List ℕ} (w1 : Changed (place
   where
     pub linked-changed : count < s .capacity → k < s .capacity → Changed (s .base) (place s (s .capacity)) a b
     linked-changed h l =
-        changed-then (changed-then (changed-wide w1 (omega arith) (omega arith)) (omega arith) (omega arith) w2) (omega arith) (omega arith) w3
+        changed-then (changed-then (changed-wide w1 (omega arith) (omega arith)) (omega arith) (omega arith) w2) (omega arith)
+        (omega arith) w3
 
     pub linked-records : s .n ≤ 12 → (p : ℕ) → record-of s b p ≡ record-of s a p
     linked-records n p =
@@ -155,7 +166,8 @@ module _ (s : Shelf) (count k : ℕ) {a a1 a2 b : List ℕ} (w1 : Changed (place
         ∙ record-kept w2 (s .n) (place s p) n (λ u v. omega arith)
         ∙ record-kept w1 (s .n) (place s p) n (λ u v. omega arith)
 
-    kept : (j : ℕ) → (place s count + 152 < j + 2 → j < place s count + 156 → ⊥) → (place s k + 156 < j + 2 → j < place s k + 158 → ⊥) → two b j ≡ two a j
+    kept : (j : ℕ) → (place s count + 152 < j + 2 → j < place s count + 156 → ⊥) → (place s k + 156 < j + 2 → j < place s k + 158 → ⊥)
+        → two b j ≡ two a j
     kept j h l =
         two-kept w3 j (λ u v. l (omega arith) (omega arith))
         ∙ two-kept w2 j (λ u v. h (omega arith) (omega arith))
@@ -170,14 +182,17 @@ module _ (s : Shelf) (count k : ℕ) {a a1 a2 b : List ℕ} (w1 : Changed (place
     head-kept : (j : ℕ) → (j ≡ k → ⊥) → head-at s b j ≡ head-at s a j
     head-kept j d = kept (place s j + 156) (λ u v. omega arith) (λ u v. d (omega arith))
 
-    module _ {v : ℕ} (put-bucket : two a1 (place s count + 152) ≡ k) (put-link : two a2 (place s count + 154) ≡ v) (put-head : head-at s b k ≡ count + 1) where
+    module _ {v : ℕ} (put-bucket : two a1 (place s count + 152) ≡ k) (put-link : two a2 (place s count + 154) ≡ v)
+        (put-head : head-at s b k ≡ count + 1) where
       new-bucket : bucket-at s b count ≡ k
-      new-bucket = two-kept w3 (place s count + 152) (λ u v. omega arith) ∙ two-kept w2 (place s count + 152) (λ u v. omega arith) ∙ put-bucket
+      new-bucket = two-kept w3 (place s count + 152) (λ u v. omega arith) ∙ two-kept w2 (place s count + 152) (λ u v. omega arith)
+          ∙ put-bucket
 
       new-link : link-at s b count ≡ v
       new-link = two-kept w3 (place s count + 154) (λ u v. omega arith) ∙ put-link
 
-      pub chained-more : s .n ≤ 12 → Chained s a count → Latest (bucket-at s a) k count v → k ≡ bucket-of s (record-of s a count .at) → Chained s b (count + 1)
+      pub chained-more : s .n ≤ 12 → Chained s a count → Latest (bucket-at s a) k count v → k ≡ bucket-of s (record-of s a count .at)
+          → Chained s b (count + 1)
       chained-more n c l e =
           record {
             buckets = below-more (λ p. bucket-at s b p ≡ bucket-of s (record-of s b p .at)) count

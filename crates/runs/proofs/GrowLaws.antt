@@ -64,7 +64,8 @@ module _ (s : Shelf) (b : List ℕ) where
         let rest = map (record-of s b) (numbers (0 + p + 1) (count - p - 1)) in
         ap (λ (k : ℕ). is-known k) {x = count} {y = p + (1 + (count - p - 1))} (omega arith)
         ∙ ap (seen same-profile x)
-        (values-add (record-of s b) 0 p (1 + (count - p - 1)) ∙ ap (λ (l : List Found). stored s b p ++ l) (values-one (record-of s b) (0 + p) (count - p - 1)))
+        (values-add (record-of s b) 0 p (1 + (count - p - 1))
+        ∙ ap (λ (l : List Found). stored s b p ++ l) (values-one (record-of s b) (0 + p) (count - p - 1)))
         ∙ any-append same (stored s b p) (record-of s b (0 + p) ∷ rest)
         ∙ of-T (is-known p || (same (record-of s b (0 + p)) || any same rest))
         (or-right (is-known p) (same (record-of s b (0 + p)) || any same rest)
@@ -116,7 +117,8 @@ module _ (s : Shelf) (count : ℕ) (a : List ℕ) (h : count ≤ s .capacity) (c
           elsewhere = changed-then (changed-wide u (omega arith) (omega arith)) (omega arith) (omega arith) v;
         })
 
-    pub grown-full : false ≡ seen same-profile (x .at) before → s .capacity ≤ count → Grown s count a (count + 1) a (add same-profile before x)
+    pub grown-full : false ≡ seen same-profile (x .at) before → s .capacity ≤ count
+        → Grown s count a (count + 1) a (add same-profile before x)
     grown-full e l =
         subst (λ (known : Bool). Grown s count a (count + 1) a (new known)) e (record {
           more = omega arith;
@@ -184,7 +186,8 @@ module _ (xs : List Found) (f : ℕ → List Found) (k : ℕ) where
   turn-past i m l e =
       sym (ap (λ (n : ℕ). with-first n) {x = m} {y = i + (m - i)} (omega arith)
       ∙ split i (m - i)
-      ∙ ap (adds same-profile (with-first i)) (none (k + i) (m - i) (λ j p q. ap f {x = j} {y = k + (j - k)} (omega arith) ∙ e (j - k) (omega arith) (omega arith))))
+      ∙ ap (adds same-profile (with-first i))
+      (none (k + i) (m - i) (λ j p q. ap f {x = j} {y = k + (j - k)} (omega arith) ∙ e (j - k) (omega arith) (omega arith))))
     where
       none : (from n : ℕ) → ((j : ℕ) → from ≤ j → j < from + n → f j ≡ []) → gather f (numbers from n) ≡ []
       none from zero h = refl

@@ -42,7 +42,8 @@ module _ {from to : ℕ} {a b : List ℕ} (c : Changed from to a b) where
       }
 
   pub changed-wide : {low high : ℕ} → low ≤ from → to ≤ high → Changed low high a b
-  changed-wide h l = record { same-length = c .same-length; below = λ i k. c .below i (omega arith); beyond = λ i k. c .beyond i (omega arith) }
+  changed-wide h l = record
+      { same-length = c .same-length; below = λ i k. c .below i (omega arith); beyond = λ i k. c .beyond i (omega arith) }
 
   byte-kept : (i : ℕ) → (from ≤ i → i < to → ⊥) → getD b i 0 ≡ getD a i 0
   byte-kept i h = go (decLt i from) (decLt i to)
@@ -81,7 +82,8 @@ module _ (a : List ℕ) {at to : ℕ} (x : ℕ) (e : at ≡ to) (h : to + 2 ≤ 
       ap (λ (i : ℕ). two put i) (sym e) ∙ omega arith
 
   pub put-changed : Changed to (to + 2) a put
-  put-changed = changed-set (changed-set (changed-none to (to + 2) a) at (x % 256) (omega arith) (omega arith)) (at + 1) (x / 256 % 256) (omega arith) (omega arith)
+  put-changed = changed-set (changed-set (changed-none to (to + 2) a) at (x % 256) (omega arith) (omega arith)) (at + 1) (x / 256 % 256)
+      (omega arith) (omega arith)
 
 -- one byte of the triples more
 pub store-more : (a t : List ℕ) (at i : ℕ) → at + i < length a → ((j : ℕ) → j < i → getD a (at + j) 0 ≡ getD t j 0)
@@ -89,16 +91,21 @@ pub store-more : (a t : List ℕ) (at i : ℕ) → at + i < length a → ((j : �
 store-more a t at i h r j l = go (ℕ-discrete j i)
   where
     go : Dec (j ≡ i) → getD (set a (at + i) (getD t i 0)) (at + j) 0 ≡ getD t j 0
-    go (yes q) = subst⁻¹ (λ (k : ℕ). getD (set a (at + i) (getD t i 0)) (at + k) 0 ≡ getD t k 0) q (getD-set-same a (at + i) (getD t i 0) 0 h)
+    go (yes q) = subst⁻¹ (λ (k : ℕ). getD (set a (at + i) (getD t i 0)) (at + k) 0 ≡ getD t k 0) q
+        (getD-set-same a (at + i) (getD t i 0) 0 h)
     go (no q) = getD-set-other a (at + i) (at + j) (getD t i 0) 0 (λ e. q (omega arith)) ∙ r j (omega arith)
 
 -- a record is written: its triples make a0 of a, and then each put the next area
-module _ {a a0 a1 a2 a3 a4 : List ℕ} (t : List ℕ) (at : ℕ) (e : Ends) {start : ℕ} (there : start ≡ at) (c0 : Changed start (start + 144) a a0) (c1 : Changed (at + 144) (at + 144 + 2) a0 a1)
-    (c2 : Changed (at + 146) (at + 146 + 2) a1 a2) (c3 : Changed (at + 148) (at + 148 + 2) a2 a3) (c4 : Changed (at + 150) (at + 150 + 2) a3 a4)
+module _ {a a0 a1 a2 a3 a4 : List ℕ} (t : List ℕ) (at : ℕ) (e : Ends) {start : ℕ} (there : start ≡ at)
+    (c0 : Changed start (start + 144) a a0) (c1 : Changed (at + 144) (at + 144 + 2) a0 a1)
+    (c2 : Changed (at + 146) (at + 146 + 2) a1 a2) (c3 : Changed (at + 148) (at + 148 + 2) a2 a3)
+    (c4 : Changed (at + 150) (at + 150 + 2) a3 a4)
   where
     pub written-changed : Changed at (at + 152) a a4
     written-changed =
-        changed-then (changed-then (changed-then (changed-then (changed-wide c0 (omega arith) (omega arith)) (omega arith) (omega arith) c1) (omega arith) (omega arith) c2)
+        changed-then (changed-then
+        (changed-then (changed-then (changed-wide c0 (omega arith) (omega arith)) (omega arith) (omega arith) c1) (omega arith)
+        (omega arith) c2)
         (omega arith) (omega arith) c3) (omega arith) (omega arith) c4
 
     pub written : ((i : ℕ) → i < 144 → getD a0 (start + i) 0 ≡ getD t i 0)
@@ -107,16 +114,20 @@ module _ {a a0 a1 a2 a3 a4 : List ℕ} (t : List ℕ) (at : ℕ) (e : Ends) {sta
     unfolding found-at
     written s first last parent letter n h =
         let p : two a4 (at + 144) ≡ e .first .0 =
-        two-kept c4 (at + 144) (λ u v. omega arith) ∙ two-kept c3 (at + 144) (λ u v. omega arith) ∙ two-kept c2 (at + 144) (λ u v. omega arith) ∙ first in
-        let q : two a4 (at + 146) ≡ e .last .0 = two-kept c4 (at + 146) (λ u v. omega arith) ∙ two-kept c3 (at + 146) (λ u v. omega arith) ∙ last in
+        two-kept c4 (at + 144) (λ u v. omega arith) ∙ two-kept c3 (at + 144) (λ u v. omega arith)
+        ∙ two-kept c2 (at + 144) (λ u v. omega arith) ∙ first in
+        let q : two a4 (at + 146) ≡ e .last .0 = two-kept c4 (at + 146) (λ u v. omega arith)
+        ∙ two-kept c3 (at + 146) (λ u v. omega arith) ∙ last in
         let r : two a4 (at + 148) ≡ e .parent = two-kept c4 (at + 148) (λ u v. omega arith) ∙ parent in
         let d : triples-at n a4 at ≡ triples-in n t =
-        those-same n (bits (bytes-from a4 at)) (bits (bytes t)) (λ f x g hf hx hg. ap (λ (v : ℕ). bit v x) (byte (f * 12 + g) (omega arith))) in
+        those-same n (bits (bytes-from a4 at)) (bits (bytes t))
+        (λ f x g hf hx hg. ap (λ (v : ℕ). bit v x) (byte (f * 12 + g) (omega arith))) in
         λ i. record { at = record { first = p i; last = q i; carried = d i }; parent = r i; label = letter i }
       where
         byte : (i : ℕ) → i < 144 → getD a4 (at + i) 0 ≡ getD t i 0
         byte i l =
-            c4 .below (at + i) (omega arith) ∙ c3 .below (at + i) (omega arith) ∙ c2 .below (at + i) (omega arith) ∙ c1 .below (at + i) (omega arith)
+            c4 .below (at + i) (omega arith) ∙ c3 .below (at + i) (omega arith) ∙ c2 .below (at + i) (omega arith)
+            ∙ c1 .below (at + i) (omega arith)
             ∙ ap (λ (k : ℕ). getD a0 (k + i) 0) (sym there) ∙ s i l
 
 -- what is read of a record
@@ -124,10 +135,17 @@ module _ (s : Shelf) (b : List ℕ) (p : ℕ) where
   abbrev Reads : (offset r : ℕ) → Type 0
   Reads offset r = (r ≡ two b (place s p + offset)) × (r < 65536)
 
-  pub ends-are : {e : Ends} → Reads 144 (e .first .0) → Reads 146 (e .last .0) → Reads 148 (e .parent) → Reads 150 (e .letter) → Ends-of (record-of s b p) e
+  pub ends-are : {e : Ends} → Reads 144 (e .first .0) → Reads 146 (e .last .0) → Reads 148 (e .parent) → Reads 150 (e .letter)
+      → Ends-of (record-of s b p) e
   unfolding found-at
   ends-are f l q k =
-      record { first = f .0; last = l .0; parent = q .0; letter = k .0; small = record { first = f .1; last = l .1; parent = q .1; letter = k .1 } }
+      record {
+        first = f .0;
+        last = l .0;
+        parent = q .0;
+        letter = k .0;
+        small = record { first = f .1; last = l .1; parent = q .1; letter = k .1 };
+      }
 
   pub carried-at : {at : ℕ} → at ≡ place s p → triples-at (s .n) b at ≡ record-of s b p .at .carried
   unfolding found-at
@@ -139,7 +157,8 @@ module _ (x : Profile) (e : Ends) (s : Triples) where
   Same r = r ≡ same-profile x (profile-of e s)
 
   pub other-first : (x .first ≡ e .first .0 → ⊥) → Same false
-  other-first d = sym (ap (λ (t : Bool). t && eqb (x .last) (e .last .0) && same-triples (x .carried) s) (ne-eqb (x .first) (e .first .0) d))
+  other-first d = sym (ap (λ (t : Bool). t && eqb (x .last) (e .last .0) && same-triples (x .carried) s)
+      (ne-eqb (x .first) (e .first .0) d))
 
   pub other-last : x .first ≡ e .first .0 → (x .last ≡ e .last .0 → ⊥) → Same false
   other-last f d = sym (simp (eq-eqb (x .first) (e .first .0) f, ne-eqb (x .last) (e .last .0) d))

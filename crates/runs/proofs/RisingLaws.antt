@@ -15,16 +15,19 @@ use Rattle.runs.specs.Stored.{record-of, stored, first-of, Rising, Parte
 use Rattle.runs.proofs.GrowLaws.{stored-length, stored-at}
 
 pub rising-kept : (s : Shelf) (a b : List ℕ) {k : ℕ} → ((p : ℕ) → p < k → record-of s b p ≡ record-of s a p) → Rising s a k → Rising s b k
-rising-kept s a b e r p q l h = omega (arith, r p q l h, ap (λ (x : Found). x .at .first) (e p (omega arith)), ap (λ (x : Found). x .at .first) (e q h))
+rising-kept s a b e r p q l h =
+    omega (arith, r p q l h, ap (λ (x : Found). x .at .first) (e p (omega arith)), ap (λ (x : Found). x .at .first) (e q h))
 
-pub ones-rising : (t : Table) (vs : List Subset) {s : Shelf} {a b : List ℕ} {r : ℕ} → Grown s 0 a r b (ones t vs) → r ≤ s .capacity → Rising s b r
+pub ones-rising : (t : Table) (vs : List Subset) {s : Shelf} {a b : List ℕ} {r : ℕ} → Grown s 0 a r b (ones t vs) → r ≤ s .capacity
+    → Rising s b r
 ones-rising t vs {s} {b = b} {r = r} g h p q l m =
     ones-rise t vs .1 .rises (there p (omega arith)) (there q m) l
   where
     there : (p : ℕ) → p < r → At (ones t vs) p (record-of s b p)
     there p m =
         subst (λ (xs : List Found). At xs p (record-of s b p)) (g .records h)
-        (subst (At (stored s b r) p) (stored-at s b r p (record-of s b p) m) (at-of (stored s b r) p (record-of s b p) (omega (arith, stored-length s b r))))
+        (subst (At (stored s b r) p) (stored-at s b r p (record-of s b p) m)
+        (at-of (stored s b r) p (record-of s b p) (omega (arith, stored-length s b r))))
 
 pub record Halved (s : Shelf) (b : List ℕ) (k node low high : ℕ) : Type 0 where
   pub order : low ≤ high

@@ -21,7 +21,8 @@ use Rattle.base.proofs.ShiftLaws.{same-low-bits}
 use Rattle.base.proofs.WordLaws.{word-bit, word-lt, word-inj}
 use Rattle.formula.specs.Table.{Table}
 use Rattle.tableau.specs.Saturation.{Subset, same-subset, nothing, saturate}
-use Rattle.tableau.specs.Transition.{operators-in, requires, letter-of, next-of, ors, choice-of, Transition, transition-of, by-word, transitions}
+use Rattle.tableau.specs.Transition.{operators-in, requires, letter-of, next-of, ors, choice-of, Transition, transition-of, by-word}
+use Rattle.tableau.specs.Transition.{transitions}
 use Rattle.tableau.specs.Promise.{table-of, Leads-nowhere, Stepped-by}
 use Rattle.tableau.specs.Area.{eight, words-at, index, Sized}
 use Rattle.tableau.specs.declared.NodeNumber.{NodeNumber}
@@ -62,10 +63,12 @@ word-subset count v h =
     (subset-word count (word v) (omega (arith, word-lt v, ap (λ (n : ℕ). 2 ^ n) h)))
 
 eqb-swap : (x y : ℕ) → eqb x y ≡ eqb y x
-eqb-swap x y = same-truth (eqb x y) (eqb y x) (λ h. subst (λ (z : ℕ). T (eqb z x)) (eqb→eq x y h) (eqb-refl x)) (λ h. subst (λ (z : ℕ). T (eqb z y)) (eqb→eq y x h) (eqb-refl y))
+eqb-swap x y = same-truth (eqb x y) (eqb y x) (λ h. subst (λ (z : ℕ). T (eqb z x)) (eqb→eq x y h) (eqb-refl x))
+    (λ h. subst (λ (z : ℕ). T (eqb z y)) (eqb→eq y x h) (eqb-refl y))
 
 -- the number of a node
-find-number : (count : ℕ) (a : List ℕ) (i n : ℕ) (v : Subset) → length v ≡ count → ((j : ℕ) → i ≤ j → j < i + n → eight a (8 * j) < 2 ^ count)
+find-number : (count : ℕ) (a : List ℕ) (i n : ℕ) (v : Subset) → length v ≡ count
+    → ((j : ℕ) → i ≤ j → j < i + n → eight a (8 * j) < 2 ^ count)
     → index (word v) (words-at a i n) ≡ number-of (map (subset-of count) (words-at a i n)) v
 find-number count a i zero v h f = refl
 find-number count a i (suc n) v h f =
@@ -183,7 +186,8 @@ module _ {rows : List ℕ} {count : ℕ} {r : Ranks} {s : Shelf} {nodes : ℕ} {
     pub single-nowhere : {from had : ℕ} → from ≡ eight a (8 * i) → had ≤ s .capacity → Chained s a had → Leads-nowhere rows count from x
         → Added s had a had a (singles-by t vs i v x)
     single-nowhere {had = had} f l k n =
-        grown-same (ap (λ (ys : List Transition). adds same-profile (stored s a had) (map (single-of t vs i v) ys)) (sym (n .is v long (f ∙ node-is)))) (grown-still s had a l k)
+        grown-same (ap (λ (ys : List Transition). adds same-profile (stored s a had) (map (single-of t vs i v) ys))
+        (sym (n .is v long (f ∙ node-is)))) (grown-still s had a l k)
 
     module _ {from to letter : ℕ} (f : from ≡ eight a (8 * i)) (st : Stepped-by rows count x from (Leads to letter)) where
       found : Found t w (saturate t w v) to letter
@@ -192,19 +196,23 @@ module _ {rows : List ℕ} {count : ℕ} {r : Ranks} {s : Shelf} {nodes : ℕ} {
       pub single-letter : letter < 65536
       single-letter = omega (arith, found .letter-is, letter-few t w (saturate t w v))
 
-      pub single-some : {choice had q : ℕ} {d : List ℕ} {number last : NodeNumber} (carried : List ℕ) → number .0 ≡ i → last .0 ≡ index to (words-at a 0 nodes) → choice ≡ word w
+      pub single-some : {choice had q : ℕ} {d : List ℕ} {number last : NodeNumber} (carried : List ℕ) → number .0 ≡ i
+          → last .0 ≡ index to (words-at a 0 nodes) → choice ≡ word w
           → Triples-of rows count choice from carried
-          → Added s had a q d (found-of (record { first = number; last = last; parent = 0; letter = letter }) (triples-in (s .n) carried) ∷ [])
+          → Added s had a q d (found-of (record { first = number; last = last; parent = 0; letter = letter })
+          (triples-in (s .n) carried) ∷ [])
           → Added s had a q d (singles-by t vs i v x)
       single-some {had = had} {last = last} carried e l c k m =
           let y = transition-with t w (saturate t w v) in
           let p : last .0 ≡ number-of vs (y .to) =
           l ∙ ap (λ (z : ℕ). index z (words-at a 0 nodes)) (found .to-is)
-          ∙ find-number count a 0 nodes (y .to) (to-length t w (saturate t w v) ∙ table-length rows count) (λ j m n. g .sets j (omega arith)) in
+          ∙ find-number count a 0 nodes (y .to) (to-length t w (saturate t w v) ∙ table-length rows count)
+          (λ j m n. g .sets j (omega arith)) in
           let q : triples-in (s .n) carried ≡ triples t v w =
           ap (λ (n : ℕ). triples-in n carried) (g .nexts ∙ g .ranks .nexts-are) ∙ k v w (f ∙ node-is) c in
           grown-same
-          ((λ j. add same-profile (stored s a had) (record { at = record { first = e j; last = p j; carried = q j }; parent = 0; label = found .letter-is j }))
+          ((λ j. add same-profile (stored s a had)
+          (record { at = record { first = e j; last = p j; carried = q j }; parent = 0; label = found .letter-is j }))
           ∙ ap (λ (ys : List Transition). adds same-profile (stored s a had) (map (single-of t vs i v) ys)) (sym (found .exists)))
           m
 
@@ -229,7 +237,8 @@ module _ {rows : List ℕ} {count : ℕ} {r : Ranks} {s : Shelf} {nodes : ℕ} {
 
     pub of-stop : {all : ℕ} {b : List ℕ} (x end : ℕ) → end ≡ 2 ^ ors t → s .capacity < all → x ≤ end → Grown s had a all b (first x)
         → Added s had a all b (ones-of t vs i (node-in count a i))
-    of-stop x end e l k m = grown-same of-all (turn-stop (stored s a had) (singles-by t vs i (node-in count a i)) 0 x (2 ^ ors t) l (omega arith) m)
+    of-stop x end e l k m = grown-same of-all
+        (turn-stop (stored s a had) (singles-by t vs i (node-in count a i)) 0 x (2 ^ ors t) l (omega arith) m)
 
     pub of-done : {all : ℕ} {b : List ℕ} (x end : ℕ) → end ≡ 2 ^ ors t → x ≤ end → end ≤ x → Grown s had a all b (first x)
         → Added s had a all b (ones-of t vs i (node-in count a i))
@@ -265,7 +274,8 @@ module _ {rows : List ℕ} {count : ℕ} {r : Ranks} {s : Shelf} {nodes : ℕ} {
       ∙ ap each {x = i} {y = 1 + (i - 1)} (omega arith)))
       n))
 
-  pub all-stop : {all : ℕ} {b : List ℕ} (i : ℕ) → s .capacity < all → i ≤ nodes → Grown s 0 a all b (before i) → Grown s 0 a all b (ones t vs)
+  pub all-stop : {all : ℕ} {b : List ℕ} (i : ℕ) → s .capacity < all → i ≤ nodes → Grown s 0 a all b (before i)
+      → Grown s 0 a all b (ones t vs)
   all-stop i l k m = grown-same all-is (turn-stop [] each 1 (i - 1) (nodes - 1) l (omega arith) m)
 
   pub all-done : {all : ℕ} {b : List ℕ} (i : ℕ) → i ≤ nodes → nodes ≤ i → Grown s 0 a all b (before i) → Grown s 0 a all b (ones t vs)

@@ -21,7 +21,8 @@ use Rattle.runs.specs.declared.Ends.{Ends}
 use Rattle.runs.specs.declared.Shelf.{Shelf}
 use Rattle.runs.specs.Stored.{found-of, place, record-of, stored, first-of, Ends-of, Chained, Grown, Added}
 use Rattle.runs.proofs.RecordLaws.{carried-at}
-use Rattle.runs.proofs.GrowLaws.{stored-length, stored-at, stored-kept, grown-still, grown-longer, grown-then, with-first, turn-more, turn-stop, turn-past}
+use Rattle.runs.proofs.GrowLaws.{stored-length, stored-at, stored-kept, grown-still, grown-longer, grown-then, with-first}
+use Rattle.runs.proofs.GrowLaws.{turn-more, turn-stop, turn-past}
 use Rattle.coded.proofs.SpreadLaws.{spread-length, spread-done, spread-step}
 
 pub grown-same : {s : Shelf} {count r : ℕ} {a b : List ℕ} {xs ys : List Found} → xs ≡ ys → Grown s count a r b xs → Grown s count a r b ys
@@ -30,7 +31,11 @@ grown-same {s} {count} {r} {a} {b} e g = subst (Grown s count a r b) e g
 -- the record y after the record x
 module _ (n p : ℕ) (x y : Found) where
   abbrev both : Found
-  both = record { at = record { first = x .at .first; last = y .at .last; carried = join n (x .at .carried) (y .at .carried) }; parent = suc p; label = y .label }
+  both = record {
+    at = record { first = x .at .first; last = y .at .last; carried = join n (x .at .carried) (y .at .carried) };
+    parent = suc p;
+    label = y .label;
+  }
 
   apart : (x .at .last ≡ y .at .first → ⊥) → [] ≡ follow n p x y
   unfolding join
@@ -40,11 +45,13 @@ module _ (n p : ℕ) (x y : Found) where
   unfolding join
   meets e = sym (ap (λ (t : Bool). cond t (both ∷ []) []) (eq-eqb (x .at .last) (y .at .first) e))
 
-  joins : {a b : Ends} {carried : Triples} → Ends-of x a → Ends-of y b → a .last .0 ≡ b .first .0 → carried ≡ join n (x .at .carried) (y .at .carried)
+  joins : {a b : Ends} {carried : Triples} → Ends-of x a → Ends-of y b → a .last .0 ≡ b .first .0
+      → carried ≡ join n (x .at .carried) (y .at .carried)
       → found-of (record { first = a .first; last = b .last; parent = p + 1; letter = b .letter }) carried ∷ [] ≡ follow n p x y
   joins d e m j =
       let from = add-one p in
-      ap (λ (z : Found). z ∷ []) (λ i. record { at = record { first = d .first i; last = e .last i; carried = j i }; parent = from i; label = e .letter i })
+      ap (λ (z : Found). z ∷ [])
+      (λ i. record { at = record { first = d .first i; last = e .last i; carried = j i }; parent = from i; label = e .letter i })
       ∙ meets (sym (d .last) ∙ m ∙ e .first)
 
 -- profile p followed by profile q: nothing to add, or one profile
@@ -55,18 +62,21 @@ module _ (s : Shelf) (count : ℕ) (a : List ℕ) (p q : ℕ) where
   module _ {d e : Ends} (ds : Ends-of (record-of s a p) d) (es : Ends-of (record-of s a q) e) where
     pub longer-none : count ≤ s .capacity → Chained s a count → (d .last .0 ≡ e .first .0 → ⊥) → After count a
     longer-none h c n =
-        grown-same (ap (adds same-profile (stored s a count)) (apart (s .n) p (record-of s a p) (record-of s a q) (λ m. n (ds .last ∙ m ∙ sym (es .first)))))
+        grown-same (ap (adds same-profile (stored s a count))
+        (apart (s .n) p (record-of s a p) (record-of s a q) (λ m. n (ds .last ∙ m ∙ sym (es .first)))))
         (grown-still s count a h c)
 
     pub longer-one : {r x y : ℕ} {b : List ℕ} (u v t : List ℕ) → s .n ≤ 12 → d .last .0 ≡ e .first .0 → x ≡ place s p → y ≡ place s q
         → ((i : ℕ) → i < 144 → getD u i 0 ≡ getD a (x + i) 0) → ((i : ℕ) → i < 144 → getD v i 0 ≡ getD a (y + i) 0)
         → triples-in (s .n) t ≡ join (s .n) (triples-in (s .n) u) (triples-in (s .n) v)
-        → Added s count a r b (found-of (record { first = d .first; last = e .last; parent = p + 1; letter = e .letter }) (triples-in (s .n) t) ∷ [])
+        → Added s count a r b (found-of (record { first = d .first; last = e .last; parent = p + 1; letter = e .letter })
+        (triples-in (s .n) t) ∷ [])
         → After r b
     longer-one {x = x} {y = y} u v t h m ex ey cu cv j g =
         let du = triples-copied (s .n) a u x h cu ∙ carried-at s a p ex in
         let dv = triples-copied (s .n) a v y h cv ∙ carried-at s a q ey in
-        grown-same (ap (adds same-profile (stored s a count)) (joins (s .n) p (record-of s a p) (record-of s a q) ds es m (j ∙ (λ i. join (s .n) (du i) (dv i))))) g
+        grown-same (ap (adds same-profile (stored s a count))
+        (joins (s .n) p (record-of s a p) (record-of s a q) ds es m (j ∙ (λ i. join (s .n) (du i) (dv i))))) g
 
 -- profile p followed by the first of those of one transition
 module _ (s : Shelf) (count p : ℕ) (a : List ℕ) where
@@ -75,7 +85,8 @@ module _ (s : Shelf) (count p : ℕ) (a : List ℕ) where
 
   pub extended-all : (ones : ℕ) → extended ones ≡ adds same-profile (stored s a count) (longer (s .n) (stored s a ones) p (record-of s a p))
   unfolding join stored
-  extended-all ones = ap (adds same-profile (stored s a count)) (sym (gather-map (follow (s .n) p (record-of s a p)) (record-of s a) (numbers 0 ones)))
+  extended-all ones = ap (adds same-profile (stored s a count))
+      (sym (gather-map (follow (s .n) p (record-of s a p)) (record-of s a) (numbers 0 ones)))
 
   -- those that do not begin where profile p ends add nothing
   abbrev Elsewhere : (q r : ℕ) → Type 0
@@ -84,7 +95,8 @@ module _ (s : Shelf) (count p : ℕ) (a : List ℕ) where
   past : (q r : ℕ) → q ≤ r → Elsewhere q r → extended q ≡ extended r
   past q r l d =
       turn-past (stored s a count) (λ q. follow (s .n) p (record-of s a p) (record-of s a q)) 0 q r l
-      (λ j m n. ap (λ (i : ℕ). follow (s .n) p (record-of s a p) (record-of s a i)) (zero-add j) ∙ sym (apart (s .n) p (record-of s a p) (record-of s a j) (d j m n)))
+      (λ j m n. ap (λ (i : ℕ). follow (s .n) p (record-of s a p) (record-of s a i)) (zero-add j)
+      ∙ sym (apart (s .n) p (record-of s a p) (record-of s a j) (d j m n)))
 
   pub extend-start : (q : ℕ) → count ≤ s .capacity → Chained s a count → Elsewhere 0 q → Grown s count a count a (extended q)
   extend-start q h c d = grown-same (past 0 q (omega arith) d) (grown-still s count a h c)
@@ -96,13 +108,15 @@ module _ (s : Shelf) (count p : ℕ) (a : List ℕ) where
       turn-more (stored s a count) (λ q. follow (s .n) p (record-of s a p) (record-of s a q)) 0 q h g
       (grown-same
       (ap (adds same-profile (stored s b all))
-      ((λ i. follow (s .n) p (g .kept p hp i) (g .kept q hq i)) ∙ ap (λ (j : ℕ). follow (s .n) p (record-of s a p) (record-of s a j)) (sym (zero-add q))))
+      ((λ i. follow (s .n) p (g .kept p hp i) (g .kept q hq i)) ∙ ap (λ (j : ℕ). follow (s .n) p (record-of s a p) (record-of s a j))
+      (sym (zero-add q))))
       m)
 
   pub extend-stop : {all : ℕ} {b : List ℕ} (q ones : ℕ) → s .capacity < all → q ≤ ones → Grown s count a all b (extended q)
       → Added s count a all b (longer (s .n) (stored s a ones) p (record-of s a p))
   extend-stop q ones h l g =
-      grown-same (extended-all ones) (turn-stop (stored s a count) (λ q. follow (s .n) p (record-of s a p) (record-of s a q)) 0 q ones h l g)
+      grown-same (extended-all ones)
+      (turn-stop (stored s a count) (λ q. follow (s .n) p (record-of s a p) (record-of s a q)) 0 q ones h l g)
 
   pub extend-done : {all : ℕ} {b : List ℕ} (q ones : ℕ) → q ≤ ones → Elsewhere q ones → Grown s count a all b (extended q)
       → Added s count a all b (longer (s .n) (stored s a ones) p (record-of s a p))
@@ -112,7 +126,8 @@ module _ (s : Shelf) (count p : ℕ) (a : List ℕ) where
 pub record Pending (s : Shelf) (ones : ℕ) (a : List ℕ) (p all : ℕ) (b : List ℕ) : Type 0 where
   pub so-far : List Found
   pub grown : Grown s ones a all b so-far
-  pub rest : (fuel : ℕ) → profiles-from (p + fuel) (s .n) (stored s a ones) ≡ spread same-profile (longer (s .n) (stored s a ones)) fuel p so-far
+  pub rest : (fuel : ℕ) → profiles-from (p + fuel) (s .n) (stored s a ones) ≡ spread same-profile (longer (s .n) (stored s a ones)) fuel
+      p so-far
 
 pub pending-start : (s : Shelf) (ones : ℕ) (a : List ℕ) → ones ≤ s .capacity → Chained s a ones → Pending s ones a 0 ones a
 unfolding profiles-from
@@ -127,7 +142,8 @@ module _ {s : Shelf} {ones p all : ℕ} {a b : List ℕ} (k : Pending s ones a p
   onward = longer (s .n) (stored s a ones)
 
   at-fuel : (fuel : ℕ) → p ≤ fuel → profiles-from fuel (s .n) (stored s a ones) ≡ spread same-profile onward (fuel - p) p (k .so-far)
-  at-fuel fuel h = ap (λ (i : ℕ). profiles-from i (s .n) (stored s a ones)) {x = fuel} {y = p + (fuel - p)} (omega arith) ∙ k .rest (fuel - p)
+  at-fuel fuel h = ap (λ (i : ℕ). profiles-from i (s .n) (stored s a ones)) {x = fuel} {y = p + (fuel - p)} (omega arith)
+      ∙ k .rest (fuel - p)
 
   pub pending-next : {r : ℕ} {d : List ℕ} → all ≤ s .capacity → p < all
       → Added s all b r d (longer (s .n) (stored s b ones) p (record-of s b p)) → Pending s ones a (p + 1) r d
@@ -138,7 +154,8 @@ module _ {s : Shelf} {ones p all : ℕ} {a b : List ℕ} (k : Pending s ones a p
       record {
         so-far = adds same-profile (k .so-far) (onward p x);
         grown = grown-then (k .grown) (onward p x) h
-            (grown-same (ap (λ (os : List Found). adds same-profile (stored s b all) (longer (s .n) os p x)) (stored-kept s b a ones (k .grown .kept))) g);
+            (grown-same (ap (λ (os : List Found). adds same-profile (stored s b all) (longer (s .n) os p x))
+            (stored-kept s b a ones (k .grown .kept))) g);
         rest = λ fuel.
             ap (λ (i : ℕ). profiles-from i (s .n) (stored s a ones)) {x = p + 1 + fuel} {y = p + suc fuel} (omega arith)
             ∙ k .rest (suc fuel)
@@ -155,4 +172,5 @@ module _ {s : Shelf} {ones p all : ℕ} {a b : List ℕ} (k : Pending s ones a p
   pending-done fuel h m l =
       let e : stored s b all ≡ k .so-far = k .grown .records (omega arith) in
       grown-same
-      (sym (at-fuel fuel l ∙ spread-done same-profile onward (fuel - p) p (k .so-far) (omega (arith, ap length e, stored-length s b all)))) (k .grown)
+      (sym (at-fuel fuel l ∙ spread-done same-profile onward (fuel - p) p (k .so-far)
+      (omega (arith, ap length e, stored-length s b all)))) (k .grown)

@@ -8,7 +8,9 @@ ghost use Rattle.coded.specs.Runs.{same-profile, follow, longer, profiles-from,
 ghost use Rattle.tableau.specs.Promise.{table-of, Unmet};
 ghost use Rattle.tableau.specs.Area.{eight};
 ghost use Rattle.triples.specs.Promise.{triples-in};
-ghost use Rattle.runs.specs.Stored.{two, profile-of, found-of, place, record-of, stored, Rising, Parted, Small, Ends-of, Lent, Changed, bits-of, row-of, mixed, mixed-row, bucket-of, bucket-at, Latest, Chained, Grown, Added};
+ghost use Rattle.runs.specs.Stored.{two, profile-of, found-of, place, record-of, stored, Rising, Parted, Small, Ends-of, Lent};
+ghost use Rattle.runs.specs.Stored.{Changed, bits-of, row-of, mixed, mixed-row, bucket-of, bucket-at, Latest, Chained, Grown};
+ghost use Rattle.runs.specs.Stored.{Added};
 ghost use Rattle.runs.specs.Singles.{node-in, nodes-in, singles-by, Given};
 use tableau::NodeNumber;
 use tableau::Step;
@@ -108,7 +110,8 @@ fn write(area: &mut [u8], shelf: Shelf, p: usize, ends: Ends, t: &[u8; 144])
 fn same_profile(area: &[u8], shelf: Shelf, p: usize, ends: Ends, t: &[u8; 144]) -> bool
     requires { ⌜ Lent shelf (length (now area)) ⌝ }
     requires { ⌜ p < shelf .capacity ⌝ }
-    ensures { λ r. ⌜ r ≡ same-profile (record-of shelf (now (area .entry)) p .at) (profile-of ends (triples-in (shelf .n) (now (t .entry)))) ⌝ }
+    ensures { λ r. ⌜ r ≡ same-profile (record-of shelf (now (area .entry)) p .at)
+        (profile-of ends (triples-in (shelf .n) (now (t .entry)))) ⌝ }
 {
     let e = ends_of(area, shelf, p);
     if e.first.0 != ends.first.0 {
@@ -186,7 +189,8 @@ fn known(area: &[u8], shelf: Shelf, count: usize, k: usize, ends: Ends, t: &[u8;
     requires { ⌜ (count ≤ shelf .capacity) × (k < shelf .capacity) ⌝ }
     requires { ⌜ Chained shelf (now area) count ⌝ }
     requires { ⌜ k ≡ bucket-of shelf (profile-of ends (triples-in (shelf .n) (now t))) ⌝ }
-    ensures { λ r. ⌜ r ≡ seen same-profile (profile-of ends (triples-in (shelf .n) (now (t .entry)))) (stored shelf (now (area .entry)) count) ⌝ }
+    ensures { λ r. ⌜ r ≡ seen same-profile (profile-of ends (triples-in (shelf .n) (now (t .entry))))
+        (stored shelf (now (area .entry)) count) ⌝ }
 {
     let mut v = head(area, shelf, count, k);
     while 0 < v {
@@ -220,7 +224,8 @@ fn add(area: &mut [u8], shelf: Shelf, count: usize, ends: Ends, t: &[u8; 144]) -
     requires { ⌜ count ≤ shelf .capacity ⌝ }
     requires { ⌜ Small ends ⌝ }
     requires { ⌜ Chained shelf (now area) count ⌝ }
-    ensures { λ r. ⌜ Added shelf count (now (area .entry)) r (now (area .exit)) (found-of ends (triples-in (shelf .n) (now (t .entry))) ∷ []) ⌝ }
+    ensures { λ r. ⌜ Added shelf count (now (area .entry)) r (now (area .exit))
+        (found-of ends (triples-in (shelf .n) (now (t .entry))) ∷ []) ⌝ }
 {
     let k = bucket(shelf, ends, t);
     if known(area, shelf, count, k, ends, t) {
@@ -252,7 +257,9 @@ fn single(
     requires { ⌜ (number .0 < nodes) × (count ≤ shelf .capacity) ⌝ }
     requires { ⌜ (from ≡ eight (now area) (8 * number .0)) × Unmet (now rows) subformulas from (now unmet) ⌝ }
     requires { ⌜ Chained shelf (now area) count ⌝ }
-    ensures { λ all. ⌜ Added shelf count (now (area .entry)) all (now (area .exit)) (singles-by (table-of (now (rows .entry)) subformulas) (nodes-in subformulas (now (area .entry)) nodes) (number .0) (node-in subformulas (now (area .entry)) (number .0)) «choice_word») ⌝ }
+    ensures { λ all. ⌜ Added shelf count (now (area .entry)) all (now (area .exit))
+        (singles-by (table-of (now (rows .entry)) subformulas) (nodes-in subformulas (now (area .entry)) nodes) (number .0)
+        (node-in subformulas (now (area .entry)) (number .0)) «choice_word») ⌝ }
 {
     match tableau::by_word(rows, subformulas, unmet, choice_word, from) {
         Step::Nothing => count,
@@ -282,8 +289,11 @@ fn singles_of(
     number: NodeNumber,
     count: usize,
 ) -> usize
-    requires { ⌜ Given (now rows) subformulas r shelf nodes (now area) × ((number .0 < nodes) × ((count ≤ shelf .capacity) × Chained shelf (now area) count)) ⌝ }
-    ensures { λ all. ⌜ Added shelf count (now (area .entry)) all (now (area .exit)) (ones-of (table-of (now (rows .entry)) subformulas) (nodes-in subformulas (now (area .entry)) nodes) (number .0) (node-in subformulas (now (area .entry)) (number .0))) ⌝ }
+    requires { ⌜ Given (now rows) subformulas r shelf nodes (now area) ×
+        ((number .0 < nodes) × ((count ≤ shelf .capacity) × Chained shelf (now area) count)) ⌝ }
+    ensures { λ all. ⌜ Added shelf count (now (area .entry)) all (now (area .exit))
+        (ones-of (table-of (now (rows .entry)) subformulas) (nodes-in subformulas (now (area .entry)) nodes) (number .0)
+        (node-in subformulas (now (area .entry)) (number .0))) ⌝ }
 {
     let from = tableau::node(area, number);
     let unmet = tableau::unmet(rows, subformulas, from);
@@ -322,7 +332,8 @@ pub fn singles(
     nodes: usize,
 ) -> usize
     requires { ⌜ Given (now rows) subformulas r shelf nodes (now area) ⌝ }
-    ensures { λ all. ⌜ Grown shelf 0 (now (area .entry)) all (now (area .exit)) (ones (table-of (now (rows .entry)) subformulas) (nodes-in subformulas (now (area .entry)) nodes)) ⌝ }
+    ensures { λ all. ⌜ Grown shelf 0 (now (area .entry)) all (now (area .exit))
+        (ones (table-of (now (rows .entry)) subformulas) (nodes-in subformulas (now (area .entry)) nodes)) ⌝ }
 {
     let mut all = 0;
     let mut i = 1;
@@ -341,7 +352,8 @@ fn longer(area: &mut [u8], shelf: Shelf, p: usize, q: usize, count: usize) -> us
     requires { ⌜ Lent shelf (length (now area)) ⌝ }
     requires { ⌜ (p < count) × ((q < count) × (count ≤ shelf .capacity)) ⌝ }
     requires { ⌜ Chained shelf (now area) count ⌝ }
-    ensures { λ r. ⌜ Added shelf count (now (area .entry)) r (now (area .exit)) (follow (shelf .n) p (record-of shelf (now (area .entry)) p) (record-of shelf (now (area .entry)) q)) ⌝ }
+    ensures { λ r. ⌜ Added shelf count (now (area .entry)) r (now (area .exit))
+        (follow (shelf .n) p (record-of shelf (now (area .entry)) p) (record-of shelf (now (area .entry)) q)) ⌝ }
 {
     let a = ends_of(area, shelf, p);
     let b = ends_of(area, shelf, q);
@@ -389,7 +401,8 @@ fn extend(area: &mut [u8], shelf: Shelf, p: usize, ones: usize, count: usize) ->
     requires { ⌜ (p < count) × ((ones ≤ count) × (count ≤ shelf .capacity)) ⌝ }
     requires { ⌜ Chained shelf (now area) count ⌝ }
     requires { ⌜ Rising shelf (now area) ones ⌝ }
-    ensures { λ r. ⌜ Added shelf count (now (area .entry)) r (now (area .exit)) (longer (shelf .n) (stored shelf (now (area .entry)) ones) p (record-of shelf (now (area .entry)) p)) ⌝ }
+    ensures { λ r. ⌜ Added shelf count (now (area .entry)) r (now (area .exit))
+        (longer (shelf .n) (stored shelf (now (area .entry)) ones) p (record-of shelf (now (area .entry)) p)) ⌝ }
 {
     let e = ends_of(area, shelf, p);
     let end = begin_before(area, shelf, ones, NodeNumber(e.last.0 + 1));
@@ -411,7 +424,8 @@ pub fn profiles(area: &mut [u8], shelf: Shelf, ones: usize) -> usize
     requires { ⌜ ones ≤ shelf .capacity ⌝ }
     requires { ⌜ Chained shelf (now area) ones ⌝ }
     requires { ⌜ Rising shelf (now area) ones ⌝ }
-    ensures { λ r. ⌜ ((fuel : ℕ) → shelf .capacity < fuel → Grown shelf ones (now (area .entry)) r (now (area .exit)) (profiles-from fuel (shelf .n) (stored shelf (now (area .entry)) ones))) ⌝ }
+    ensures { λ r. ⌜ ((fuel : ℕ) → shelf .capacity < fuel → Grown shelf ones (now (area .entry)) r (now (area .exit))
+        (profiles-from fuel (shelf .n) (stored shelf (now (area .entry)) ones))) ⌝ }
 {
     let mut all = ones;
     let mut p = 0;

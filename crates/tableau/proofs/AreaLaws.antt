@@ -19,8 +19,10 @@ abbrev pub Small : List ℕ → Type 0
 Small ws = (x : ℕ) → List·Memᴰ x ws → x < 2 ^ 64
 
 pub eight-sets : (a : List ℕ) (at x : ℕ) → at + 8 ≤ length a
-    → set (set (set (set (set (set (set (set a at (x % 256)) (at + 1) (x / 0x100 % 256)) (at + 2) (x / 0x10000 % 256)) (at + 3) (x / 0x1000000 % 256))
-    (at + 4) (x / 0x100000000 % 256)) (at + 5) (x / 0x10000000000 % 256)) (at + 6) (x / 0x1000000000000 % 256)) (at + 7) (x / 0x100000000000000 % 256)
+    → set (set (set (set (set (set (set (set a at (x % 256)) (at + 1) (x / 0x100 % 256)) (at + 2) (x / 0x10000 % 256)) (at + 3)
+    (x / 0x1000000 % 256))
+    (at + 4) (x / 0x100000000 % 256)) (at + 5) (x / 0x10000000000 % 256)) (at + 6) (x / 0x1000000000000 % 256)) (at + 7)
+    (x / 0x100000000000000 % 256)
     ≡ put a at x
 eight-sets a at x h =
     simp (add-one, add-two, add-three, add-four, add-five, add-six, add-seven)
@@ -73,7 +75,8 @@ module _ (x : ℕ) (a : List ℕ) (i : ℕ) where
 pub eight-stored : (ws a : List ℕ) (i : ℕ) → Small ws → i < length ws → eight (gather bytes8 ws ++ a) (8 * i) ≡ getD ws i 0
 eight-stored [] a i h l = absurd (omega arith)
 eight-stored (x ∷ ws) a zero h l = eight-first x (gather bytes8 ws ++ a) (h x (List·Memᴰ·head refl))
-eight-stored (x ∷ ws) a (suc i) h l = eight-past x (gather bytes8 ws ++ a) i ∙ eight-stored ws a i (λ y m. h y (List·Memᴰ·tail m)) (omega arith)
+eight-stored (x ∷ ws) a (suc i) h l = eight-past x (gather bytes8 ws ++ a) i ∙ eight-stored ws a i (λ y m. h y (List·Memᴰ·tail m))
+    (omega arith)
 
 words-past : (x : ℕ) (a : List ℕ) (i n : ℕ) → words-at (bytes8 x ++ a) (suc i) n ≡ words-at a i n
 words-past x a i zero = refl
@@ -82,7 +85,11 @@ words-past x a i (suc n) = rw (eight-past x a i, words-past x a (suc i) n)
 pub words-stored : (ws a : List ℕ) → Small ws → words-at (gather bytes8 ws ++ a) 0 (length ws) ≡ ws
 words-stored [] a h = refl
 words-stored (x ∷ ws) a h =
-    rw (eight-first x (gather bytes8 ws ++ a) (h x (List·Memᴰ·head refl)), words-past x (gather bytes8 ws ++ a) 0 (length ws), words-stored ws a (λ y m. h y (List·Memᴰ·tail m)))
+    rw (
+      eight-first x (gather bytes8 ws ++ a) (h x (List·Memᴰ·head refl)),
+      words-past x (gather bytes8 ws ++ a) 0 (length ws),
+      words-stored ws a (λ y m. h y (List·Memᴰ·tail m)),
+    )
 
 -- one word more
 pub stored-length : (ws : List ℕ) → length (gather bytes8 ws) ≡ 8 * length ws
@@ -91,10 +98,13 @@ stored-length (x ∷ ws) = omega (arith, stored-length ws)
 
 put-store : (ws a : List ℕ) (x : ℕ) → put (store ws a) (8 * length ws) x ≡ store (ws ++ (x ∷ [])) a
 put-store ws a x =
-    ap (λ (l : List ℕ). l ++ (bytes8 x ++ drop (8 * length ws + 8) (store ws a))) (take-at (gather bytes8 ws) (drop (8 * length ws) a) (8 * length ws) (stored-length ws))
+    ap (λ (l : List ℕ). l ++ (bytes8 x ++ drop (8 * length ws + 8) (store ws a)))
+    (take-at (gather bytes8 ws) (drop (8 * length ws) a) (8 * length ws) (stored-length ws))
     ∙ ap (λ (n : ℕ). gather bytes8 ws ++ (bytes8 x ++ drop (n + 8) (store ws a))) (sym (stored-length ws))
-    ∙ ap (λ (l : List ℕ). gather bytes8 ws ++ (bytes8 x ++ l)) (drop-append-add (gather bytes8 ws) (drop (8 * length ws) a) 8 ∙ drop-drop 8 (8 * length ws) a)
-    ∙ ap (λ (n : ℕ). gather bytes8 ws ++ (bytes8 x ++ drop n a)) {x = 8 * length ws + 8} {y = 8 * length (ws ++ (x ∷ []))} (omega (arith, length-append ws (x ∷ [])))
+    ∙ ap (λ (l : List ℕ). gather bytes8 ws ++ (bytes8 x ++ l))
+    (drop-append-add (gather bytes8 ws) (drop (8 * length ws) a) 8 ∙ drop-drop 8 (8 * length ws) a)
+    ∙ ap (λ (n : ℕ). gather bytes8 ws ++ (bytes8 x ++ drop n a)) {x = 8 * length ws + 8} {y = 8 * length (ws ++ (x ∷ []))}
+    (omega (arith, length-append ws (x ∷ [])))
     ∙ sym (append-assoc (gather bytes8 ws) (bytes8 x) (drop (8 * length (ws ++ (x ∷ []))) a))
     ∙ ap (λ (l : List ℕ). l ++ drop (8 * length (ws ++ (x ∷ []))) a) (sym (gather-append bytes8 ws (x ∷ [])))
 
@@ -108,7 +118,8 @@ module _ (a : List ℕ) (known i x : ℕ) where
   pub find-here : i < known → eight a (8 * i) ≡ x → index x (words-at a i (known - i)) ≡ 0
   find-here h e = ap (index x) (words-turn h) ∙ rw (eq-eqb x (eight a (8 * i)) (sym e))
 
-  pub find-past : i < known → (eight a (8 * i) ≡ x → ⊥) → index x (words-at a i (known - i)) ≡ suc (index x (words-at a (i + 1) (known - (i + 1))))
+  pub find-past : i < known → (eight a (8 * i) ≡ x → ⊥)
+      → index x (words-at a i (known - i)) ≡ suc (index x (words-at a (i + 1) (known - (i + 1))))
   find-past h e = ap (index x) (words-turn h) ∙ rw (ne-eqb x (eight a (8 * i)) (λ q. e (sym q)))
 
   pub find-none : known ≤ i → index x (words-at a i (known - i)) ≡ 0
@@ -127,9 +138,11 @@ index-less x (y ∷ ys) = by (eqb x y) (index-less x ys)
     by false p = leb·suc-suc (suc (index x ys)) (length ys) ∙ p
 
 -- where a word was found tells whether it is among those known
-pub found-member : (a : List ℕ) (known x : ℕ) {found : ℕ} → found ≡ index x (words-at a 0 known) → ltb found known ≡ member x (words-at a 0 known)
+pub found-member : (a : List ℕ) (known x : ℕ) {found : ℕ} → found ≡ index x (words-at a 0 known)
+    → ltb found known ≡ member x (words-at a 0 known)
 found-member a known x {found} f =
-    ap (ltb found) (sym (words-length a 0 known)) ∙ ap (λ (n : ℕ). ltb n (length (words-at a 0 known))) f ∙ index-less x (words-at a 0 known)
+    ap (ltb found) (sym (words-length a 0 known)) ∙ ap (λ (n : ℕ). ltb n (length (words-at a 0 known))) f
+    ∙ index-less x (words-at a 0 known)
 
 -- a word more, by whether it is among those known
 module _ {area : List ℕ} {known : ℕ} (x capacity : ℕ) (fits : known ≤ capacity) where
@@ -145,10 +158,12 @@ module _ {area : List ℕ} {known : ℕ} (x capacity : ℕ) (fits : known ≤ ca
 
   pub add-known : member x (words-at area 0 known) ≡ true → Added known capacity x area area known
   add-known h = record {
-    is = λ ws a k small s. rw (known-is ws a k small s h) (k, s ∙ ap (λ (l : List ℕ). store l a) (sym (take-all capacity ws (omega arith))));
+    is = λ ws a k small s. rw (known-is ws a k small s h)
+        (k, s ∙ ap (λ (l : List ℕ). store l a) (sym (take-all capacity ws (omega arith))));
   }
 
-  pub add-new : member x (words-at area 0 known) ≡ false → known < capacity → {area′ : List ℕ} → area′ ≡ put area (8 * known) x → Added known capacity x area area′ (known + 1)
+  pub add-new : member x (words-at area 0 known) ≡ false → known < capacity → {area′ : List ℕ} → area′ ≡ put area (8 * known) x
+      → Added known capacity x area area′ (known + 1)
   add-new h l {area′} e = record {
     is = λ ws a k small s.
         let n : known + 1 ≡ length (ws ++ (x ∷ [])) = omega (arith, length-append ws (x ∷ [])) in

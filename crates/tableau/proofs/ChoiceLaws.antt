@@ -66,7 +66,8 @@ choice-by-word (o ∷ t) e f = go (is-or o) (f e) (choice-word t (suc e) f) (cho
 
     go : (a b : Bool) (x : ℕ) → choice-by t (suc e) f ≡ choice-of t x
         → (a && b) ∷ choice-by t (suc e) f
-        ≡ cond a (eqb (cond a (cond b 1 0 + 2 * x) x % 2) 1 ∷ choice-of t (cond a (cond b 1 0 + 2 * x) x / 2)) (false ∷ choice-of t (cond a (cond b 1 0 + 2 * x) x))
+        ≡ cond a (eqb (cond a (cond b 1 0 + 2 * x) x % 2) 1 ∷ choice-of t (cond a (cond b 1 0 + 2 * x) x / 2))
+        (false ∷ choice-of t (cond a (cond b 1 0 + 2 * x) x))
     go true b x h = cc (h, odd b x, ap (choice-of t) (half b x))
     go false b x h = ap (λ (l : Subset). false ∷ l) h
 
@@ -94,7 +95,8 @@ true-and false b h = refl
 
 -- choices whose moves agree on what one of them saturates to saturate to the same
 saturate-same : (t : Table) (v : Subset) → length v ≡ length t → (w u : Subset)
-    → ((e : ℕ) → T (has (saturate t w v) e) → moves (operator t e) (has w e) ≡ moves (operator t e) (has u e)) → saturate t w v ≡ saturate t u v
+    → ((e : ℕ) → T (has (saturate t w v) e) → moves (operator t e) (has w e) ≡ moves (operator t e) (has u e))
+    → saturate t w v ≡ saturate t u v
 saturate-same t v len w u agree =
     let i : Inside (saturate t u v) (saturate t w v) =
     saturate-least t u (saturate-holds t w v)
@@ -137,7 +139,8 @@ module _ (t : Table) (v : Subset) (len : length v ≡ length t) (f : ℕ → Boo
   chosen-moves e h = near-moves e (subst⁻¹ (λ (s : Subset). T (has s e)) near-same h)
 
   -- its saturated set is inside every set around the node that no picked move leaves,
-  pub chosen-inside : {u : Subset} → Inside v u → ((e m : ℕ) → T (has u e) → List·Memᴰ m (moves (operator t e) (f e)) → m < length u → T (has u m))
+  pub chosen-inside : {u : Subset} → Inside v u
+      → ((e m : ℕ) → T (has u e) → List·Memᴰ m (moves (operator t e) (f e)) → m < length u → T (has u m))
       → Inside (saturate t (chosen t v f .choice) v) u
   unfolding chosen
   chosen-inside {u} i c =

@@ -31,7 +31,8 @@ module _ (t : Table) where
   saturated-nothing : (w : Subset) → saturate t w (nothing t) ≡ nothing t
   saturated-nothing w =
       subset-ext (saturate t w (nothing t)) (nothing t) (saturate-length t w (nothing t))
-      (λ e h. inside-has (saturate-least t w (inside-refl (nothing t)) (λ i m h r l. absurd (nothing-has t i h))) e h) (λ e h. absurd (nothing-has t e h))
+      (λ e h. inside-has (saturate-least t w (inside-refl (nothing t)) (λ i m h r l. absurd (nothing-has t i h))) e h)
+      (λ e h. absurd (nothing-has t e h))
 
   -- the transition of the empty node with a choice
   back : (w : Subset) → transition-with t w (saturate t w (nothing t)) ≡ record { choice = w; letter = 0; to = nothing t }
@@ -47,6 +48,7 @@ module _ (t : Table) where
   empty-steps =
       subst (λ (x : Transition). List·Memᴰ x (transitions t (nothing t))) (back (nothing t))
       (transition-in t (nothing t) (nothing t)
-      (subst (λ (w : Subset). List·Memᴰ w (choices t)) (none-picked t) (Memᴰ·map (choice-of t) (numbers-in 0 (2 ^ ors t) 0 (omega arith) (omega (arith, pow-pos (ors t))))))
+      (subst (λ (w : Subset). List·Memᴰ w (choices t)) (none-picked t)
+      (Memᴰ·map (choice-of t) (numbers-in 0 (2 ^ ors t) 0 (omega arith) (omega (arith, pow-pos (ors t))))))
       (λ e h. absurd (nothing-has t e h)) 0
       (λ e h. absurd (nothing-has t e (subst (λ (s : Subset). T (has s e)) (saturated-nothing (nothing t)) h))))

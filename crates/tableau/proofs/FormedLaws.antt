@@ -47,5 +47,11 @@ module _ {bytes : List ℕ} {t : Table} (h : Held bytes t) where
     some = held-some h;
     few = held-few h;
     row = row;
-    few-ors = omega (arith, ors-are (table-of (t .rows) (t .count)), ap (how-many is-or) (h .operators), table-ors (h .formula), parse-limited bytes (h .formula) (h .parsed) .ors);
+    few-ors = omega (
+      arith,
+      ors-are (table-of (t .rows) (t .count)),
+      ap (how-many is-or) (h .operators),
+      table-ors (h .formula),
+      parse-limited bytes (h .formula) (h .parsed) .ors,
+    );
   }

@@ -31,7 +31,8 @@ use Rattle.formula.specs.Table.{Operator, operator}
 use Rattle.formula.specs.Rows.{operator-at}
 use Rattle.tableau.specs.Saturation.{Subset, has, add, moves, saturate}
 use Rattle.tableau.specs.Promise.{table-of, Formed, with-bits, Saturated}
-use Rattle.tableau.proofs.SaturationLaws.{inside-has, has-lt, add-inside, add-has, add-least, Follows, saturate-length, saturate-holds, saturate-closed, saturate-least}
+use Rattle.tableau.proofs.SaturationLaws.{inside-has, has-lt, add-inside, add-has, add-least, Follows, saturate-length}
+use Rattle.tableau.proofs.SaturationLaws.{saturate-holds, saturate-closed, saturate-least}
 use Rattle.tableau.proofs.WordSets.{Below, with-bits-bit, word-add}
 use Rattle.tableau.proofs.RowLaws.{moves-below}
 use Rattle.tableau.proofs.LoopLaws.{table-length}
@@ -87,7 +88,8 @@ module _ {ms : List ℕ} {fringe e rest set grown : ℕ} (u : Turn ms fringe e r
   -- what is new is missing twice in what the set has room for, and comes once into the fringe, which loses bit e
   falls : (room : ℕ) → grown ≤ room → 2 * (room - grown) + bitOr rest (bitXor grown set) < 2 * (room - set) + fringe
   falls room h =
-      let new : bitXor grown set + set ≡ grown = taken-off grown set (λ k t. subst⁻¹ T (grown-bit k) (or-right (member k ms) (bit set k) t)) in
+      let new : bitXor grown set + set ≡ grown =
+      taken-off grown set (λ k t. subst⁻¹ T (grown-bit k) (or-right (member k ms) (bit set k) t)) in
       omega (arith, or-add-and rest (bitXor grown set), u .left .less, pow-pos e)
 
 -- A set that holds v and follows the moves `go` of its subformulas but those of the fringe, inside every set that holds v and follows all.
@@ -99,7 +101,8 @@ pub record Closing (go : ℕ → List ℕ) (v : Subset) (set fringe : ℕ) : Typ
   pub part : (k : ℕ) → T (bit fringe k) → T (has now k)
   pub follows : (e m : ℕ) → T (has now e) → (T (bit fringe e) → ⊥) → List·Memᴰ m (go e) → m < length now → T (has now m)
 
-module _ {go : ℕ → List ℕ} {v : Subset} {set fringe e rest grown : ℕ} (below : Below (length v) (go e)) (u : Turn (go e) fringe e rest set grown)
+module _ {go : ℕ → List ℕ} {v : Subset} {set fringe e rest grown : ℕ} (below : Below (length v) (go e))
+    (u : Turn (go e) fringe e rest set grown)
     (b : Closing go v set fringe) where
   abbrev after : Subset
   after = add (go e) (b .now)

@@ -67,7 +67,8 @@ choice-append (o ∷ s) t x = by (is-or o) (choice-append s t)
     by : (b : Bool) → ((x : ℕ) → choice-of (s ++ t) x ≡ choice-of s x ++ choice-of t (x / 2 ^ ors s))
         → cond b (eqb (x % 2) 1 ∷ choice-of (s ++ t) (x / 2)) (false ∷ choice-of (s ++ t) x)
         ≡ cond b (eqb (x % 2) 1 ∷ choice-of s (x / 2)) (false ∷ choice-of s x) ++ choice-of t (x / 2 ^ (cond b 1 0 + ors s))
-    by true f = ap (λ (v : Subset). eqb (x % 2) 1 ∷ v) (f (x / 2) ∙ ap (λ (y : ℕ). choice-of s (x / 2) ++ choice-of t y) (shr-shr x 1 (ors s)))
+    by true f = ap (λ (v : Subset). eqb (x % 2) 1 ∷ v)
+        (f (x / 2) ∙ ap (λ (y : ℕ). choice-of s (x / 2) ++ choice-of t y) (shr-shr x 1 (ors s)))
     by false f = ap (λ (v : Subset). false ∷ v) (f x ∙ ap (λ (n : ℕ). choice-of s x ++ choice-of t (x / 2 ^ n)) (sym (zero-add (ors s))))
 
 -- a digit put in as bit e, which the word lacks
@@ -97,7 +98,8 @@ module _ {rows : List ℕ} {e x choice left : ℕ} (c : Chosen rows e x choice l
   grown b r q f =
       word-more (choice-of before x) b r (λ k. f k ∙ rw (long, c .choice-is))
       ∙ ap word (sym (ap (λ (t : Table). choice-of t x) (operators-more rows e) ∙ choice-append before (operator-at rows e ∷ []) x
-      ∙ ap (λ (y : ℕ). choice-of before x ++ choice-of (operator-at rows e ∷ []) y) (sym (c .left-is)) ∙ ap (λ (v : Subset). choice-of before x ++ v) q))
+      ∙ ap (λ (y : ℕ). choice-of before x ++ choice-of (operator-at rows e ∷ []) y) (sym (c .left-is))
+      ∙ ap (λ (v : Subset). choice-of before x ++ v) q))
 
   clear : bit choice e ≡ false
   clear = ap (λ (y : ℕ). bit y e) (c .choice-is) ∙ word-past (choice-of before x) e (omega (arith, long))
@@ -120,7 +122,8 @@ module _ {rows : List ℕ} {e x choice left : ℕ} (c : Chosen rows e x choice l
   chosen-all h k = c .choice-is ∙ at-end (λ (n : ℕ). word (choice-of (table-of rows e) x) ≡ word (choice-of (table-of rows n) x)) h k refl
 
 -- what is required
-operators-in-more : (t : Table) (o : Operator) (s : Subset) → operators-in (t ++ (o ∷ [])) s ≡ operators-in t s ++ cond (has s (length t)) (o ∷ []) []
+operators-in-more : (t : Table) (o : Operator) (s : Subset) → operators-in (t ++ (o ∷ [])) s ≡ operators-in t s ++ cond
+    (has s (length t)) (o ∷ []) []
 operators-in-more [] o [] = refl
 operators-in-more [] o (true ∷ s) = refl
 operators-in-more [] o (false ∷ s) = refl
@@ -138,7 +141,8 @@ required-one : (os : List Operator) (o : Operator) (q r : Requirement) → Requi
 required-one os o q r k m = record {
   present-is = gathered (requires true) os o (q .present) (r .present) (k .present-is) (m .present-is);
   absent-is = gathered (requires false) os o (q .absent) (r .absent) (k .absent-is) (m .absent-is);
-  falsum-is = m .falsum-is ∙ ap (λ (b : Bool). b || is-false o) (k .falsum-is) ∙ sym (any-append is-false os (o ∷ []) ∙ ap (λ (b : Bool). any is-false os || b) (or-false (is-false o)));
+  falsum-is = m .falsum-is ∙ ap (λ (b : Bool). b || is-false o) (k .falsum-is)
+      ∙ sym (any-append is-false os (o ∷ []) ∙ ap (λ (b : Bool). any is-false os || b) (or-false (is-false o)));
   to-is = gathered next-of os o (q .to) (r .to) (k .to-is) (m .to-is);
 }
 
@@ -151,7 +155,8 @@ module _ {rows : List ℕ} {count e set : ℕ} {q : Requirement} (k : Required-b
   in-more s b n h =
       ap (λ (t : Table). operators-in t s) (operators-more rows e) ∙ operators-in-more (table-of rows e) (operator-at rows e) s
       ∙ ap (λ (i : ℕ). operators-in (table-of rows e) s ++ cond (has s i) (operator-at rows e ∷ []) []) (table-length rows e)
-      ∙ ap (λ (d : Bool). operators-in (table-of rows e) s ++ cond d (operator-at rows e ∷ []) []) (sym (word-bit s e) ∙ ap (λ (x : ℕ). bit x e) (sym n) ∙ h)
+      ∙ ap (λ (d : Bool). operators-in (table-of rows e) s ++ cond d (operator-at rows e ∷ []) [])
+      (sym (word-bit s e) ∙ ap (λ (x : ℕ). bit x e) (sym n) ∙ h)
 
   required-more : bit set e ≡ true → {r : Requirement} → Requires-more (operator-at rows e) q r → Required-by rows count (e + 1) set r
   required-more h {r} m = record {
@@ -162,7 +167,8 @@ module _ {rows : List ℕ} {count e set : ℕ} {q : Requirement} (k : Required-b
 
   required-same : bit set e ≡ false → Required-by rows count (e + 1) set q
   required-same h = record {
-    is = λ s l n. subst⁻¹ (λ (os : List Operator). Required os q) (in-more s false n h ∙ append-nil (operators-in (table-of rows e) s)) (k .is s l n);
+    is = λ s l n. subst⁻¹ (λ (os : List Operator). Required os q) (in-more s false n h ∙ append-nil (operators-in (table-of rows e) s))
+        (k .is s l n);
   }
 
 -- rows whose bits are clear are passed over

@@ -5,14 +5,16 @@
 -- the search apply. Assumes nothing.
 use mathlib.Core.Path.{_≡_, refl, sym, ap, subst, subst⁻¹, _∙_}
 use mathlib.Core.Logic.{inl, inr}
-use mathlib.Core.List.{List, [], _∷_, _++_, map, List·Memᴰ, List·Memᴰ·head, List·Memᴰ·tail, List·Memᴰ·eq-of-singleton, Memᴰ·map, Memᴰ·of-map, Memᴰ·cast}
+use mathlib.Core.List.{List, [], _∷_, _++_, map, List·Memᴰ, List·Memᴰ·head, List·Memᴰ·tail, List·Memᴰ·eq-of-singleton, Memᴰ·map}
+use mathlib.Core.List.{Memᴰ·of-map, Memᴰ·cast}
 use Prim.Native.Nat.{ℕ, _+_, _^_, _≤_, _<_}
 use native.Mathlib.Omega.{arith}
 use lib.ListN.{length, length-map, length-append}
 use Rattle.base.specs.Lists.{tail}
 use Rattle.base.specs.Search.{Edge, Item, onward}
 use Rattle.base.proofs.MemberLaws.{parts, parts-length, parts-in}
-use Rattle.base.proofs.SearchLaws.{Visits, visits-cons, Distinct, Found, same-number, search-found, search-first, search-distinct, search-few, search-short}
+use Rattle.base.proofs.SearchLaws.{Visits, visits-cons, Distinct, Found, same-number, search-found, search-first, search-distinct}
+use Rattle.base.proofs.SearchLaws.{search-few, search-short}
 use Rattle.base.proofs.SearchOrder.{Sorted, sorted-same, Within, Far, search-sorted, search-near}
 use Rattle.base.proofs.Inside.{inside-length}
 use Rattle.formula.specs.Table.{Operator, Table}

@@ -4,7 +4,8 @@
 use mathlib.Core.Path.{_≡_, refl, sym, ap, subst, subst⁻¹, _∙_}
 use mathlib.Core.Logic.{_⊎_, inl, inr}
 use mathlib.Core.Bool.{Bool, true, false, cond, _&&_}
-use mathlib.Core.List.{List, [], _∷_, _++_, map, map-append, map-map, append-nil, List·Memᴰ, List·Memᴰ·head, List·Memᴰ·tail, List·Memᴰ·not-nil, List·Memᴰ·eq-of-singleton, Memᴰ·of-map}
+use mathlib.Core.List.{List, [], _∷_, _++_, map, map-append, map-map, append-nil, List·Memᴰ, List·Memᴰ·head, List·Memᴰ·tail}
+use mathlib.Core.List.{List·Memᴰ·not-nil, List·Memᴰ·eq-of-singleton, Memᴰ·of-map}
 use Prim.Native.Nat.{ℕ, zero, suc, _+_, _-_, _*_, _^_, _≤_, _<_, min}
 use native.Mathlib.Omega.{arith}
 use lib.Dec.{eqb}
@@ -21,7 +22,8 @@ use Rattle.base.proofs.MemberLaws.{gather-of}
 use Rattle.base.proofs.WordLaws.{word-lt, word-set, word-none}
 use Rattle.formula.specs.Table.{Operator, Table}
 use Rattle.tableau.specs.Saturation.{Subset, same-subset, nothing, saturate}
-use Rattle.tableau.specs.Transition.{operators-in, within, possible, letter-of, next-of, ors, choice-of, Transition, transition-of, by-word, transitions}
+use Rattle.tableau.specs.Transition.{operators-in, within, possible, letter-of, next-of, ors, choice-of, Transition}
+use Rattle.tableau.specs.Transition.{transition-of, by-word, transitions}
 use Rattle.tableau.specs.Nodes.{root, edges, operands, nodes}
 use Rattle.tableau.specs.Promise.{table-of, Formed, Leads-nowhere, Stepped-by}
 use Rattle.tableau.specs.Area.{eight, store, Holds, reachable, Sized, with-one, with-all, leads, outs, Added, Followed, Expanded}
@@ -32,11 +34,13 @@ use Rattle.tableau.proofs.NodeLaws.{root-length, nodes-few}
 use Rattle.tableau.proofs.WordSets.{same-word}
 use Rattle.tableau.proofs.LoopLaws.{table-length}
 use Rattle.tableau.proofs.StepLaws.{a-step}
-use Rattle.tableau.proofs.SearchLoop.{with-all-append, all-begins, all-each, Searching, searching-start, searching-turn, searching-end, searching-begins}
+use Rattle.tableau.proofs.SearchLoop.{with-all-append, all-begins, all-each, Searching, searching-start, searching-turn}
+use Rattle.tableau.proofs.SearchLoop.{searching-end, searching-begins}
 use Rattle.tableau.proofs.AreaLaws.{Small, eight-stored}
 
 -- a node is known if its word is
-word-member : (count : ℕ) (l : List Subset) (v : Subset) → Sized count l → length v ≡ count → member (word v) (map word l) ≡ any (same-subset v) l
+word-member : (count : ℕ) (l : List Subset) (v : Subset) → Sized count l → length v ≡ count
+    → member (word v) (map word l) ≡ any (same-subset v) l
 word-member count [] v s h = refl
 word-member count (u ∷ l) v s h =
     rw (same-word v u (h ∙ sym (s u (List·Memᴰ·head refl))), word-member count l v (λ x m. s x (List·Memᴰ·tail m)) h)
@@ -70,7 +74,8 @@ module _ {capacity known : ℕ} {a area : List ℕ} {l : List Subset} (holds : H
       ∙ List·getD-map word l i []
 
   -- a node more
-  holds-one : {count r : ℕ} {area′ : List ℕ} (v : Subset) → count ≤ 48 → Sized count l → length v ≡ count → Added known capacity (word v) area area′ r
+  holds-one : {count r : ℕ} {area′ : List ℕ} (v : Subset) → count ≤ 48 → Sized count l → length v ≡ count
+      → Added known capacity (word v) area area′ r
       → Holds capacity r a area′ (with-one same-subset l v)
   holds-one {count} {r} {area′} v c s h ad =
       let z = ad .is (map word l) a (all-known ∙ sym (length-map l word)) (words-small c s) all-stored in
@@ -84,13 +89,15 @@ module _ {capacity known : ℕ} {a area : List ℕ} {l : List Subset} (holds : H
       few false e = omega (arith, holds .known-is, length-append l (v ∷ []))
 
 -- past the capacity, what comes later changes nothing
-holds-more : {capacity known : ℕ} {a area : List ℕ} {l : List Subset} (more : List Subset) → Holds capacity known a area l → capacity < known
+holds-more : {capacity known : ℕ} {a area : List ℕ} {l : List Subset} (more : List Subset) → Holds capacity known a area l
+    → capacity < known
     → Holds capacity known a area (l ++ more)
 holds-more {capacity} {known} {a} {area} {l} more hs k = record {
   known-is = omega (arith, hs .known-is, length-append l more);
   area-is = hs .area-is
       ∙ ap (λ (ws : List ℕ). store ws a)
-      (sym (ap (take capacity) (map-append word l more) ∙ take-append-le capacity (map word l) (map word more) (omega (arith, hs .known-is, length-map l word))));
+      (sym (ap (take capacity) (map-append word l more) ∙ take-append-le capacity (map word l) (map word more)
+      (omega (arith, hs .known-is, length-map l word))));
 }
 
 holds-all : {capacity known : ℕ} {a area : List ℕ} {l : List Subset} (ys : List Subset) → Holds capacity known a area l → capacity < known
@@ -114,7 +121,8 @@ leads-sized t v x = by (within w s && possible os)
     os = operators-in t s
 
     by : (b : Bool) → Sized (length t) (map (λ (x : Transition). x .to) (cond b (transition-with t w s ∷ []) []))
-    by true = λ u m. ap length (List·Memᴰ·eq-of-singleton m) ∙ sym (inside-length (add-inside (gather next-of os) (nothing t))) ∙ length-map t (λ _. false)
+    by true = λ u m. ap length (List·Memᴰ·eq-of-singleton m) ∙ sym (inside-length (add-inside (gather next-of os) (nothing t)))
+        ∙ length-map t (λ _. false)
     by false = λ u m. absurd (List·Memᴰ·not-nil m)
 
 -- the known nodes l with those that the first n choice words lead to
@@ -125,7 +133,9 @@ module _ (t : Table) (v : Subset) (l : List Subset) where
   led-more : (n : ℕ) → led t v l (n + 1) ≡ with-all same-subset (led t v l n) (leads t v n)
   led-more n =
       ap (λ (ks : List ℕ). with-all same-subset l (gather (leads t v) ks)) (numbers-more n)
-      ∙ ap (with-all same-subset l) (gather-append (leads t v) (numbers 0 n) (n ∷ []) ∙ ap (λ (ys : List Subset). gather (leads t v) (numbers 0 n) ++ ys) (append-nil (leads t v n)))
+      ∙ ap (with-all same-subset l)
+      (gather-append (leads t v) (numbers 0 n) (n ∷ []) ∙ ap (λ (ys : List Subset). gather (leads t v) (numbers 0 n) ++ ys)
+      (append-nil (leads t v n)))
       ∙ with-all-append same-subset l (gather (leads t v) (numbers 0 n)) (leads t v n)
 
   led-sized : (n : ℕ) → Sized (length t) l → Sized (length t) (led t v l n)
@@ -138,7 +148,8 @@ module _ (t : Table) (v : Subset) (l : List Subset) where
   unfolding transitions
   led-all =
       ap (with-all same-subset l)
-      (sym (ap (map (λ (s : Transition). s .to)) (gather-map (λ w. transition-of t w (saturate t w v)) (choice-of t) (numbers 0 (2 ^ ors t)))
+      (sym (ap (map (λ (s : Transition). s .to))
+      (gather-map (λ w. transition-of t w (saturate t w v)) (choice-of t) (numbers 0 (2 ^ ors t)))
       ∙ map-gather (λ (s : Transition). s .to) (λ (x : ℕ). by-word t x v) (numbers 0 (2 ^ ors t))))
 
   led-full : {capacity known : ℕ} {a area : List ℕ} (n m : ℕ) → n ≤ m → Holds capacity known a area (led t v l n) → capacity < known
@@ -162,12 +173,15 @@ pub follow-nowhere : {rows : List ℕ} {count from x known capacity : ℕ} {area
     → Followed rows count from x known capacity area area known
 follow-nowhere {known = known} {capacity} {area} n = record {
   is = λ l v a hs sz e len.
-      subst⁻¹ (λ (xs : List Transition). Holds capacity known a area (with-all same-subset l (map (λ (y : Transition). y .to) xs))) (n .is v len e) hs;
+      subst⁻¹ (λ (xs : List Transition). Holds capacity known a area (with-all same-subset l (map (λ (y : Transition). y .to) xs)))
+      (n .is v len e) hs;
 }
 
 pub follow-some : {rows : List ℕ} {count from x known capacity to p r : ℕ} {area area′ : List ℕ} → Formed rows count → known ≤ capacity
-    → Stepped-by rows count x from (Leads to p) → Added known capacity to area area′ r → Followed rows count from x known capacity area area′ r
-follow-some {rows} {count} {from} {x} {known} {capacity} {r = r} {area} {area′} f h st ad = record { is = λ l v a hs sz e len. go l v a hs sz e len }
+    → Stepped-by rows count x from (Leads to p) → Added known capacity to area area′ r
+    → Followed rows count from x known capacity area area′ r
+follow-some {rows} {count} {from} {x} {known} {capacity} {r = r} {area} {area′} f h st ad =
+    record { is = λ l v a hs sz e len. go l v a hs sz e len }
   where
     go : (l : List Subset) (v : Subset) (a : List ℕ) → Holds capacity known a area l → Sized count l → from ≡ word v → length v ≡ count
         → Holds capacity r a area′ (with-all same-subset l (leads (table-of rows count) v x))
@@ -186,7 +200,8 @@ pub record Expanding (rows : List ℕ) (count from known capacity : ℕ) (area�
   pub is : (l : List Subset) (v : Subset) (a : List ℕ) → Holds capacity known a area₀ l → Sized count l → from ≡ word v → length v ≡ count
       → Holds capacity all a area (led (table-of rows count) v l x)
 
-pub expand-start : (rows : List ℕ) (count from known capacity : ℕ) (area : List ℕ) → Expanding rows count from known capacity area known 0 area
+pub expand-start : (rows : List ℕ) (count from known capacity : ℕ) (area : List ℕ) → Expanding rows count from known capacity area known
+    0 area
 expand-start rows count from known capacity area = record { is = λ l v a h s e n. h }
 
 pub at-sized : (count : ℕ) (l : List Subset) (i : ℕ) → Sized count l → i < length l → length (getD l i []) ≡ count
@@ -194,7 +209,8 @@ at-sized count [] i s h = absurd (omega arith)
 at-sized count (u ∷ l) zero s h = s u (List·Memᴰ·head refl)
 at-sized count (u ∷ l) (suc i) s h = at-sized count l i (λ x m. s x (List·Memᴰ·tail m)) (omega arith)
 
-module _ {rows : List ℕ} {count from known capacity all x : ℕ} {area₀ area : List ℕ} (ex : Expanding rows count from known capacity area₀ all x area) where
+module _ {rows : List ℕ} {count from known capacity all x : ℕ} {area₀ area : List ℕ}
+    (ex : Expanding rows count from known capacity area₀ all x area) where
   pub expand-turn : {r : ℕ} {area′ : List ℕ} → Followed rows count from x all capacity area area′ r
       → Expanding rows count from known capacity area₀ r (x + 1) area′
   expand-turn {r} {area′} fo = record {
@@ -232,7 +248,8 @@ limit t = 2 + 2 ^ length (operands t)
 
 pub record Finding (rows : List ℕ) (count capacity known i : ℕ) (a area : List ℕ) : Type 0 where
   pub known-nodes : List Subset
-  pub searching : Searching same-subset (edges (table-of rows count)) (limit (table-of rows count)) (starts (table-of rows count)) i known-nodes
+  pub searching : Searching same-subset (edges (table-of rows count)) (limit (table-of rows count)) (starts (table-of rows count)) i
+      known-nodes
   pub sized : Sized (length (table-of rows count)) known-nodes
   pub holds : Holds capacity known a area known-nodes
 
@@ -250,7 +267,8 @@ find-start {rows} {count} {capacity} {known} {a} f ad =
       sized = λ u m. ap length (List·Memᴰ·eq-of-singleton m) ∙ root-length t;
       holds = record {
         known-is = omega (arith, z .0);
-        area-is = z .1 ∙ ap (λ (x : ℕ). store (take capacity (x ∷ [])) a) (sym (root-word t (omega (arith, table-length rows count, f .some))));
+        area-is = z .1 ∙ ap (λ (x : ℕ). store (take capacity (x ∷ [])) a)
+            (sym (root-word t (omega (arith, table-length rows count, f .some))));
       };
     }
 
@@ -262,11 +280,14 @@ module _ {rows : List ℕ} {count capacity known i : ℕ} {a area : List ℕ} (f
       let t = table-of rows count in
       let l = f .known-nodes in
       let v = getD l i [] in
-      let same : map (λ (e : Edge Transition Subset). e .to) (edges t v) ≡ outs t v = map-map (λ (e : Edge Transition Subset). e .to) _ (transitions t v) in
+      let same : map (λ (e : Edge Transition Subset). e .to) (edges t v) ≡ outs t v =
+      map-map (λ (e : Edge Transition Subset). e .to) _ (transitions t v) in
       record {
         known-nodes = with-all same-subset l (outs t v);
-        searching = subst (λ (ys : List Subset). Searching same-subset (edges t) (limit t) (starts t) (i + 1) (with-all same-subset l ys)) same
-            (searching-turn same-subset (edges t) (limit t) (starts t) (f .searching) [] (omega (arith, nodes-few t)) (omega (arith, f .holds .known-is)));
+        searching = subst (λ (ys : List Subset). Searching same-subset (edges t) (limit t) (starts t) (i + 1)
+            (with-all same-subset l ys)) same
+            (searching-turn same-subset (edges t) (limit t) (starts t) (f .searching) [] (omega (arith, nodes-few t))
+            (omega (arith, f .holds .known-is)));
         sized = subst (Sized (length t)) (led-all t v l) (led-sized t v l (2 ^ ors t) (f .sized));
         holds = ex .is l a (f .holds) (of-table rows count (f .sized));
       }

@@ -35,7 +35,8 @@ nodes-kept {rows} {count} {a = a} f hs fits =
     let l = reachable (table-of rows count) in
     let sized : Sized count l = λ u m. reachable-sized (table-of rows count) u m ∙ table-length rows count in
     record {
-      words = rw (all-stored hs fits, ← length-map l word) (words-stored (map word l) (drop (8 * length (map word l)) a) (words-small (f .few) sized));
+      words = rw (all-stored hs fits, ← length-map l word)
+          (words-stored (map word l) (drop (8 * length (map word l)) a) (words-small (f .few) sized));
     }
 
 words-at-get : (a : List ℕ) (j n i : ℕ) → i < n → getD (words-at a j n) i 0 ≡ eight a (8 * (j + i))

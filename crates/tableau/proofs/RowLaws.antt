@@ -53,8 +53,10 @@ abbrev pub Put : (op n k x y : ℕ) → Type 0
 Put op n k x y = ((op ≡ n) × (y ≡ bitOr x (2 ^ k))) ⊎ ((op ≡ n → ⊥) × (y ≡ x))
 
 put-bits : (k : ℕ) {op n x y : ℕ} {ms : List ℕ} → ms ≡ cond (eqb op n) (k ∷ []) [] → Put op n k x y → y ≡ with-bits ms x
-put-bits k {op} {n} {x} q (inl (h, p)) = p ∙ sym (ap (λ (l : List ℕ). with-bits l x) (q ∙ ap (λ (b : Bool). cond b (k ∷ []) []) (eq-eqb op n h)))
-put-bits k {op} {n} {x} q (inr (h, p)) = p ∙ sym (ap (λ (l : List ℕ). with-bits l x) (q ∙ ap (λ (b : Bool). cond b (k ∷ []) []) (ne-eqb op n h)))
+put-bits k {op} {n} {x} q (inl (h, p)) =
+    p ∙ sym (ap (λ (l : List ℕ). with-bits l x) (q ∙ ap (λ (b : Bool). cond b (k ∷ []) []) (eq-eqb op n h)))
+put-bits k {op} {n} {x} q (inr (h, p)) =
+    p ∙ sym (ap (λ (l : List ℕ). with-bits l x) (q ∙ ap (λ (b : Bool). cond b (k ∷ []) []) (ne-eqb op n h)))
 
 module _ (op a e : ℕ) where
   abbrev o : Operator
@@ -66,7 +68,8 @@ module _ (op a e : ℕ) where
   is-or-not : 0 < op → op ≤ 10 → (op ≡ 6 → ⊥) → is-or o ≡ false
   is-or-not l m =
       ten (λ (n : ℕ). (n ≡ 6 → ⊥) → is-or (operator-of (opcode n) a e) ≡ false)
-      (λ f. refl) (λ f. refl) (λ f. refl) (λ f. refl) (λ f. refl) (λ f. absurd (f refl)) (λ f. refl) (λ f. refl) (λ f. refl) (λ f. refl) op l m
+      (λ f. refl) (λ f. refl) (λ f. refl) (λ f. refl) (λ f. refl) (λ f. absurd (f refl)) (λ f. refl) (λ f. refl) (λ f. refl) (λ f. refl)
+      op l m
 
   -- where the moves go
   pub moves-below : (n : ℕ) (p : Bool) → Row op a e n → Below n (moves o p)
@@ -88,7 +91,8 @@ module _ (op a e : ℕ) where
   pub next-below : (n : ℕ) → Row op a e n → Below n (next-of o)
   next-below n r =
       ten (λ (op : ℕ). Row op a e n → Below n (next-of (operator-of (opcode op) a e)))
-      (λ r. below-none n) (λ r. below-none n) (λ r. below-none n) (λ r. below-none n) (λ r. below-none n) (λ r. below-none n) (λ r. below-none n)
+      (λ r. below-none n) (λ r. below-none n) (λ r. below-none n) (λ r. below-none n) (λ r. below-none n) (λ r. below-none n)
+      (λ r. below-none n)
       (λ r. below-one n (e + 1) (r .first-below (omega arith)))
       (λ r. below-none n) (λ r. below-none n)
       op (r .some) (r .known) r
@@ -98,7 +102,8 @@ module _ (op a e : ℕ) where
       ten (λ (op : ℕ). Row op a e n → Below 16 (requires true (operator-of (opcode op) a e)))
       (λ r. below-none 16) (λ r. below-none 16)
       (λ r. below-one 16 a (r .signal (omega arith) (omega arith)))
-      (λ r. below-none 16) (λ r. below-none 16) (λ r. below-none 16) (λ r. below-none 16) (λ r. below-none 16) (λ r. below-none 16) (λ r. below-none 16)
+      (λ r. below-none 16) (λ r. below-none 16) (λ r. below-none 16) (λ r. below-none 16) (λ r. below-none 16) (λ r. below-none 16)
+      (λ r. below-none 16)
       op (r .some) (r .known) r
 
   -- the moves, opcode by opcode
@@ -134,26 +139,32 @@ module _ (op a e : ℕ) where
         op l (omega arith) m
 
   -- what is required: one test of the opcode for each part
-  pub more-at : (q : Requirement) {present absent to : ℕ} → 0 < op → op ≤ 10 → Put op 3 a (q .present) present → Put op 4 a (q .absent) absent
-      → Put op 8 (e + 1) (q .to) to → Requires-more o q (record { present = present; absent = absent; falsum = q .falsum || eqb op 2; to = to })
+  pub more-at : (q : Requirement) {present absent to : ℕ} → 0 < op → op ≤ 10 → Put op 3 a (q .present) present
+      → Put op 4 a (q .absent) absent
+      → Put op 8 (e + 1) (q .to) to
+      → Requires-more o q (record { present = present; absent = absent; falsum = q .falsum || eqb op 2; to = to })
   more-at q l m f g h = record {
     present-is =
         put-bits a
-        (ten (λ (n : ℕ). requires true (operator-of (opcode n) a e) ≡ cond (eqb n 3) (a ∷ []) []) refl refl refl refl refl refl refl refl refl refl op l m) f;
+        (ten (λ (n : ℕ). requires true (operator-of (opcode n) a e) ≡ cond (eqb n 3) (a ∷ []) []) refl refl refl refl refl refl refl
+        refl refl refl op l m) f;
     absent-is =
         put-bits a
-        (ten (λ (n : ℕ). requires false (operator-of (opcode n) a e) ≡ cond (eqb n 4) (a ∷ []) []) refl refl refl refl refl refl refl refl refl refl op l m) g;
+        (ten (λ (n : ℕ). requires false (operator-of (opcode n) a e) ≡ cond (eqb n 4) (a ∷ []) []) refl refl refl refl refl refl refl
+        refl refl refl op l m) g;
     falsum-is =
         ap (λ (b : Bool). q .falsum || b)
         (ten (λ (n : ℕ). eqb n 2 ≡ is-false (operator-of (opcode n) a e)) refl refl refl refl refl refl refl refl refl refl op l m);
     to-is =
         put-bits (e + 1)
-        (ten (λ (n : ℕ). next-of (operator-of (opcode n) a e) ≡ cond (eqb n 8) ((e + 1) ∷ []) []) refl refl refl refl refl refl refl refl refl refl op l m) h;
+        (ten (λ (n : ℕ). next-of (operator-of (opcode n) a e) ≡ cond (eqb n 8) ((e + 1) ∷ []) []) refl refl refl refl refl refl refl
+        refl refl refl op l m) h;
   }
 
 -- whether a row is an or, by its opcode
 pub or-at : (rows : List ℕ) (e : ℕ) → getD rows e 0 ≡ 6 → is-or (operator-at rows e) ≡ true
 or-at rows e = is-or-6 (getD rows e 0) (getD rows (48 + e) 0) e
 
-pub other-at : {rows : List ℕ} {count : ℕ} (e : ℕ) → Formed rows count → e < count → (getD rows e 0 ≡ 6 → ⊥) → is-or (operator-at rows e) ≡ false
+pub other-at : {rows : List ℕ} {count : ℕ} (e : ℕ) → Formed rows count → e < count → (getD rows e 0 ≡ 6 → ⊥)
+    → is-or (operator-at rows e) ≡ false
 other-at {rows} e f h = is-or-not (getD rows e 0) (getD rows (48 + e) 0) e (f .row e h .some) (f .row e h .known)

@@ -16,7 +16,8 @@ use Rattle.base.specs.Sets.{Below, Inside}
 use Rattle.base.proofs.BoolLaws.{by-test, of-T, to-T, same-bit-sound, same-bit-refl}
 use Rattle.base.proofs.MemberLaws.{alike-sound, alike-refl}
 use Rattle.base.proofs.ListLaws.{repeat-keeps}
-use Rattle.base.proofs.Inside.{below-greatest, inside-at, inside-of, inside-length, inside-refl, inside-trans, inside-both, waiting-le, rests}
+use Rattle.base.proofs.Inside.{below-greatest, inside-at, inside-of, inside-length, inside-refl, inside-trans, inside-both, waiting-le}
+use Rattle.base.proofs.Inside.{rests}
 use Rattle.formula.specs.Table.{Operator, Table, operator}
 use Rattle.tableau.specs.Saturation.{Subset, has, same-subset, nothing, add, moves, sweep, saturate}
 
@@ -39,7 +40,8 @@ pub inside-by : (v u : Subset) → length v ≡ length u → ((e : ℕ) → T (h
 inside-by v u len f = inside-of v u len (λ e l q. of-T (has u e) (f e (to-T (has v e) q)))
 
 -- two subsets of one length that have the same subformulas are equal
-pub subset-ext : (v u : Subset) → length v ≡ length u → ((e : ℕ) → T (has v e) → T (has u e)) → ((e : ℕ) → T (has u e) → T (has v e)) → v ≡ u
+pub subset-ext : (v u : Subset) → length v ≡ length u → ((e : ℕ) → T (has v e) → T (has u e)) → ((e : ℕ) → T (has u e) → T (has v e))
+    → v ≡ u
 subset-ext v u len f g = inside-both (inside-by v u len f) (inside-by u v (sym len) g)
 
 pub has-lt : (v : Subset) (e : ℕ) → T (has v e) → e < length v

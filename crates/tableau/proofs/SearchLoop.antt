@@ -4,7 +4,8 @@
 use mathlib.Core.Path.{_≡_, refl, sym, ap, subst⁻¹, _∙_}
 use mathlib.Core.Logic.{inl, inr}
 use mathlib.Core.Bool.{Bool, true, false, cond, _||_, or-true, or-false}
-use mathlib.Core.List.{List, [], _∷_, _++_, map, map-append, map-map, append-nil, append-assoc, List·Memᴰ, List·Memᴰ·head, List·Memᴰ·tail, List·Memᴰ·append-cases, List·Memᴰ·eq-of-singleton}
+use mathlib.Core.List.{List, [], _∷_, _++_, map, map-append, map-map, append-nil, append-assoc, List·Memᴰ, List·Memᴰ·head}
+use mathlib.Core.List.{List·Memᴰ·tail, List·Memᴰ·append-cases, List·Memᴰ·eq-of-singleton}
 use Prim.Native.Nat.{ℕ, zero, suc, _+_, _≤_, _<_}
 use native.Mathlib.Omega.{arith}
 use lib.ListN.{length, getD, length-append, length-map}
@@ -69,7 +70,8 @@ module _ {L K : Type 0} (same : K → K → Bool) (edges : K → List (Edge L K)
       ap (λ (b : Bool). known ++ vertices (cond b (fresh same edges s ys) (y ∷ fresh same edges (y ∷ s) ys))) (f (y .at))
       ∙ by (any (same (y .at)) known) (fresh-all s known ys f)
       (fresh-all (y ∷ s) (known ++ (y .at ∷ [])) ys
-      (λ k. ap (λ (b : Bool). same k (y .at) || b) (f k) ∙ swap (same k (y .at)) (any (same k) known) ∙ sym (any-append (same k) known (y .at ∷ []))))
+      (λ k. ap (λ (b : Bool). same k (y .at) || b) (f k) ∙ swap (same k (y .at)) (any (same k) known)
+      ∙ sym (any-append (same k) known (y .at ∷ []))))
     where
       swap : (a b : Bool) → (a || b) ≡ (b || (a || false))
       swap true b = sym (or-true b)
@@ -119,7 +121,8 @@ module _ {L K : Type 0} (same : K → K → Bool) (edges : K → List (Edge L K)
           at-turn [] queue x = refl
           at-turn (y ∷ done) queue x = at-turn done queue x
 
-          go : (fuel : ℕ) (done queue : List (Item L K)) → all ≡ walk same edges fuel done queue → length done ≡ i → vertices (done ++ queue) ≡ l
+          go : (fuel : ℕ) (done queue : List (Item L K)) → all ≡ walk same edges fuel done queue → length done ≡ i
+              → vertices (done ++ queue) ≡ l
               → fuel + i ≡ limit → Searching (i + 1) (with-all same l (targets (getD l i d)))
           go zero done queue f g k t = absurd (omega (arith, ap length f, long done queue k))
           go (suc fuel) done [] f g k t = absurd (omega (arith, long done [] k, length-append done []))
@@ -144,9 +147,15 @@ module _ {L K : Type 0} (same : K → K → Bool) (edges : K → List (Edge L K)
       pub searching-end : length l ≤ i → vertices all ≡ l
       searching-end h = go (s .fuel) (s .done) (s .queue) (s .found) (s .gone) (s .known)
         where
-          go : (fuel : ℕ) (done queue : List (Item L K)) → all ≡ walk same edges fuel done queue → length done ≡ i → vertices (done ++ queue) ≡ l → vertices all ≡ l
+          go : (fuel : ℕ) (done queue : List (Item L K)) → all ≡ walk same edges fuel done queue → length done ≡ i
+              → vertices (done ++ queue) ≡ l → vertices all ≡ l
           go fuel done (x ∷ queue) f g k =
-              absurd (omega (arith, ap length k, length-map (done ++ (x ∷ queue)) (λ (x : Item L K). x .at), length-append done (x ∷ queue)))
+              absurd (omega (
+                arith,
+                ap length k,
+                length-map (done ++ (x ∷ queue)) (λ (x : Item L K). x .at),
+                length-append done (x ∷ queue),
+              ))
           go zero done [] f g k = ap vertices f ∙ k
           go (suc fuel) done [] f g k = ap vertices (f ∙ sym (append-nil done)) ∙ k
 
@@ -155,6 +164,9 @@ module _ {L K : Type 0} (same : K → K → Bool) (edges : K → List (Edge L K)
           subst⁻¹ (λ (xs : List (Item L K)). (more : List K) × (vertices xs ≡ l ++ more)) (s .found)
           (walk-keeps same edges (λ (xs : List (Item L K)). (more : List K) × (vertices xs ≡ l ++ more))
           (λ x done queue q.
-          let new = fresh same edges (done ++ (x ∷ queue)) (map (onward same edges x) (edges (x .at))) in
-          (q .0 ++ vertices new, map-append (λ (x : Item L K). x .at) (done ++ (x ∷ queue)) new ∙ ap (λ (l : List K). l ++ vertices new) (q .1) ∙ append-assoc l (q .0) (vertices new)))
+          let new = fresh same edges (done ++ (x ∷ queue)) (map (onward same edges x) (edges (x .at))) in (
+            q .0 ++ vertices new,
+            map-append (λ (x : Item L K). x .at) (done ++ (x ∷ queue)) new
+                ∙ ap (λ (l : List K). l ++ vertices new) (q .1) ∙ append-assoc l (q .0) (vertices new),
+          ))
           (s .fuel) (s .done) (s .queue) ([], s .known ∙ sym (append-nil l)))

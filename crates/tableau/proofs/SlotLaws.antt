@@ -21,13 +21,17 @@ use Rattle.tableau.proofs.NodeReads.{eight-same}
 no-member : (x : ℕ) (a : List ℕ) (i n : ℕ) → ((j : ℕ) → i ≤ j → j < i + n → eight a (8 * j) ≡ x → ⊥) → member x (words-at a i n) ≡ false
 no-member x a i zero f = refl
 no-member x a i (suc n) f =
-    rw (ne-eqb x (eight a (8 * i)) (λ q. f i (omega arith) (omega arith) (sym q)), no-member x a (suc i) n (λ j l m. f j (omega arith) (omega arith)))
+    rw (
+      ne-eqb x (eight a (8 * i)) (λ q. f i (omega arith) (omega arith) (sym q)),
+      no-member x a (suc i) n (λ j l m. f j (omega arith) (omega arith)),
+    )
 
 a-member : (x : ℕ) (a : List ℕ) (i n j : ℕ) → i ≤ j → j < i + n → eight a (8 * j) ≡ x → member x (words-at a i n) ≡ true
 a-member x a i zero j l m e = absurd (omega arith)
 a-member x a i (suc n) j l m e =
     elim (decLt i j) [
-      | yes k ↦ ap (λ (b : Bool). eqb x (eight a (8 * i)) || b) (a-member x a (suc i) n j (omega arith) (omega arith) e) ∙ or-true (eqb x (eight a (8 * i)))
+      | yes k ↦ ap (λ (b : Bool). eqb x (eight a (8 * i)) || b) (a-member x a (suc i) n j (omega arith) (omega arith) e)
+          ∙ or-true (eqb x (eight a (8 * i)))
       | no k ↦ rw (eq-eqb x (eight a (8 * i)) (sym e ∙ ap (λ (k : ℕ). eight a (8 * k)) {x = j} {y = i} (omega arith)))
     ]
 

@@ -21,7 +21,8 @@ use Rattle.formula.specs.Table.{Operator, Table}
 use Rattle.formula.specs.Rows.{operator-at}
 use Rattle.tableau.specs.Saturation.{Subset, nothing, add, saturate}
 use Rattle.tableau.specs.Transition.{operators-in, requires, next-of, possible, letter-of, choice-of, within, transition-of}
-use Rattle.tableau.specs.Promise.{table-of, Row, Formed, with-bits, Saturated, Leads-nowhere, Required, Required-by, step, Stepped, Stepped-by}
+use Rattle.tableau.specs.Promise.{table-of, Row, Formed, with-bits, Saturated, Leads-nowhere, Required, Required-by, step}
+use Rattle.tableau.specs.Promise.{Stepped, Stepped-by}
 use Rattle.tableau.specs.declared.Requirement.{Requirement}
 use Rattle.tableau.specs.declared.Step.{Step}
 use Rattle.tableau.specs.declared.Step.the-variants.{Leads, Nothing}
@@ -43,7 +44,8 @@ module _ {rows : List ℕ} {count : ℕ} (f : Formed rows count) (s : Subset) wh
   os = operators-in (table-of rows count) s
 
   -- what is gathered of them is in its range
-  gathered-below : (g : Operator → List ℕ) (n : ℕ) → ((e : ℕ) → Row (getD rows e 0) (getD rows (48 + e) 0) e count → Below n (g (operator-at rows e))) → Below n (gather g os)
+  gathered-below : (g : Operator → List ℕ) (n : ℕ)
+      → ((e : ℕ) → Row (getD rows e 0) (getD rows (48 + e) 0) e count → Below n (g (operator-at rows e))) → Below n (gather g os)
   gathered-below g n h m r =
       let (o, q, k) = gather-of g os r in
       let (e, i, p) = Memᴰ·of-map (operator-at rows) (numbers 0 count) (in-table (table-of rows count) s q) in
@@ -55,7 +57,8 @@ module _ {rows : List ℕ} {count : ℕ} (f : Formed rows count) (s : Subset) wh
     unfolding letter-of
     letter-is =
         q .present-is
-        ∙ members-word 16 (gather (requires true) os) (gathered-below (requires true) 16 (λ e. present-below (getD rows e 0) (getD rows (48 + e) 0) e count))
+        ∙ members-word 16 (gather (requires true) os)
+        (gathered-below (requires true) 16 (λ e. present-below (getD rows e 0) (getD rows (48 + e) 0) e count))
 
     to-is : r .to ≡ word (add (gather next-of os) (nothing (table-of rows count)))
     to-is =
@@ -83,7 +86,8 @@ step-unmet {rows} {count} {choice} {set = set} st h = record {
 }
 
 -- the answer, from the outcome of the tests of what is required
-module _ {rows : List ℕ} {count choice node set : ℕ} {r : Requirement} (f : Formed rows count) (st : Saturated rows count choice node set) (rq : Required-by rows count count set r) where
+module _ {rows : List ℕ} {count choice node set : ℕ} {r : Requirement} (f : Formed rows count)
+    (st : Saturated rows count choice node set) (rq : Required-by rows count count set r) where
   abbrev test : Bool
   test = eqb (bitAnd choice set) choice && (not (r .falsum) && eqb (bitAnd (r .present) (r .absent)) 0)
 
@@ -99,26 +103,30 @@ module _ {rows : List ℕ} {count choice node set : ℕ} {r : Requirement} (f : 
           let k : set ≡ word s = st .is w v l c n in
           let q : Required (operators-in t s) r = rq .is s (saturate-length t w v ∙ l) k in
           let p : (within w s && possible (operators-in t s)) ≡ b =
-          test-is f s r q w ∙ ap (λ (y : ℕ). eqb (bitAnd y (word s)) y && (not (r .falsum) && eqb (bitAnd (r .present) (r .absent)) 0)) (sym c)
+          test-is f s r q w ∙ ap (λ (y : ℕ). eqb (bitAnd y (word s)) y && (not (r .falsum) && eqb (bitAnd (r .present) (r .absent)) 0))
+          (sym c)
           ∙ ap (λ (y : ℕ). eqb (bitAnd choice y) choice && (not (r .falsum) && eqb (bitAnd (r .present) (r .absent)) 0)) (sym k) ∙ h in
           e ∙ by b (letter-is f s r q) (to-is f s r q) ∙ ap (λ (d : Bool). step (cond d (transition-with t w s ∷ []) [])) (sym p)
         where
           by : (b : Bool) → r .present ≡ letter-of (operators-in (table-of rows count) (saturate (table-of rows count) w v))
               → r .to ≡ word (transition-with (table-of rows count) w (saturate (table-of rows count) w v) .to)
-              → cond b (Leads (r .to) (r .present)) Nothing ≡ step (cond b (transition-with (table-of rows count) w (saturate (table-of rows count) w v) ∷ []) [])
+              → cond b (Leads (r .to) (r .present)) Nothing ≡ step
+              (cond b (transition-with (table-of rows count) w (saturate (table-of rows count) w v) ∷ []) [])
           by true p t = rw (p, t)
           by false p t = refl
 
   pub step-false : bitAnd choice set ≡ choice → r .falsum ≡ true → Stepped rows count choice node Nothing
   step-false m h = answer Nothing false (rw (eq-eqb (bitAnd choice set) choice m, h)) refl
 
-  pub step-clash : bitAnd choice set ≡ choice → r .falsum ≡ false → (bitAnd (r .present) (r .absent) ≡ 0 → ⊥) → Stepped rows count choice node Nothing
+  pub step-clash : bitAnd choice set ≡ choice → r .falsum ≡ false → (bitAnd (r .present) (r .absent) ≡ 0 → ⊥)
+      → Stepped rows count choice node Nothing
   step-clash m h k = answer Nothing false (rw (eq-eqb (bitAnd choice set) choice m, h, ne-eqb (bitAnd (r .present) (r .absent)) 0 k)) refl
 
   pub step-some : bitAnd choice set ≡ choice → r .falsum ≡ false → bitAnd (r .present) (r .absent) ≡ 0
       → Stepped rows count choice node (Leads (r .to) (r .present))
   step-some m h k =
-      answer (Leads (r .to) (r .present)) true (rw (eq-eqb (bitAnd choice set) choice m, h, eq-eqb (bitAnd (r .present) (r .absent)) 0 k)) refl
+      answer (Leads (r .to) (r .present)) true
+      (rw (eq-eqb (bitAnd choice set) choice m, h, eq-eqb (bitAnd (r .present) (r .absent)) 0 k)) refl
 
 -- what the code's answer says of the definition's transition
 no-step : (t : Table) (w s : Subset) → Nothing ≡ step (transition-of t w s) → transition-of t w s ≡ []
@@ -134,7 +142,8 @@ module _ {rows : List ℕ} {count x node : ℕ} where
   pub stepped-none : Leads-nowhere rows count node x → Stepped-by rows count x node Nothing
   stepped-none h = record { is = λ v l n. ap step (sym (h .is v l n)) }
 
-  pub stepped-choice : {choice : ℕ} {r : Step} → choice ≡ word (choice-of (table-of rows count) x) → Stepped rows count choice node r → Stepped-by rows count x node r
+  pub stepped-choice : {choice : ℕ} {r : Step} → choice ≡ word (choice-of (table-of rows count) x) → Stepped rows count choice node r
+      → Stepped-by rows count x node r
   stepped-choice c st = record { is = λ v l n. st .is (choice-of (table-of rows count) x) v l c n }
 
   pub step-nowhere : {r : Step} → Stepped-by rows count x node r → r ≡ Nothing → Leads-nowhere rows count node x

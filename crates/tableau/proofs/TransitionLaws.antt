@@ -5,7 +5,9 @@
 use mathlib.Core.Path.{_≡_, refl, sym, ap, subst, subst⁻¹, _∙_}
 use mathlib.Core.Logic.{inl, inr}
 use mathlib.Core.Bool.{Bool, true, false, not, cond, _&&_}
-use mathlib.Core.List.{List, [], _∷_, map, List·Memᴰ, List·Memᴰ·head, List·Memᴰ·tail, List·Memᴰ·not-nil, List·Memᴰ·cases-cons, List·Memᴰ·eq-of-singleton, Memᴰ·cast, Sublistᴰ, Sublistᴰ·slnil, Sublistᴰ·refl, Sublistᴰ·nil-sublist, Sublistᴰ·append}
+use mathlib.Core.List.{List, [], _∷_, map, List·Memᴰ, List·Memᴰ·head, List·Memᴰ·tail, List·Memᴰ·not-nil, List·Memᴰ·cases-cons}
+use mathlib.Core.List.{List·Memᴰ·eq-of-singleton, Memᴰ·cast, Sublistᴰ, Sublistᴰ·slnil, Sublistᴰ·refl, Sublistᴰ·nil-sublist}
+use mathlib.Core.List.{Sublistᴰ·append}
 use Prim.Native.Nat.{ℕ, zero, suc, _<_}
 use native.Mathlib.Omega.{arith}
 use lib.Dec.{T, T-not, not-T}
@@ -21,9 +23,11 @@ use Rattle.base.proofs.Inside.{inside-length}
 use Rattle.formula.specs.Formula.{Leaf}
 use Rattle.formula.specs.Table.{Operator, Table, operator}
 use Rattle.tableau.specs.Saturation.{Subset, has, nothing, add, saturate}
-use Rattle.tableau.specs.Transition.{operators-in, requires, is-false, possible, letter-of, next-of, choices, within, Transition, transition-of, transitions}
+use Rattle.tableau.specs.Transition.{operators-in, requires, is-false, possible, letter-of, next-of, choices, within, Transition}
+use Rattle.tableau.specs.Transition.{transition-of, transitions}
 use Rattle.tableau.specs.Nodes.{operands}
-use Rattle.tableau.proofs.SaturationLaws.{inside-has, has-lt, nothing-has, add-inside, add-has, add-of, Closed, saturate-holds, saturate-length, saturate-closed}
+use Rattle.tableau.proofs.SaturationLaws.{inside-has, has-lt, nothing-has, add-inside, add-has, add-of, Closed, saturate-holds}
+use Rattle.tableau.proofs.SaturationLaws.{saturate-length, saturate-closed}
 
 -- what an operator asks of a letter by itself
 abbrev pub asks : Operator → (letter : ℕ) → Bool
@@ -37,19 +41,23 @@ asks (Operator.fix g l) a = true
 -- a signal that an operator requires is the operator's own
 requires-is : (p : Bool) (o : Operator) (j : ℕ) → List·Memᴰ j (requires p o) → o ≡ Operator.leaf (Leaf.signal p j)
 requires-is p (Operator.leaf (Leaf.constant b)) j m = absurd (List·Memᴰ·not-nil m)
-requires-is true (Operator.leaf (Leaf.signal true i)) j m = ap (λ (k : ℕ). Operator.leaf (Leaf.signal true k)) (sym (List·Memᴰ·eq-of-singleton m))
+requires-is true (Operator.leaf (Leaf.signal true i)) j m =
+    ap (λ (k : ℕ). Operator.leaf (Leaf.signal true k)) (sym (List·Memᴰ·eq-of-singleton m))
 requires-is true (Operator.leaf (Leaf.signal false i)) j m = absurd (List·Memᴰ·not-nil m)
 requires-is false (Operator.leaf (Leaf.signal true i)) j m = absurd (List·Memᴰ·not-nil m)
-requires-is false (Operator.leaf (Leaf.signal false i)) j m = ap (λ (k : ℕ). Operator.leaf (Leaf.signal false k)) (sym (List·Memᴰ·eq-of-singleton m))
+requires-is false (Operator.leaf (Leaf.signal false i)) j m =
+    ap (λ (k : ℕ). Operator.leaf (Leaf.signal false k)) (sym (List·Memᴰ·eq-of-singleton m))
 requires-is p (Operator.variable m₀) j m = absurd (List·Memᴰ·not-nil m)
 requires-is p (Operator.pair o l r) j m = absurd (List·Memᴰ·not-nil m)
 requires-is p (Operator.next g) j m = absurd (List·Memᴰ·not-nil m)
 requires-is p (Operator.fix g l) j m = absurd (List·Memᴰ·not-nil m)
 
-required-of : (p : Bool) (os : List Operator) {j : ℕ} → List·Memᴰ j (gather (requires p) os) → List·Memᴰ (Operator.leaf (Leaf.signal p j)) os
+required-of : (p : Bool) (os : List Operator) {j : ℕ} → List·Memᴰ j (gather (requires p) os)
+    → List·Memᴰ (Operator.leaf (Leaf.signal p j)) os
 required-of p os {j} m = let (o, r, q) = gather-of (requires p) os m in Memᴰ·cast (sym (requires-is p o j q)) r
 
-required-in : (p : Bool) {os : List Operator} {j : ℕ} → List·Memᴰ (Operator.leaf (Leaf.signal p j)) os → List·Memᴰ j (gather (requires p) os)
+required-in : (p : Bool) {os : List Operator} {j : ℕ} → List·Memᴰ (Operator.leaf (Leaf.signal p j)) os
+    → List·Memᴰ j (gather (requires p) os)
 required-in true m = gather-in (requires true) m (List·Memᴰ·head refl)
 required-in false m = gather-in (requires false) m (List·Memᴰ·head refl)
 
@@ -183,7 +191,8 @@ pub record Facts (t : Table) (v : Subset) (x : Transition) : Type 0 where
   pub met : (e : ℕ) → T (has (x .choice) e) → T (has (saturate t (x .choice) v) e)
   pub enters : (e : ℕ) → T (has v e) → T (has (saturate t (x .choice) v) e)
   pub follows : Closed t (x .choice) (saturate t (x .choice) v)
-  pub allows : (e : ℕ) → T (has (saturate t (x .choice) v) e) → ((p : Bool) (j : ℕ) → operator t e ≡ Operator.leaf (Leaf.signal p j) → j < 16)
+  pub allows : (e : ℕ) → T (has (saturate t (x .choice) v) e)
+      → ((p : Bool) (j : ℕ) → operator t e ≡ Operator.leaf (Leaf.signal p j) → j < 16)
       → T (asks (operator t e) (x .letter))
   pub nexts : (e y : ℕ) → T (has (saturate t (x .choice) v) e) → operator t e ≡ Operator.next y → y < length t → T (has (x .to) y)
   pub from-next : (y : ℕ) → T (has (x .to) y) → (e : ℕ) × T (has (saturate t (x .choice) v) e) × (operator t e ≡ Operator.next y)
@@ -211,7 +220,8 @@ module _ (t : Table) (v w : Subset) (len : length v ≡ length t) where
 
   to-in : (e y : ℕ) → T (has set e) → operator t e ≡ Operator.next y → y < length t → T (has (add nexts (nothing t)) y)
   to-in e y h q l =
-      add-has nexts (gather-in next-of (in-set e h) (subst⁻¹ (λ (o : Operator). List·Memᴰ y (next-of o)) q (List·Memᴰ·head refl))) (nothing t)
+      add-has nexts (gather-in next-of (in-set e h) (subst⁻¹ (λ (o : Operator). List·Memᴰ y (next-of o)) q (List·Memᴰ·head refl)))
+      (nothing t)
       (omega (arith, length-map t (λ (o : Operator). false)))
 
   facts-with : List·Memᴰ w (choices t) → T (within w set) → T (possible (operators-in t set)) → Facts t v (transition-with t w set)

@@ -53,7 +53,8 @@ choice-at rows {count} {e} x h o =
     let here : choice-of (operator-at rows e ∷ rest) left ≡ bit x (ors before) ∷ choice-of rest (left / 2) = rw (or-at rows e o) in
     ap (λ (t : Table). has (choice-of t x) e) (table-split rows h)
     ∙ ap (λ (v : Subset). has v e) (choice-append before (operator-at rows e ∷ rest) x ∙ ap (λ (v : Subset). choice-of before x ++ v) here)
-    ∙ getD-at (choice-of before x) (bit x (ors before)) (choice-of rest (left / 2)) false e (choice-of-length before x ∙ table-length rows e)
+    ∙ getD-at (choice-of before x) (bit x (ors before)) (choice-of rest (left / 2)) false e
+    (choice-of-length before x ∙ table-length rows e)
 
 -- or number j is one of the first e rows, and outside the set
 pub record Or-outside (rows : List ℕ) (e set j : ℕ) : Type 0 where
@@ -96,7 +97,8 @@ module _ {rows : List ℕ} {e set bits n : ℕ} (o : Outside rows e set bits n) 
   outside-other f h k = record { counted = o .counted ∙ sym (ors-same rows e f h k); each = λ j m. later (o .each j m) }
 
 -- a word that picks at an or outside a set that holds every saturation is not met
-module _ {rows : List ℕ} {count low high node set : ℕ} (wd : Widest rows count low high node set) (x : ℕ) (m : Between (ors (table-of rows count)) low high x) (v : Subset) (l : length v ≡ count) (n : node ≡ word v) where
+module _ {rows : List ℕ} {count low high node set : ℕ} (wd : Widest rows count low high node set) (x : ℕ)
+    (m : Between (ors (table-of rows count)) low high x) (v : Subset) (l : length v ≡ count) (n : node ≡ word v) where
   abbrev t : Table
   t = table-of rows count
 
@@ -114,7 +116,8 @@ module _ {rows : List ℕ} {count low high node set : ℕ} (wd : Widest rows cou
       not-of-T (within w (saturate t w v))
       (λ i. q (same-bits (bitAnd x bits) 0
       (λ j. bit-and x bits j
-      ∙ not-of-T (bit x j && bit bits j) (λ b. not-met (o .each j (and-right (bit x j) (bit bits j) b)) (and-left (bit x j) (bit bits j) b) i)
+      ∙ not-of-T (bit x j && bit bits j)
+      (λ b. not-met (o .each j (and-right (bit x j) (bit bits j) b)) (and-left (bit x j) (bit bits j) b) i)
       ∙ sym (no-bit j))))
 
 pub unmet-all : {rows : List ℕ} {count low high node set e bits n : ℕ} → Widest rows count low high node set → Outside rows e set bits n
@@ -140,7 +143,8 @@ ones-bit (suc n) zero h =
     to-T (bit w 0) (bit-zero w ∙ ap (λ (y : ℕ). eqb y 1) {x = w % 2} {y = 1} (omega (arith, pow-succ' 2 n, pow-pos n)))
 ones-bit (suc n) (suc k) h =
     let w = 2 ^ suc n - 1 in
-    subst⁻¹ T (bit-suc w k ∙ ap (λ (y : ℕ). bit y k) {x = w / 2} {y = 2 ^ n - 1} (omega (arith, pow-succ' 2 n, pow-pos n))) (ones-bit n k (omega arith))
+    subst⁻¹ T (bit-suc w k ∙ ap (λ (y : ℕ). bit y k) {x = w / 2} {y = 2 ^ n - 1} (omega (arith, pow-succ' 2 n, pow-pos n)))
+    (ones-bit n k (omega arith))
 
 -- Every choice word is below all ones; one that picks left at or j is below all but its bit, and one that picks right is above its bit.
 module _ {n all : ℕ} (a : all ≡ 2 ^ n - 1) (x : ℕ) where
@@ -197,7 +201,8 @@ module _ (rows : List ℕ) (count : ℕ) {n all : ℕ} (o : n ≡ ors (table-of 
   unmet-start {y = y} u = (
     length-replicate 24 y,
     record {
-      is = λ x j h m. u .is x (between-any ones x) (λ z. m (ap (bitAnd x) (getD-replicate 24 (2 * j + x / 2 ^ j % 2) y 0 (omega arith)) ∙ z));
+      is = λ x j h m. u .is x (between-any ones x)
+          (λ z. m (ap (bitAnd x) (getD-replicate 24 (2 * j + x / 2 ^ j % 2) y 0 (omega arith)) ∙ z));
     },
   )
 
@@ -225,16 +230,22 @@ module _ (r : List ℕ) (x : ℕ) where
   pub some-unmet : {j : ℕ} → j < 12 → (bitAnd x (unmet-at r x j) ≡ 0 → ⊥) → true ≡ is-unmet r x
   some-unmet {j} h k =
       sym (of-T (is-unmet r x)
-      (any-in hit (numbers-in 0 12 j (omega arith) (omega arith)) (not-T (eqb (bitAnd x (unmet-at r x j)) 0) (λ z. k (eqb→eq (bitAnd x (unmet-at r x j)) 0 z)))))
+      (any-in hit (numbers-in 0 12 j (omega arith) (omega arith))
+      (not-T (eqb (bitAnd x (unmet-at r x j)) 0) (λ z. k (eqb→eq (bitAnd x (unmet-at r x j)) 0 z)))))
 
   unmet-some : T (is-unmet r x) → (j : ℕ) × (j < 12) × (bitAnd x (unmet-at r x j) ≡ 0 → ⊥)
   unmet-some h =
-      let (j, m, k) = any-of hit (numbers 0 12) h in
-      (j, omega (arith, numbers-of 0 12 m), λ z. T-not (eqb (bitAnd x (unmet-at r x j)) 0) k (to-T (eqb (bitAnd x (unmet-at r x j)) 0) (eq-eqb (bitAnd x (unmet-at r x j)) 0 z)))
+      let (j, m, k) = any-of hit (numbers 0 12) h in (
+        j,
+        omega (arith, numbers-of 0 12 m),
+        λ z. T-not (eqb (bitAnd x (unmet-at r x j)) 0) k
+            (to-T (eqb (bitAnd x (unmet-at r x j)) 0) (eq-eqb (bitAnd x (unmet-at r x j)) 0 z)),
+      )
 
   pub none-unmet : ((j : ℕ) → j < 12 → bitAnd x (unmet-at r x j) ≡ 0) → false ≡ is-unmet r x
   none-unmet f = sym (not-of-T (is-unmet r x) (λ h. let (j, l, k) = unmet-some h in k (f j l)))
 
 -- Theorem: a word that the test tells has no transition.
-pub unmet-nowhere : {rows : List ℕ} {count node : ℕ} {r : List ℕ} → Unmet rows count node r → (x : ℕ) → is-unmet r x ≡ true → Leads-nowhere rows count node x
+pub unmet-nowhere : {rows : List ℕ} {count node : ℕ} {r : List ℕ} → Unmet rows count node r → (x : ℕ) → is-unmet r x ≡ true
+    → Leads-nowhere rows count node x
 unmet-nowhere {r = r} u x e = let (j, l, k) = unmet-some r x (to-T (is-unmet r x) e) in u .is x j l k

@@ -32,7 +32,8 @@ choice-inside (o ∷ t) x y f = by (is-or o) f (choice-inside t)
   where
     by : (b : Bool) → ((i : ℕ) → i < cond b 1 0 + ors t → T (bit x i) → T (bit y i))
         → ((x y : ℕ) → ((i : ℕ) → i < ors t → T (bit x i) → T (bit y i)) → Inside (choice-of t x) (choice-of t y))
-        → Inside (cond b (eqb (x % 2) 1 ∷ choice-of t (x / 2)) (false ∷ choice-of t x)) (cond b (eqb (y % 2) 1 ∷ choice-of t (y / 2)) (false ∷ choice-of t y))
+        → Inside (cond b (eqb (x % 2) 1 ∷ choice-of t (x / 2)) (false ∷ choice-of t x))
+        (cond b (eqb (y % 2) 1 ∷ choice-of t (y / 2)) (false ∷ choice-of t y))
     by true f g =
         Inside.put
         (below-of (eqb (x % 2) 1) (eqb (y % 2) 1)
@@ -52,7 +53,8 @@ between-moves o {p} {w} {q} e {m} lower upper =
 abbrev pub moves-both : List ℕ → (lower upper e : ℕ) → List ℕ
 moves-both rows lower upper e = moves-at rows lower e ++ moves-at rows upper e
 
-moves-both-below : {rows : List ℕ} {count : ℕ} → Formed rows count → (lower upper e : ℕ) → e < count → Below count (moves-both rows lower upper e)
+moves-both-below : {rows : List ℕ} {count : ℕ} → Formed rows count → (lower upper e : ℕ) → e < count
+    → Below count (moves-both rows lower upper e)
 moves-both-below {rows} f lower upper e h m r =
     elim (List·Memᴰ·append-cases (moves-at rows lower e) r)
     [ inl p ↦ moves-at-below f lower e h m p | inr p ↦ moves-at-below f upper e h m p ]
@@ -82,7 +84,8 @@ widest-rest {rows} {count} {low} {high} {lower} {upper} {node} {set} a b s z = r
         → moves-both rows lower upper e ≡ moves (operator t e) (has (choice-of t low) e) ++ moves (operator t e) (has (choice-of t high) e)
     both h = rw (moves-same rows count (choice-of t low) a h, moves-same rows count (choice-of t high) b h)
 
-    go : (v : Subset) → length v ≡ count → node ≡ word v → (x : ℕ) → Between (ors t) low high x → (k : ℕ) → T (has (saturate t (choice-of t x) v) k)
+    go : (v : Subset) → length v ≡ count → node ≡ word v → (x : ℕ) → Between (ors t) low high x → (k : ℕ)
+        → T (has (saturate t (choice-of t x) v) k)
         → T (bit set k)
     go v l n x m k h =
         let u = s .is v l n in

@@ -65,9 +65,11 @@ word-add (m ∷ ms) v h =
     ∙ ap (with-bits ms) (word-set v m (h m (List·Memᴰ·head refl)))
 
 -- a set with one Bool more at its end
-pub word-more : (v : Subset) (b : Bool) (r : ℕ) → ((k : ℕ) → bit r k ≡ cond (eqb k (length v)) b (bit (word v) k)) → r ≡ word (v ++ (b ∷ []))
+pub word-more : (v : Subset) (b : Bool) (r : ℕ) → ((k : ℕ) → bit r k ≡ cond (eqb k (length v)) b (bit (word v) k))
+    → r ≡ word (v ++ (b ∷ []))
 word-more v b r h =
-    same-bits r (word (v ++ (b ∷ []))) (λ k. h k ∙ ap (λ (c : Bool). cond (eqb k (length v)) b c) (word-bit v k) ∙ sym (word-bit (v ++ (b ∷ [])) k ∙ last v k))
+    same-bits r (word (v ++ (b ∷ [])))
+    (λ k. h k ∙ ap (λ (c : Bool). cond (eqb k (length v)) b c) (word-bit v k) ∙ sym (word-bit (v ++ (b ∷ [])) k ∙ last v k))
   where
     last : (v : Subset) (k : ℕ) → getD (v ++ (b ∷ [])) k false ≡ cond (eqb k (length v)) b (getD v k false)
     last [] zero = refl
@@ -83,16 +85,19 @@ same-word v u l =
     (λ h. to-T (eqb (word v) (word u)) (eq-eqb (word v) (word u) (ap word (subset-sound v u h))))
 
 and-words : (w v : Subset) (k : ℕ) → bit (bitAnd (word w) (word v)) k ≡ (has w k && has v k)
-and-words w v k = bit-and (word w) (word v) k ∙ ap (λ (b : Bool). b && bit (word v) k) (word-bit w k) ∙ ap (λ (b : Bool). has w k && b) (word-bit v k)
+and-words w v k = bit-and (word w) (word v) k ∙ ap (λ (b : Bool). b && bit (word v) k) (word-bit w k)
+    ∙ ap (λ (b : Bool). has w k && b) (word-bit v k)
 
 pub within-word : (w v : Subset) → within w v ≡ eqb (bitAnd (word w) (word v)) (word w)
 within-word w v =
     same-truth (within w v) (eqb (bitAnd (word w) (word v)) (word w))
     (λ h. to-T (eqb (bitAnd (word w) (word v)) (word w))
     (eq-eqb (bitAnd (word w) (word v)) (word w)
-    (same-bits (bitAnd (word w) (word v)) (word w) (λ k. and-words w v k ∙ less (has w k) (has v k) (within-of w v h k) ∙ sym (word-bit w k)))))
+    (same-bits (bitAnd (word w) (word v)) (word w)
+    (λ k. and-words w v k ∙ less (has w k) (has v k) (within-of w v h k) ∙ sym (word-bit w k)))))
     (λ h. within-in w v
-    (λ k p. both (has w k) (has v k) (sym (and-words w v k) ∙ ap (λ (x : ℕ). bit x k) (eqb→eq (bitAnd (word w) (word v)) (word w) h) ∙ word-bit w k) p))
+    (λ k p. both (has w k) (has v k)
+    (sym (and-words w v k) ∙ ap (λ (x : ℕ). bit x k) (eqb→eq (bitAnd (word w) (word v)) (word w) h) ∙ word-bit w k) p))
   where
     less : (a b : Bool) → (T a → T b) → (a && b) ≡ a
     less true b f = of-T b (f tt)
@@ -117,7 +122,8 @@ clash-word ps qs =
     (and-both (member j ps) (member j qs) (member-in m) q)))
   where
     bits : (k : ℕ) → bit (bitAnd (with-bits ps 0) (with-bits qs 0)) k ≡ (member k ps && member k qs)
-    bits k = bit-and (with-bits ps 0) (with-bits qs 0) k ∙ ap (λ (b : Bool). b && bit (with-bits qs 0) k) (bits-of ps k) ∙ ap (λ (b : Bool). member k ps && b) (bits-of qs k)
+    bits k = bit-and (with-bits ps 0) (with-bits qs 0) k ∙ ap (λ (b : Bool). b && bit (with-bits qs 0) k) (bits-of ps k)
+        ∙ ap (λ (b : Bool). member k ps && b) (bits-of qs k)
 
     apart : (a b : Bool) → (T a → T b → ⊥) → (a && b) ≡ false
     apart true b f = not-of-T b (f tt)

@@ -9,8 +9,10 @@ ghost use Rattle.base.specs.Lists.{member};
 ghost use Rattle.formula.specs.Rows.{operator-at};
 ghost use Rattle.tableau.specs.Saturation.{moves};
 ghost use Rattle.tableau.specs.Transition.{ors, choice-of};
-ghost use Rattle.tableau.specs.Promise.{table-of, Formed, Placed, with-bits, Saturated, Requires-more, Required-by, Stepped, Stepped-by, Widest, Unmet-between, is-unmet, Unmet};
-ghost use Rattle.tableau.specs.Area.{eight, put, words-at, index, zeros, Room, Holds, reachable, slot-of, Marked, Added, Followed, Expanded};
+ghost use Rattle.tableau.specs.Promise.{table-of, Formed, Placed, with-bits, Saturated, Requires-more, Required-by, Stepped};
+ghost use Rattle.tableau.specs.Promise.{Stepped-by, Widest, Unmet-between, is-unmet, Unmet};
+ghost use Rattle.tableau.specs.Area.{eight, put, words-at, index, zeros, Room, Holds, reachable, slot-of, Marked, Added};
+ghost use Rattle.tableau.specs.Area.{Followed, Expanded};
 
 // The number of a node, kept apart from subformulas and positions.
 pub struct NodeNumber(pub usize);

@@ -62,7 +62,10 @@ agree-combine o n u v s t a b =
 pub agree-before : (stem n : ℕ) → stem < n → (u : PositionSet) (s : Positions) → Agree n u s
     → Agree n (λ i. u (successor stem n i)) (before stem s)
 agree-before stem n h u s a =
-    record { long = length-append (tail s) (getD s stem false ∷ []) ∙ omega (arith, tail-length s, a .long); same = λ i l. by i l (ltb (suc i) n) refl }
+    record {
+      long = length-append (tail s) (getD s stem false ∷ []) ∙ omega (arith, tail-length s, a .long);
+      same = λ i l. by i l (ltb (suc i) n) refl;
+    }
   where
     tail-length : (s : Positions) → length (tail s) ≡ length s - 1
     tail-length [] = refl

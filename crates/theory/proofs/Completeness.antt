@@ -128,10 +128,24 @@ module _ (t : Table) (law : Lawful t) (c : Orbit) where
         by : (m : ℕ) → min u v ≡ m → m < length t → Dec (u ≤ v) → Through m x p z r
         by m e h (yes d) =
             let s = a .exact m (omega arith) h in
-            record { at = s .at; z = s .z; k = s .k; before = s .before; turn = s .turn; after = way-join (s .after) (b .heavy m (omega arith)) }
+            record {
+              at = s .at;
+              z = s .z;
+              k = s .k;
+              before = s .before;
+              turn = s .turn;
+              after = way-join (s .after) (b .heavy m (omega arith));
+            }
         by m e h (no d) =
             let s = b .exact m (omega arith) h in
-            record { at = s .at; z = s .z; k = s .k; before = way-join (a .heavy m (omega arith)) (s .before); turn = s .turn; after = s .after }
+            record {
+              at = s .at;
+              z = s .z;
+              k = s .k;
+              before = way-join (a .heavy m (omega arith)) (s .before);
+              turn = s .turn;
+              after = s .after;
+            }
 
     -- Between numbers of at least m such a way never comes below m: operands come later, and variables lead to fixpoints.
     first-ok : {m y q z r : ℕ} → Way m y q z r → m ≤ z → T (is-fix (operator t y)) → m ≤ y
@@ -215,7 +229,8 @@ module _ (t : Table) (law : Lawful t) (c : Orbit) where
       next-won : (y : ℕ) → T (has (turn i .to) y) → s .won y (c .after (position i)) ≡ true
       next-won y k =
           let z = turn-facts .from-next y k in
-          goes (position-lt i) (set-won (z .0) (z .1)) (across (subst⁻¹ (λ (o : Operator). List·Memᴰ y (next-of o)) (z .2) (List·Memᴰ·head refl)) refl)
+          goes (position-lt i) (set-won (z .0) (z .1))
+          (across (subst⁻¹ (λ (o : Operator). List·Memᴰ y (next-of o)) (z .2) (List·Memᴰ·head refl)) refl)
 
     right : (i : ℕ) → Right i
     unfolding node position
@@ -243,7 +258,13 @@ module _ (t : Table) (law : Lawful t) (c : Orbit) where
 
     stood : (i : ℕ) {f : ℕ} {z : Stand} → T (has (set i) f) → Goes t (turn i .choice) f z → Stood i f z
     stood i {f} h Goes.begin =
-        record { u = length t; carries = carries-none ch; weighs = stand-priority t (length t) f (omega arith); light = omega arith; inside = h }
+        record {
+          u = length t;
+          carries = carries-none ch;
+          weighs = stand-priority t (length t) f (omega arith);
+          light = omega arith;
+          inside = h;
+        }
     stood i {f} h (Goes.move {s = z} {m = m} a k) =
         let r = stood i h a in
         let x = z .subformula in
@@ -285,7 +306,12 @@ module _ (t : Table) (law : Lawful t) (c : Orbit) where
       trip-one : Trip (suc a)
       unfolding node
       trip-one =
-          record { xs = triples t (node a) (turn a .choice); way = turn a ∷ []; run = Run.one (turn-in a (right a)); carries = triple-carries a }
+          record {
+            xs = triples t (node a) (turn a .choice);
+            way = turn a ∷ [];
+            run = Run.one (turn-in a (right a));
+            carries = triple-carries a;
+          }
 
       trip-more : (b : ℕ) → Trip b → Trip (suc b)
       unfolding node
@@ -325,7 +351,8 @@ module _ (t : Table) (law : Lawful t) (c : Orbit) where
             (carries-join ch u (subst⁻¹ (λ (g : ℕ). Carries ch g (position a) (y .priority) (y .to) (position a)) e o), v)
 
         -- a lap from f back to f through the least fixpoint m, turned to begin at m
-        comes-back : (m l f : ℕ) → operator t m ≡ Operator.fix false l → m < l → T (has (node a) f) → Through ch m f (position a) f (position a) → ⊥
+        comes-back : (m l f : ℕ) → operator t m ≡ Operator.fix false l → m < l → T (has (node a) f)
+            → Through ch m f (position a) f (position a) → ⊥
         comes-back m l f e under h g =
             let k = way-won (position-lt a) (right a .won f h) (g .before) in
             let d = body-only t c e (g .turn) in
@@ -384,12 +411,14 @@ module _ (t : Table) (law : Lawful t) (c : Orbit) where
           record {
             reachable = reached (twice .a);
             carried = r .xs;
-            run = subst⁻¹ (λ (v : Subset). Run t (record { first = node (twice .a); last = v; carried = r .xs }) (r .way)) node-same (r .run);
+            run = subst⁻¹ (λ (v : Subset). Run t (record { first = node (twice .a); last = v; carried = r .xs }) (r .way)) node-same
+                (r .run);
             accepts = not-rejecting (twice .a) (twice .b) (sym (again .1)) r;
           },
         )
 
-  pub cycle-found : (a : Part t 0) → 0 < c .count → holds t c a (λ m p. false) 0 ≡ true → (v : Subset) × (ss : List Transition) × AcceptingCycle t v ss
+  pub cycle-found : (a : Part t 0) → 0 < c .count → holds t c a (λ m p. false) 0 ≡ true
+      → (v : Subset) × (ss : List Transition) × AcceptingCycle t v ss
   cycle-found a some h =
       let v = win t c a (λ m p. false) (λ y q e. absurd (false≢true e)) in
       found (v .plan) some (v .root 0 some h)

@@ -77,7 +77,8 @@ module _ (f : Formula) (guarded : Guarded [] f) (ranged : Ranged f) where
       h = stem-short stem (q .s) (q .ss)
 
       true-at-0 : holds t (orbit c h) (whole-part f guarded ranged) (λ m p. true) 0 ≡ true
-      true-at-0 = cycle-holds t law (root t) v (root-length t) stem (q .s) (q .ss) lead (q .walk) has-first accepts (whole-part f guarded ranged)
+      true-at-0 = cycle-holds t law (root t) v (root-length t) stem (q .s) (q .ss) lead (q .walk) has-first accepts
+          (whole-part f guarded ranged)
 
   -- Theorem: a lasso of any length that meets the formula gives an accepting reachable cycle.
   pub meets-cycle : (c : Lasso) → meets c f ≡ true → (v : Subset) × (cycle : List Transition) × AcceptingCycle t v cycle

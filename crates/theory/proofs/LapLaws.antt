@@ -68,7 +68,12 @@ module _ (t : Table) where
     trail-trace : {w : Subset} {f x u g : ℕ} (s : Stand) → Goes t w f s → s .subformula ≡ x → s .priority ≤ own x → Trail w x u g
         → Trace t w (record { from = f; priority = min (s .priority) u; to = g })
     trail-trace {w} {f} {x} {u} {g} s a e h (last m) =
-        record { last = s; goes = a; carries = omega (arith, own-le x); ends-at = subst⁻¹ (λ (i : ℕ). List·Memᴰ g (next-of (operator t i))) e m }
+        record {
+          last = s;
+          goes = a;
+          carries = omega (arith, own-le x);
+          ends-at = subst⁻¹ (λ (i : ℕ). List·Memᴰ g (next-of (operator t i))) e m;
+        }
     trail-trace {w} {f} {x} {u} {g} s a e h (move {y = y} {u = v} m b) =
         let q = stand-priority (s .priority) y (omega (arith, own-le x)) in
         let k = trail-le b in
@@ -95,7 +100,8 @@ module _ (t : Table) where
         same = omega (arith, priority-le t (a .priority) (k a m .priority-in))
     trails-carry v ss xs a k m (also {s = s} {ss = ss′} {g = g} {h = h} {a = c} {b = d} i tr r) =
         Memᴰ·cast (λ j. record { from = a .from; priority = assoc j; to = h })
-        (trails-carry (s .to) ss′ (join t xs ys) (joined a b) (join-known t xs ys) (join-in t xs ys k (triples-known t v (s .choice)) a b m (trail-triple v i tr) refl) r)
+        (trails-carry (s .to) ss′ (join t xs ys) (joined a b) (join-known t xs ys)
+        (join-in t xs ys k (triples-known t v (s .choice)) a b m (trail-triple v i tr) refl) r)
       where
         ys : List Triple
         ys = triples t v (s .choice)

@@ -95,7 +95,8 @@ module _ (op : ℕ → Operator) (end : ℕ → ℕ) (count : ℕ) (level : ℕ 
     on-right a b h =
         record {
           stands = stands-right op end count (h .stands);
-          marks = each-right (λ x d. level x ≡ d) (e + 1) (e + 1 + size a) (levels d a) (levels d b) (omega (arith, levels-length d a)) (h .marks .1);
+          marks = each-right (λ x d. level x ≡ d) (e + 1) (e + 1 + size a) (levels d a) (levels d b) (omega (arith, levels-length d a))
+              (h .marks .1);
           under = h .under;
           guards = h .guards;
         }

@@ -60,7 +60,8 @@ pigeon (suc n) f h = go (find f v (suc n)) (λ k. pigeon n (λ a. swap n v (f a)
         → Twice (suc n) f
     go (inl r) k = record { a = r .0; b = suc n; before = r .1; last = omega arith; same = r .2 }
     go (inr r) k =
-        let t : Twice n (λ a. swap n v (f a)) = k (λ i l. swap-lt n v (f i) (h i (omega arith)) (h (suc n) (omega arith)) (r i (omega arith))) in
+        let t : Twice n (λ a. swap n v (f a)) =
+        k (λ i l. swap-lt n v (f i) (h i (omega arith)) (h (suc n) (omega arith)) (r i (omega arith))) in
         record {
           a = t .a;
           b = t .b;

@@ -11,7 +11,8 @@ use lib.Dec.{T, eqb}
 use borrow.Author.Tests.{eqb-true}
 use Rattle.formula.specs.Table.{Operator, Table, operator}
 use Rattle.lasso.specs.Lasso.{joined}
-use Rattle.theory.proofs.World.{Orbit, PositionSet, Sets, put, approximant, Part, holds, asks-leaf, Move, Move.within, Move.across, Path, Path.here, Path.step, Fair}
+use Rattle.theory.proofs.World.{Orbit, PositionSet, Sets, put, approximant, Part, holds, asks-leaf, Move, Move.within}
+use Rattle.theory.proofs.World.{Move.across, Path, Path.here, Path.step, Fair}
 use Rattle.theory.proofs.Pigeon.{pigeon}
 
 module _ (t : Table) (c : Orbit) (ch : ℕ → ℕ → Bool) where
@@ -67,7 +68,8 @@ module _ (t : Table) (c : Orbit) (ch : ℕ → ℕ → Bool) where
       along h (step m l a) = along (M .goes _ _ _ _ h m) a
 
       -- an escape from where a move and a path lead is one from where they begin
-      outer : {e l x : ℕ} {σ : Sets} {i j k : ℕ} → e ≤ x → e ≤ l → To e i l j → Way e l j x k → Escape x σ k ⊎ Rejected → Escape e σ i ⊎ Rejected
+      outer : {e l x : ℕ} {σ : Sets} {i j k : ℕ} → e ≤ x → e ≤ l → To e i l j → Way e l j x k → Escape x σ k ⊎ Rejected
+          → Escape e σ i ⊎ Rejected
       outer h g m a (inl s) =
           inl
           (record {
@@ -88,7 +90,8 @@ module _ (t : Table) (c : Orbit) (ch : ℕ → ℕ → Bool) where
         fails : s to ≡ false
 
       -- an escape from a fixpoint's body goes back to the fixpoint or out of it
-      sort : {e l j : ℕ} {σ : Sets} {s : PositionSet} → e < l → To e j l j → Escape l (put σ e s) j → (Escape e σ j ⊎ Rejected) ⊎ Back e l s j
+      sort : {e l j : ℕ} {σ : Sets} {s : PositionSet} → e < l → To e j l j → Escape l (put σ e s) j
+          → (Escape e σ j ⊎ Rejected) ⊎ Back e l s j
       sort {e} {l} {j} {σ} {s} h m x = go (eqb (x .y) e) refl (x .fails)
         where
           go : (b : Bool) → eqb (x .y) e ≡ b → cond b (s (x .q)) (σ (x .y) (x .q)) ≡ false → (Escape e σ j ⊎ Rejected) ⊎ Back e l s j

@@ -56,7 +56,8 @@ module _ (s t : PositionSet) where
   unfolding tally
   tally-all zero h l p g = absurd (omega arith)
   tally-all (suc k) h l p g =
-      go (s k) (t k) refl refl l (tally-sub k (λ i j. h i (omega arith))) (λ c j. tally-all k (λ i j. h i (omega arith)) c p j) (ℕ-discrete p k)
+      go (s k) (t k) refl refl l (tally-sub k (λ i j. h i (omega arith))) (λ c j. tally-all k (λ i j. h i (omega arith)) c p j)
+      (ℕ-discrete p k)
     where
       go : (a b : Bool) → s k ≡ a → t k ≡ b → cond b (suc (tally k t)) (tally k t) ≤ cond a (suc (tally k s)) (tally k s)
           → tally k s ≤ tally k t → (tally k t ≤ tally k s → p < k → t p ≡ true → s p ≡ true) → Dec (p ≡ k) → t p ≡ true → s p ≡ true
@@ -89,7 +90,8 @@ module _ (n : ℕ) (f : PositionSet → PositionSet) (mono : (s t : PositionSet)
 
   pub settled : Sub n (R n) (f (R n))
   settled p h e =
-      ⊎-elim (λ (s : Sub n (R n) (f (R n))). s p h e) (λ (c : tally n (R n) + n ≤ n). absurd (omega (arith, tally-pos n (R n) p h e))) (settles n)
+      ⊎-elim (λ (s : Sub n (R n) (f (R n))). s p h e) (λ (c : tally n (R n) + n ≤ n). absurd (omega (arith, tally-pos n (R n) p h e)))
+      (settles n)
 
 approximant-mono : (n : ℕ) (f g : PositionSet → PositionSet) → ((s t : PositionSet) → Sub n s t → Sub n (f s) (g t))
     → (s t : PositionSet) → Sub n s t → (k : ℕ) → Sub n (approximant k f s) (approximant k g t)

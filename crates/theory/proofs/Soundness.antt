@@ -26,7 +26,8 @@ use Rattle.theory.proofs.Refutation.{Consistent, Rejected, Escape, alon
 use Rattle.theory.proofs.Agreement.{orbit}
 use Rattle.theory.proofs.TreeLaws.{Lawful}
 use Rattle.theory.proofs.Walks.{transition-at, no-transition, node-at, Walk, walk-step, walk-end, walk-join, walk-seam, walk-length}
-use Rattle.theory.proofs.LapLaws.{own, own-le, Trail, Trail.last, Trail.move, trail-le, In, Trails, Trails.done, Trails.also, Laps, cycle-triples, laps-lap}
+use Rattle.theory.proofs.LapLaws.{own, own-le, Trail, Trail.last, Trail.move, trail-le, In, Trails, Trails.done, Trails.also}
+use Rattle.theory.proofs.LapLaws.{Laps, cycle-triples, laps-lap}
 
 -- the letters of a stem and a cycle
 abbrev pub lasso-of : (stem cycle : List Transition) → Lasso
@@ -36,7 +37,8 @@ pub stem-short : (stem : List Transition) (s : Transition) (ss : List Transition
 stem-short stem s ss = omega (arith, length-map (stem ++ (s ∷ ss)) (λ (s : Transition). s .letter), length-append stem (s ∷ ss))
 
 module _ (t : Table) (law : Lawful t) (start hub : Subset) (fits : length start ≡ length t)
-    (stem : List Transition) (s : Transition) (ss : List Transition) (lead : Walk t start stem hub) (circle : Walk t hub (s ∷ ss) hub) (first : T (has start 0))
+    (stem : List Transition) (s : Transition) (ss : List Transition) (lead : Walk t start stem hub) (circle : Walk t hub (s ∷ ss) hub)
+    (first : T (has start 0))
     (accepts : Rejecting t (cycle-triples t law hub s ss) → ⊥) where
   abbrev all : List Transition
   all = stem ++ (s ∷ ss)
@@ -110,7 +112,8 @@ module _ (t : Table) (law : Lawful t) (start hub : Subset) (fits : length start 
   next-in : {x y i : ℕ} → Met x i → List·Memᴰ y (next-of (operator t x)) → In t (node (c .after i)) y
   next-in {x} {y} {i} h m =
       let l = law .next-inside x y m .1 in (
-        subst⁻¹ (λ (v : Subset). T (has v y)) (node-after i (h .inside)) (fact i (h .inside) .nexts x y (h .holds-it) (next-is (operator t x) y m) l),
+        subst⁻¹ (λ (v : Subset). T (has v y)) (node-after i (h .inside))
+            (fact i (h .inside) .nexts x y (h .holds-it) (next-is (operator t x) y m) l),
         next-operand t x y m,
         l,
       )
@@ -126,7 +129,8 @@ module _ (t : Table) (law : Lawful t) (start hub : Subset) (fits : length start 
   consistent =
       record {
         inside = λ x p h. h .inside;
-        fair = λ x p h. subst⁻¹ (λ (a : ℕ). T (asks (operator t x) a)) (letter-at p) (fact p (h .inside) .allows x (h .holds-it) (law .signals x));
+        fair = λ x p h. subst⁻¹ (λ (a : ℕ). T (asks (operator t x) a)) (letter-at p)
+            (fact p (h .inside) .allows x (h .holds-it) (law .signals x));
         goes = λ x p y q h m. goes h m;
       }
     where
@@ -146,16 +150,19 @@ module _ (t : Table) (law : Lawful t) (start hub : Subset) (fits : length start 
 
   data Parts : ℕ → ℕ → ℕ → ℕ → Type 0 where
     one : {p x y u v g : ℕ} → Trail t (step-at p .choice) x u y → Rest (suc p) y v g → Parts p x (min u v) g
-    more : {p x y a b g z h : ℕ} → Trail t (step-at p .choice) x a y → Rest (suc p) y b g → Laps t law hub s ss g z h → Parts p x (min (min a b) z) h
+    more : {p x y a b g z h : ℕ} → Trail t (step-at p .choice) x a y → Rest (suc p) y b g → Laps t law hub s ss g z h
+        → Parts p x (min (min a b) z) h
 
-  rest-also : (i : ℕ) {f g h a b : ℕ} → i < total → In t (node i) f → Trail t (step-at i .choice) f a g → Rest (suc i) g b h → Rest i f (min a b) h
+  rest-also : (i : ℕ) {f g h a b : ℕ} → i < total → In t (node i) f → Trail t (step-at i .choice) f a g → Rest (suc i) g b h
+      → Rest i f (min a b) h
   rest-also i {f} {g} {h} {a} {b} l k tr r =
       subst⁻¹ (λ (ss : List Transition). Trails t (node i) ss f (min a b) h) (drop-cons all i no-transition (omega (arith, total-is)))
       (also k tr (subst (λ (v : Subset). Trails t v (drop (suc i) all) g b h) (node-suc i l) r))
 
   rest-done : (i f : ℕ) → i ≡ total → Rest i f (length t) f
   rest-done i f e =
-      subst⁻¹ (λ (ss : List Transition). Trails t (node i) ss f (length t) f) (ap (λ (n : ℕ). drop n all) (e ∙ total-is) ∙ drop-length all) done
+      subst⁻¹ (λ (ss : List Transition). Trails t (node i) ss f (length t) f)
+      (ap (λ (n : ℕ). drop n all) (e ∙ total-is) ∙ drop-length all) done
 
   lap-of : {f u g : ℕ} → Rest (length stem) f u g → Trails t hub (s ∷ ss) f u g
   lap-of {f} {u} {g} r =
@@ -174,7 +181,8 @@ module _ (t : Table) (law : Lawful t) (start hub : Subset) (fits : length start 
   parts-inner {p} {x} {g = g} m (one tr r) = subst (λ (n : ℕ). Parts p x n g) (omega arith) (one (Trail.move m tr) r)
   parts-inner {p} {x} {g = g} m (more tr r l) = subst (λ (n : ℕ). Parts p x n g) (omega arith) (more (Trail.move m tr) r l)
 
-  parts-on : {p x y u g : ℕ} → List·Memᴰ y (next-of (operator t x)) → suc p < total → In t (node (suc p)) y → Parts (suc p) y u g → Parts p x u g
+  parts-on : {p x y u g : ℕ} → List·Memᴰ y (next-of (operator t x)) → suc p < total → In t (node (suc p)) y → Parts (suc p) y u g
+      → Parts p x u g
   parts-on {p} {x} {y} {g = g} m l k (one tr r) =
       subst (λ (n : ℕ). Parts p x n g) (omega (arith, trail-le t tr, own-le t y)) (one (Trail.last m) (rest-also (suc p) l k tr r))
   parts-on {p} {x} {y} {g = g} m l k (more tr r a) =
@@ -251,7 +259,8 @@ module _ (t : Table) (law : Lawful t) (start hub : Subset) (fits : length start 
   module _ (lo : ℕ) (in-table : lo ≤ length t) (P : ℕ → Type 0) (keeps : (a u : ℕ) → lo ≤ a → P u → P (min a u)) where
     prepend : {x p z k u g : ℕ} → Met x p → lo ≤ x → Path t c ch lo x p z k → Line k z u g → P u → (v : ℕ) × Line p x v g × P v
     prepend {u = u} e h here a b = (u, a, b)
-    prepend {x} {p} {z} {k} {u} {g} e h (step {y = y} {q = q} m b r) a d = go m (prepend {x = y} {p = q} (consistent .goes x p y q e m) b r a d)
+    prepend {x} {p} {z} {k} {u} {g} e h (step {y = y} {q = q} m b r) a d =
+        go m (prepend {x = y} {p = q} (consistent .goes x p y q e m) b r a d)
       where
         go : Move t c ch x p y q → (v : ℕ) × Line q y v g × P v → (v : ℕ) × Line p x v g × P v
         go (within i j) f =
@@ -272,7 +281,8 @@ module _ (t : Table) (law : Lawful t) (start hub : Subset) (fits : length start 
 
     -- from m to the end of the lap: nothing smaller than m is passed
     to-end : (a : Cut m l j m j) → Line j m m (a .g)
-    to-end a = above (prepend m m-le (λ u. m ≤ u) (λ a u h k. omega arith) met-body (omega arith) (a .before) (end (a .is-next) (a .last)) m-le)
+    to-end a = above (prepend m m-le (λ u. m ≤ u) (λ a u h k. omega arith) met-body (omega arith) (a .before)
+        (end (a .is-next) (a .last)) m-le)
       where
         above : {g : ℕ} → (v : ℕ) × Line j l v g × (m ≤ v) → Line j m m g
         above {g} r =

@@ -17,7 +17,8 @@ use Rattle.tableau.specs.Saturation.{moves}
 use Rattle.tableau.specs.Transition.{next-of}
 use Rattle.tableau.proofs.TransitionLaws.{asks}
 use Rattle.profile.specs.Profiles.{is-least}
-use Rattle.theory.proofs.World.{Orbit, PositionSet, Sets, put, approximant, Part, holds, asks-leaf, Move, Move.within, Move.across, Path, Path.here, Path.step, Fair}
+use Rattle.theory.proofs.World.{Orbit, PositionSet, Sets, put, approximant, Part, holds, asks-leaf, Move, Move.within}
+use Rattle.theory.proofs.World.{Move.across, Path, Path.here, Path.step, Fair}
 use Rattle.theory.proofs.Settle.{Sub, mono, put-mono, settled}
 
 -- the first k below n with b k, or n
@@ -130,7 +131,8 @@ module _ (t : Table) (c : Orbit) where
         → ((many-won y q ≡ true) × (rank y q ≤ rank x p)) ⊎ Out (rank x p) y q
     unfolding many-ch
     many-goes x p y q l v m =
-        let r = many-of x p v in ⊎-elim (λ a. inl (many-in (rank x p) y q (r .1) a)) (λ o. inr o) (s (rank x p) .goes x p y q l (r .0) (move-by refl m))
+        let r = many-of x p v in ⊎-elim (λ a. inl (many-in (rank x p) y q (r .1) a)) (λ o. inr o)
+        (s (rank x p) .goes x p y q l (r .0) (move-by refl m))
 
     many-stay : (x p y q : ℕ) → p < c .count → many-won x p ≡ true → first ≤ y → Move t c many-ch x p y q
         → (many-won y q ≡ true) × (rank y q ≤ rank x p)
@@ -170,7 +172,8 @@ module _ (t : Table) (c : Orbit) where
 
   -- What it takes to put one subformula e more before a strategy, won at the positions of at. Out′: where the strategy leads out to, which
   -- may be e itself.
-  record Extension {first : ℕ} {Out′ : ℕ → ℕ → Type 0} (s : Strategy first Out′) (e : ℕ) (Out : ℕ → ℕ → Type 0) (at : PositionSet) : Type 0 where
+  record Extension {first : ℕ} {Out′ : ℕ → ℕ → Type 0} (s : Strategy first Out′) (e : ℕ) (Out : ℕ → ℕ → Type 0) (at : PositionSet) :
+      Type 0 where
     under : e < first
     ch : ℕ → PositionSet
     agree : (x p : ℕ) → first ≤ x → ch x p ≡ s .ch x p
@@ -180,7 +183,8 @@ module _ (t : Table) (c : Orbit) where
     goes : (p y q : ℕ) → p < c .count → at p ≡ true → Move t c ch e p y q → (s .won y q ≡ true) ⊎ Out y q
     good : (l p : ℕ) → p < c .count → operator t e ≡ Operator.fix false l → at p ≡ true → Path t c ch e l p e p → ⊥
 
-  module _ {first : ℕ} {Out′ : ℕ → ℕ → Type 0} (s : Strategy first Out′) {e : ℕ} {Out : ℕ → ℕ → Type 0} (at : PositionSet) (n : Extension s e Out at) where
+  module _ {first : ℕ} {Out′ : ℕ → ℕ → Type 0} (s : Strategy first Out′) {e : ℕ} {Out : ℕ → ℕ → Type 0} (at : PositionSet)
+      (n : Extension s e Out at) where
     ext-won : ℕ → PositionSet
     ext-won x p = cond (eqb x e) (at p) (s .won x p)
 
@@ -216,7 +220,8 @@ module _ (t : Table) (c : Orbit) where
 
     ext-good : (m l p : ℕ) → p < c .count → operator t m ≡ Operator.fix false l → m < l → New m p ⊎ Old m p → Path t c (n .ch) m l p m p → ⊥
     ext-good m l p h q g (inl v) a =
-        n .good l p h (subst (λ (z : ℕ). operator t z ≡ Operator.fix false l) (v .0) q) (v .1) (subst (λ (z : ℕ). Path t c (n .ch) z l p z p) (v .0) a)
+        n .good l p h (subst (λ (z : ℕ). operator t z ≡ Operator.fix false l) (v .0) q) (v .1)
+        (subst (λ (z : ℕ). Path t c (n .ch) z l p z p) (v .0) a)
     ext-good m l p h q g (inr v) a =
         let i = s .inside m p v in
         let v′ : Old l p = ⊎-elim (λ r. r) (λ o. absurd (omega (arith, s .low l p o))) (s .goes m p l p h v (to-body q)) in
@@ -229,7 +234,8 @@ module _ (t : Table) (c : Orbit) where
           ch = n .ch;
           low = n .low;
           inside = λ x p v. ⊎-elim (λ r. omega arith) (λ r. omega (arith, n .under, s .inside x p r)) (ext-of x p v);
-          fair = λ x p l v. ⊎-elim (λ r. subst⁻¹ (λ (z : ℕ). Fair t c z p) (r .0) (n .fair p l (r .1))) (λ r. s .fair x p l r) (ext-of x p v);
+          fair = λ x p l v. ⊎-elim (λ r. subst⁻¹ (λ (z : ℕ). Fair t c z p) (r .0) (n .fair p l (r .1))) (λ r. s .fair x p l r)
+              (ext-of x p v);
           goes = λ x p y q l v m. ext-goes x p y q l (ext-of x p v) m;
           good = λ m l p h q g v a. ext-good m l p h q g (ext-of m p v) a;
         }
@@ -351,7 +357,8 @@ module _ (t : Table) (c : Orbit) where
 
   module _ {e l : ℕ} (h : e < l) (σ : Sets) (low : (y q : ℕ) → σ y q ≡ true → y < e) where
     put-low : (s : PositionSet) (y q : ℕ) → put σ e s y q ≡ true → y < suc e
-    put-low s y q o = ⊎-elim (λ (d : σ y q ≡ true). omega (arith, low y q d)) (λ (d : (y ≡ e) × (s q ≡ true)). omega arith) (put-cases σ e s y q o)
+    put-low s y q o = ⊎-elim (λ (d : σ y q ≡ true). omega (arith, low y q d)) (λ (d : (y ≡ e) × (s q ≡ true)). omega arith)
+        (put-cases σ e s y q o)
 
     module _ (f : PositionSet → PositionSet) (ih : (s : PositionSet) → Win l (λ y q. put σ e s y q ≡ true) (f s)) where
       abbrev Top : PositionSet
@@ -387,7 +394,8 @@ module _ (t : Table) (c : Orbit) where
 
       ever-in : (k p : ℕ) → k ≤ c .count → Up k p ≡ true → (ever p ≡ true) × (turn p ≤ k)
       unfolding ever turn
-      ever-in k p g v = let r = first-le (suc (c .count)) (λ k. Up k p) k (omega arith) v in (lt-ltb (turn p) (suc (c .count)) (omega arith), r)
+      ever-in k p g v = let r = first-le (suc (c .count)) (λ k. Up k p) k (omega arith) v in
+          (lt-ltb (turn p) (suc (c .count)) (omega arith), r)
 
       ever-of : (p : ℕ) → ever p ≡ true → (k : ℕ) × (turn p ≡ suc k) × (k < c .count) × (f (Up k) p ≡ true)
       unfolding ever turn approximant
@@ -445,14 +453,16 @@ module _ (t : Table) (c : Orbit) where
 
             back : (y q : ℕ) → (k : ℕ) × (k < c .count) × Outs k y q → (σ y q ≡ true) ⊎ ((y ≡ e) × (ever q ≡ true))
             back y q i =
-                ⊎-elim (λ (s : σ y q ≡ true). inl s) (λ (s : (y ≡ e) × (Up (i .0) q ≡ true)). inr (s .0, ever-in (i .0) q (omega arith) (s .1) .0))
+                ⊎-elim (λ (s : σ y q ≡ true). inl s)
+                (λ (s : (y ≡ e) × (Up (i .0) q ≡ true)). inr (s .0, ever-in (i .0) q (omega arith) (s .1) .0))
                 (put-cases σ e (Up (i .0)) y q (i .2))
 
             good : (m p : ℕ) → p < c .count → operator t e ≡ Operator.fix false m → ever p ≡ true → Path t c (all .ch) e m p e p → ⊥
             good m p d q v a =
                 let r = enter p d v in
                 let u : m ≡ l = cc in
-                let z = least-falls (level l p) d (subst (λ (m : ℕ). Path t c (all .ch) e m p e p) u a) refl (inr (r .0, omega arith)) in omega arith
+                let z = least-falls (level l p) d (subst (λ (m : ℕ). Path t c (all .ch) e m p e p) u a) refl (inr (r .0, omega arith))
+                in omega arith
 
             last : Win e (λ y q. σ y q ≡ true) ever
             last =
@@ -479,8 +489,10 @@ module _ (t : Table) (c : Orbit) where
       single (Operator.leaf l) q (λ n. n) low (λ p. leaf-at l (c .letter p)) (λ p v. subst⁻¹ T (asks-leaf l (c .letter p) ∙ v) tt)
       (λ y m. List·Memᴰ·not-nil m) (λ p y v m. absurd (List·Memᴰ·not-nil m))
   win (Part.variable m q) σ low =
-      single (Operator.variable m) q (λ n. n) low (λ p. σ m p) (λ p v. tt) (λ y d. List·Memᴰ·not-nil d) (λ p y v d. rw (List·Memᴰ·eq-of-singleton d) v)
-  win (Part.pair o q h k a b) σ low = win-pair h k low (win a σ (λ y q o. omega (arith, low y q o))) (win b σ (λ y q o. omega (arith, low y q o))) o q
+      single (Operator.variable m) q (λ n. n) low (λ p. σ m p) (λ p v. tt) (λ y d. List·Memᴰ·not-nil d)
+      (λ p y v d. rw (List·Memᴰ·eq-of-singleton d) v)
+  win (Part.pair o q h k a b) σ low =
+      win-pair h k low (win a σ (λ y q o. omega (arith, low y q o))) (win b σ (λ y q o. omega (arith, low y q o))) o q
   win (Part.next q k a) σ low = win-next k low (win a σ (λ y q o. omega (arith, low y q o))) q
   win (Part.fix e b q k a) σ low =
       win-fix k σ low (λ s. holds t c a (put σ e s)) (λ s. win a (put σ e s) (λ y q o. omega (arith, put-low k σ low s y q o)))

@@ -15,7 +15,8 @@ use Rattle.formula.specs.Table.{Operator, Table, table, ends-from, operator, is
 use Rattle.formula.specs.Reading.{Scope}
 use Rattle.formula.specs.Stands.{Ranged, Guarded, Stands}
 use Rattle.formula.proofs.Limits.{size-some}
-use Rattle.formula.proofs.WellFormed.{sits-first, end-in, stands-left, stands-right, stands-next, stands-body, Single, Operands, Shaped, each-shaped, stands-whole, table-size}
+use Rattle.formula.proofs.WellFormed.{sits-first, end-in, stands-left, stands-right, stands-next, stands-body, Single, Operands}
+use Rattle.formula.proofs.WellFormed.{Shaped, each-shaped, stands-whole, table-size}
 use Rattle.lasso.specs.Lasso.{Lasso, Positions, leaf-at, holds as lasso-holds}
 use Rattle.tableau.specs.Saturation.{moves}
 use Rattle.tableau.specs.Transition.{next-of}
@@ -62,9 +63,13 @@ module _ (t : Table) (end : ℕ → ℕ) (count : ℕ) where
 
   means : {e : ℕ} {scope : Scope} {binders : List ℕ} (f : Formula) → Stands (operator t) end count e scope binders f → Means e binders f
   unfolding holds
-  means (Formula.leaf l) h = record { part = Part.leaf l (sits-first (h .operators)); agrees = λ c k σ ρ m. agree-map (leaf-at l) (c .letters) }
+  means (Formula.leaf l) h =
+      record { part = Part.leaf l (sits-first (h .operators)); agrees = λ c k σ ρ m. agree-map (leaf-at l) (c .letters) }
   means {binders = binders} (Formula.variable d) h =
-      record { part = Part.variable (getD binders d 0) (sits-first (h .operators)); agrees = λ c k σ ρ m. m d (omega (arith, h .guarded .0, h .scoped)) }
+      record {
+        part = Part.variable (getD binders d 0) (sits-first (h .operators));
+        agrees = λ c k σ ρ m. m d (omega (arith, h .guarded .0, h .scoped));
+      }
   means {e} {scope} {binders} (Formula.pair o a b) h =
       let x = means a (stands-left (operator t) end count h) in
       let y = means b (stands-right (operator t) end count h) in
@@ -84,7 +89,8 @@ module _ (t : Table) (end : ℕ → ℕ) (count : ℕ) where
         part = Part.fix e g (sits-first (h .operators)) (omega arith) (x .part);
         agrees = λ c k σ ρ m.
             agree-rounds (length (c .letters)) (length (c .letters)) _ _
-            (λ u s d. x .agrees c k (put σ e u) (s ∷ ρ) (put-match (length (c .letters)) e binders σ ρ u s (λ i l. h .enclosed i l .before) d m)) _ _
+            (λ u s d. x .agrees c k (put σ e u) (s ∷ ρ)
+            (put-match (length (c .letters)) e binders σ ρ u s (λ i l. h .enclosed i l .before) d m)) _ _
             (agree-map (λ _. g) (c .letters));
       }
 
@@ -124,7 +130,11 @@ module _ (f : Formula) (guarded : Guarded [] f) (ranged : Ranged f) where
   -- behind the table nothing leads on
   in-table : (x : ℕ) → (operator t x ≡ Operator.leaf (Leaf.constant false) → ⊥) → x < size f
   in-table x n =
-      elim (decLt x (size f)) [ yes h ↦ h | no h ↦ absurd (n (List·getD-eq-default t (Operator.leaf (Leaf.constant false)) (omega (arith, table-size f)))) ]
+      elim (decLt x (size f)) [
+        | yes h ↦ h
+        | no h ↦ absurd
+            (n (List·getD-eq-default t (Operator.leaf (Leaf.constant false)) (omega (arith, table-size f))))
+      ]
 
   moves-inside : (x y : ℕ) (b : Bool) → List·Memᴰ y (moves (operator t x) b) → x < size f
   moves-inside x y b m = in-table x (λ q. List·Memᴰ·not-nil (rw q at m))
@@ -159,7 +169,8 @@ module _ (f : Formula) (guarded : Guarded [] f) (ranged : Ranged f) where
   pub whole-part : Part t 0
   whole-part = meaning .part
 
-  pub whole-means : (c : Lasso) (h : c .stem < length (c .letters)) (σ : Sets) → holds t (orbit c h) whole-part σ 0 ≡ getD (lasso-holds c f []) 0 false
+  pub whole-means : (c : Lasso) (h : c .stem < length (c .letters)) (σ : Sets)
+      → holds t (orbit c h) whole-part σ 0 ≡ getD (lasso-holds c f []) 0 false
   unfolding whole-part
   whole-means c h σ = meaning .agrees c h σ [] (λ i j. absurd (omega arith)) .same 0 (omega arith)
 

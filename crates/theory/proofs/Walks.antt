@@ -31,7 +31,8 @@ module _ (t : Table) where
     stop : {v : Subset} → Walk v [] v
     go : {v u : Subset} {s : Transition} {ss : List Transition} → List·Memᴰ s (transitions t v) → Walk (s .to) ss u → Walk v (s ∷ ss) u
 
-  walk-more : {v u : Subset} {s : Transition} {ss : List Transition} → Walk v ss u → List·Memᴰ s (transitions t u) → Walk v (ss ++ (s ∷ [])) (s .to)
+  walk-more : {v u : Subset} {s : Transition} {ss : List Transition} → Walk v ss u → List·Memᴰ s (transitions t u)
+      → Walk v (ss ++ (s ∷ [])) (s .to)
   walk-more stop m = go m stop
   walk-more (go n a) m = go n (walk-more a m)
 

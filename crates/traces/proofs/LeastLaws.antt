@@ -25,7 +25,8 @@ use Rattle.traces.proofs.RankLaws.{before-suc, Opcodes}
 pub record Masked (rows : List ℕ) (count e mask : ℕ) : Type 0 where
   pub past : (k : ℕ) → k < fix-rank rows e → bit mask k ≡ getD (leasts (table-of rows count)) k false
   pub none : (k : ℕ) → fix-rank rows e ≤ k → bit mask k ≡ false
-  pub rest : (k : ℕ) → getD (leasts (table-of rows count)) (fix-rank rows e + k) false ≡ getD (leasts (operators-of rows e (count - e))) k false
+  pub rest : (k : ℕ) → getD (leasts (table-of rows count)) (fix-rank rows e + k) false ≡ getD (leasts (operators-of rows e (count - e)))
+      k false
 
 pub mask-start : (rows : List ℕ) (count : ℕ) → Masked rows count 0 0
 mask-start rows count =
@@ -37,7 +38,8 @@ mask-start rows count =
           ∙ ap (λ (i : ℕ). getD (leasts (operators-of rows 0 i)) k false) {x = count} {y = count - 0} (omega arith);
     }
 
-pub mask-end : (rows : List ℕ) (count e mask : ℕ) → count ≤ e → Masked rows count e mask → (k : ℕ) → bit mask k ≡ getD (leasts (table-of rows count)) k false
+pub mask-end : (rows : List ℕ) (count e mask : ℕ) → count ≤ e → Masked rows count e mask → (k : ℕ)
+    → bit mask k ≡ getD (leasts (table-of rows count)) k false
 mask-end rows count e mask h m k = at (decLt k (fix-rank rows e))
   where
     at : Dec (k < fix-rank rows e) → bit mask k ≡ getD (leasts (table-of rows count)) k false
@@ -61,7 +63,8 @@ module _ (rows : List ℕ) (count e mask : ℕ) (known : Opcodes rows count) (h 
       → leasts (operators-of rows e (count - e)) ≡ cond b (c ∷ after) after
   from b c p q =
       ap (λ (n : ℕ). leasts (operators-of rows e n)) {x = count - e} {y = suc (count - (e + 1))} (omega arith)
-      ∙ (λ i. cond (p i) (q i ∷ leasts (operators-of rows (suc e) (count - (e + 1)))) (leasts (operators-of rows (suc e) (count - (e + 1)))))
+      ∙ (λ i. cond (p i) (q i ∷ leasts (operators-of rows (suc e) (count - (e + 1))))
+      (leasts (operators-of rows (suc e) (count - (e + 1)))))
       ∙ ap (λ (j : ℕ). let r = leasts (operators-of rows j (count - (e + 1))) in cond b (c ∷ r) r) (sym (add-one e))
 
   -- no fixpoint
@@ -74,7 +77,8 @@ module _ (rows : List ℕ) (count e mask : ℕ) (known : Opcodes rows count) (h 
         rest = λ k.
             ap (λ (i : ℕ). getD (leasts (table-of rows count)) (i + k) false) rank
             ∙ m .rest k
-            ∙ ap (λ (l : List Bool). getD l k false) (from false (is-least (operator-at rows e)) (not-fix op (getD rows (48 + e) 0) e (known e h .0) o) refl);
+            ∙ ap (λ (l : List Bool). getD l k false)
+            (from false (is-least (operator-at rows e)) (not-fix op (getD rows (48 + e) 0) e (known e h .0) o) refl);
       }
 
   -- a fixpoint whose bit the new mask has
@@ -84,9 +88,11 @@ module _ (rows : List ℕ) (count e mask : ℕ) (known : Opcodes rows count) (h 
       let rank : fix-rank rows (e + 1) ≡ suc (fix-rank rows e) = before-suc (fix-at rows) e true (lt-ltb 8 op o) in
       record {
         past = λ k l. w k ∙ at k (omega arith) (ℕ-discrete k (fix-rank rows e));
-        none = λ k l. w k ∙ ap (λ (t : Bool). cond t b (bit mask k)) (ne-eqb k (fix-rank rows e) (λ q. omega arith)) ∙ m .none k (omega arith);
+        none = λ k l. w k ∙ ap (λ (t : Bool). cond t b (bit mask k)) (ne-eqb k (fix-rank rows e) (λ q. omega arith))
+            ∙ m .none k (omega arith);
         rest = λ k.
-            ap (λ (i : ℕ). getD (leasts (table-of rows count)) i false) {x = fix-rank rows (e + 1) + k} {y = fix-rank rows e + suc k} (omega arith)
+            ap (λ (i : ℕ). getD (leasts (table-of rows count)) i false) {x = fix-rank rows (e + 1) + k} {y = fix-rank rows e + suc k}
+            (omega arith)
             ∙ m .rest (suc k)
             ∙ ap (λ (l : List Bool). getD l (suc k) false) whole;
       }
@@ -109,7 +115,8 @@ module _ (rows : List ℕ) (count e mask : ℕ) (known : Opcodes rows count) (h 
       at k i (no q) = ap (λ (t : Bool). cond t b (bit mask k)) (ne-eqb k (fix-rank rows e) q) ∙ m .past k (omega arith)
 
   -- by what the code has read and built
-  pub mask-more : (new k : ℕ) → k ≡ fix-rank rows e → (op ≡ 9 → (i : ℕ) → bit new i ≡ cond (eqb i k) true (bit mask i)) → ((op ≡ 9 → ⊥) → new ≡ mask)
+  pub mask-more : (new k : ℕ) → k ≡ fix-rank rows e → (op ≡ 9 → (i : ℕ) → bit new i ≡ cond (eqb i k) true (bit mask i))
+      → ((op ≡ 9 → ⊥) → new ≡ mask)
       → Masked rows count (e + 1) new
   mask-more new k ek is not = go (ℕ-discrete op 9) (decLt 8 op)
     where

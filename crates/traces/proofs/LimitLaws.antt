@@ -38,6 +38,18 @@ module _ {bytes : List ℕ} {t : Table} (h : Held bytes t) where
       let limits = parse-limited bytes (h .formula) (h .parsed) in
       record {
         formed = held-formed h;
-        few-nexts = omega (arith, operands-are (table-of (t .rows) (t .count)), ap (how-many is-next) (h .operators), table-nexts (h .formula), limits .nexts);
-        few-fixes = omega (arith, leasts-are (table-of (t .rows) (t .count)), ap (how-many is-fix) (h .operators), table-fixpoints (h .formula), limits .fixpoints);
+        few-nexts = omega (
+          arith,
+          operands-are (table-of (t .rows) (t .count)),
+          ap (how-many is-next) (h .operators),
+          table-nexts (h .formula),
+          limits .nexts,
+        );
+        few-fixes = omega (
+          arith,
+          leasts-are (table-of (t .rows) (t .count)),
+          ap (how-many is-fix) (h .operators),
+          table-fixpoints (h .formula),
+          limits .fixpoints,
+        );
       }

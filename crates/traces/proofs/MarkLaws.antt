@@ -98,7 +98,8 @@ marked n b q m v h = at (decLt m n)
     at (no l) =
         set-out (marks-of n b) m (weighs (bit v)) (omega (arith, marks-length n b))
         ∙ sym
-        (set-out (marks-of n b) m (weighs (λ x. bit-of (getD (marks-of n b) m []) x || bit-of (weighs q) x)) (omega (arith, marks-length n b)))
+        (set-out (marks-of n b) m (weighs (λ x. bit-of (getD (marks-of n b) m []) x || bit-of (weighs q) x))
+        (omega (arith, marks-length n b)))
 
 -- what `mark` does
 pub marked-one : (b : List ℕ) (m w : ℕ) → m < length b → Marked (m ∷ []) w b (set b m (bitOr (getD b m 0) w))
@@ -140,9 +141,11 @@ module _ (op a e : ℕ) (p : Bool) (k : ℕ) (b r : List ℕ) where
 
     pub pass-6 : op ≡ 6 → (c : Bool) → p ≡ c → (m : ℕ) → m ≡ cond c a (e + 1) → Marked (m ∷ []) here b r → Passed (decoded op a e) p e k b r
     pass-6 o c q m em g =
-        plain (Operator.pair true (e + 1) a) (m ∷ []) (is-6 op a e o) (ap (λ (t : Bool). cond t a (e + 1) ∷ []) q ∙ ap (λ (i : ℕ). i ∷ []) (sym em)) refl g
+        plain (Operator.pair true (e + 1) a) (m ∷ []) (is-6 op a e o)
+        (ap (λ (t : Bool). cond t a (e + 1) ∷ []) q ∙ ap (λ (i : ℕ). i ∷ []) (sym em)) refl g
 
-    pub pass-7 : op ≡ 7 → (l : List ℕ) → Marked ((e + 1) ∷ []) here b l → Marked (argument ∷ []) here l r → Passed (decoded op a e) p e k b r
+    pub pass-7 : op ≡ 7 → (l : List ℕ) → Marked ((e + 1) ∷ []) here b l → Marked (argument ∷ []) here l r
+        → Passed (decoded op a e) p e k b r
     pass-7 o l f g =
         plain (Operator.pair false (e + 1) a) ((e + 1) ∷ a ∷ []) (is-7 op a e o) refl refl
         (λ n h.
@@ -225,9 +228,12 @@ module _ (rows : List ℕ) (count choice : ℕ) (b₀ : List ℕ) where
       let one : marks-of count r ≡ mark (moves o (has w e)) (passed o (fix-rank rows e) (getD (marks-of count b) e [])) (marks-of count b) =
       q count h few ∙ (λ i. mark (moves o (right i)) (passed o (ek i) (getD (marks-of count b) e [])) (marks-of count b)) in
       p w c
-      ∙ ap (λ (n : ℕ). sweep (operators-of rows e n) w e (fix-rank rows e) (marks-of count b)) {x = count - e} {y = suc (count - (e + 1))} (omega arith)
-      ∙ ap (sweep (operators-of rows (suc e) (count - (e + 1))) w (suc e) (cond (is-fix o) (suc (fix-rank rows e)) (fix-rank rows e))) (sym one)
-      ∙ ap (λ (t : Bool). sweep (operators-of rows (suc e) (count - (e + 1))) w (suc e) (cond t (suc (fix-rank rows e)) (fix-rank rows e)) (marks-of count r))
+      ∙ ap (λ (n : ℕ). sweep (operators-of rows e n) w e (fix-rank rows e) (marks-of count b)) {x = count - e}
+      {y = suc (count - (e + 1))} (omega arith)
+      ∙ ap (sweep (operators-of rows (suc e) (count - (e + 1))) w (suc e) (cond (is-fix o) (suc (fix-rank rows e)) (fix-rank rows e)))
+      (sym one)
+      ∙ ap (λ (t : Bool). sweep (operators-of rows (suc e) (count - (e + 1))) w (suc e)
+      (cond t (suc (fix-rank rows e)) (fix-rank rows e)) (marks-of count r))
       (fix-same (getD rows e 0) (getD rows (48 + e) 0) e s j)
       ∙ ap (λ (i : ℕ). sweep (operators-of rows i (count - (e + 1))) w i (fix-rank rows i) (marks-of count r)) (sym (add-one e))
 
@@ -235,7 +241,8 @@ module _ (rows : List ℕ) (count choice : ℕ) (b₀ : List ℕ) where
       → (w : Subset) → choice ≡ word w → marks-of count b ≡ sweep (table-of rows count) w 0 0 (marks-of count b₀)
   unfolding passed
   swept-end e b h p w c =
-      sym (p w c ∙ ap (λ (k : ℕ). sweep (operators-of rows e k) w e (fix-rank rows e) (marks-of count b)) {x = count - e} {y = 0} (omega arith))
+      sym (p w c ∙ ap (λ (k : ℕ). sweep (operators-of rows e k) w e (fix-rank rows e) (marks-of count b)) {x = count - e} {y = 0}
+      (omega arith))
 
 -- sweeps until nothing changes
 abbrev pub Reaching : List ℕ → (count choice f left : ℕ) → List ℕ → Type 0
@@ -258,10 +265,12 @@ module _ (rows : List ℕ) (count choice f : ℕ) where
       (values-same (λ e. weighs (bit (getD z e 0))) (λ e. blank) 0 count (λ i j l. no-marks (getD z i 0) (none i (omega arith)))
       ∙ sym (blanks (operator-at rows) 0 count))
 
-  pub reach-start : (z : List ℕ) → f < length z → ((i : ℕ) → i < count → getD z i 0 ≡ 0) → Reaching rows count choice f (8 * count) (set z f 128)
+  pub reach-start : (z : List ℕ) → f < length z → ((i : ℕ) → i < count → getD z i 0 ≡ 0)
+      → Reaching rows count choice f (8 * count) (set z f 128)
   unfolding passed
   reach-start z k none w c =
-      ap (λ (n : ℕ). repeat (8 * n) (sweep (table-of rows count) w 0 0) (set (map (λ (o : Operator). blank) (table-of rows count)) f (weighs (eqb 7))))
+      ap (λ (n : ℕ). repeat (8 * n) (sweep (table-of rows count) w 0 0)
+      (set (map (λ (o : Operator). blank) (table-of rows count)) f (weighs (eqb 7))))
       (values-length (operator-at rows) 0 count)
       ∙ ap (repeat (8 * count) (sweep (table-of rows count) w 0 0)) (sym (start-marks z k none))
 
@@ -269,7 +278,8 @@ module _ (rows : List ℕ) (count choice f : ℕ) where
   abbrev Sweep : List ℕ → List ℕ → Type 0
   Sweep b r = (w : Subset) → choice ≡ word w → marks-of count r ≡ sweep (table-of rows count) w 0 0 (marks-of count b)
 
-  pub reach-more : (left : ℕ) (b r : List ℕ) → 0 < left → Reaching rows count choice f left b → Sweep b r → Reaching rows count choice f (left - 1) r
+  pub reach-more : (left : ℕ) (b r : List ℕ) → 0 < left → Reaching rows count choice f left b → Sweep b r
+      → Reaching rows count choice f (left - 1) r
   reach-more zero b r h e q w c = absurd (omega arith)
   reach-more (suc left) b r h e q w c =
       let s = sweep (table-of rows count) w 0 0 in
@@ -277,7 +287,8 @@ module _ (rows : List ℕ) (count choice f : ℕ) where
       ∙ ap (repeat left s) (sym (q w c))
       ∙ ap (λ (k : ℕ). repeat k s (marks-of count r)) {x = left} {y = suc left - 1} (omega arith)
 
-  pub reach-still : (left : ℕ) (b r : List ℕ) → Reaching rows count choice f left b → Sweep b r → ((i : ℕ) → i < count → getD b i 0 ≡ getD r i 0)
+  pub reach-still : (left : ℕ) (b r : List ℕ) → Reaching rows count choice f left b → Sweep b r
+      → ((i : ℕ) → i < count → getD b i 0 ≡ getD r i 0)
       → (w : Subset) → choice ≡ word w → marks-of count r ≡ reached (table-of rows count) w f
   reach-still left b r e q same w c =
       let back = sym (marks-same count b r same) in

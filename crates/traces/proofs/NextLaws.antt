@@ -18,7 +18,8 @@ use Rattle.tableau.specs.Promise.{table-of}
 use Rattle.coded.specs.Triples.{those}
 use Rattle.coded.specs.Marks.{Marks, weighs, reached, row-of, blank, triples}
 use Rattle.traces.specs.Promise.{next-at, next-rank, Limited, Reached, Row-of, Other-rows, Done, Empty, Done-to, Triples-of}
-use Rattle.traces.proofs.RankLaws.{before-less, opcodes, nexts-of, Next-in, nexts-at, nexts-all, operands-all, next-after, other-after, next-small}
+use Rattle.traces.proofs.RankLaws.{before-less, opcodes, nexts-of, Next-in, nexts-at, nexts-all, operands-all, next-after}
+use Rattle.traces.proofs.RankLaws.{other-after, next-small}
 use Rattle.traces.proofs.MarkLaws.{marks-at, no-marks}
 
 -- a row, one next more
@@ -50,11 +51,13 @@ module _ (rows : List ℕ) (e f : ℕ) (marks t u : List ℕ) where
           (getD-set-same u (f * 12 + next-rank rows e) (getD marks e 0) 0 (omega arith))
       at i h p (no y) =
           let less = before-less (next-at rows) i e (omega arith) (eq-eqb (getD rows i 0) 8 p) in
-          getD-set-other u (f * 12 + next-rank rows e) (f * 12 + next-rank rows i) (getD marks e 0) 0 (λ z. omega arith) ∙ r i (omega arith) p
+          getD-set-other u (f * 12 + next-rank rows e) (f * 12 + next-rank rows i) (getD marks e 0) 0 (λ z. omega arith)
+          ∙ r i (omega arith) p
 
   -- by what the code has read and stored
   pub row-more : (g : ℕ) (v : List ℕ) → length u ≡ 144 → g ≡ next-rank rows e → f < 12 → (getD rows e 0 ≡ 8 → next-rank rows e < 12)
-      → (getD rows e 0 ≡ 8 → v ≡ set u (f * 12 + g) (getD marks e 0)) → ((getD rows e 0 ≡ 8 → ⊥) → v ≡ u) → Row-state e u → Row-state (e + 1) v
+      → (getD rows e 0 ≡ 8 → v ≡ set u (f * 12 + g) (getD marks e 0)) → ((getD rows e 0 ≡ 8 → ⊥) → v ≡ u) → Row-state e u
+      → Row-state (e + 1) v
   row-more g v l eg hf hg is not s = go (ℕ-discrete (getD rows e 0) 8)
     where
       go : Dec (getD rows e 0 ≡ 8) → Row-state (e + 1) v
@@ -63,7 +66,8 @@ module _ (rows : List ℕ) (e f : ℕ) (marks t u : List ℕ) where
       go (no d) = subst⁻¹ (Row-state (e + 1)) (not d) (row-skip d s)
 
 -- the rows, one subformula more
-module _ (rows : List ℕ) (count choice node e : ℕ) (t : List ℕ) (limited : Limited rows count) (h : e < count) (state : Done-to rows count choice node e t) where
+module _ (rows : List ℕ) (count choice node e : ℕ) (t : List ℕ) (limited : Limited rows count) (h : e < count)
+    (state : Done-to rows count choice node e t) where
   abbrev State : List ℕ → Type 0
   State u = Done-to rows count choice node (e + 1) u
 
@@ -89,7 +93,8 @@ module _ (rows : List ℕ) (count choice node e : ℕ) (t : List ℕ) (limited :
 
     -- the row of e, and those before
     filled : (u : List ℕ) → ((v w : Subset) → node ≡ word v → choice ≡ word w → (d : ℕ) → d < count → getD rows d 0 ≡ 8 → Cell v w e d u)
-        → ((v w : Subset) → node ≡ word v → choice ≡ word w → (i d : ℕ) → i < e → getD rows i 0 ≡ 8 → d < count → getD rows d 0 ≡ 8 → Cell v w i d u)
+        → ((v w : Subset) → node ≡ word v → choice ≡ word w → (i d : ℕ) → i < e → getD rows i 0 ≡ 8 → d < count → getD rows d 0 ≡ 8
+        → Cell v w i d u)
         → Empty (next-rank rows (e + 1)) u → State u
     filled u now past empty = ((λ v w nv cw i d l oi k od. at v w nv cw i d oi k od l (ℕ-discrete i e)), empty)
       where
@@ -103,7 +108,8 @@ module _ (rows : List ℕ) (count choice node e : ℕ) (t : List ℕ) (limited :
         filled t
         (λ v w nv cw d k od.
         no-marks (getD t (next-rank rows e * 12 + next-rank rows d) 0)
-        (state .1 (next-rank rows e * 12 + next-rank rows d) (omega arith) (omega (arith, next-small limited d k od, next-small limited e h o)))
+        (state .1 (next-rank rows e * 12 + next-rank rows d) (omega arith)
+        (omega (arith, next-small limited d k od, next-small limited e h o)))
         ∙ sym (ap (λ (c : Bool). cond c (getD (reached (table-of rows count) w (suc e)) d []) blank) (held v nv false b)))
         (λ v w nv cw i d l oi k od. state .0 v w nv cw i d l oi k od)
         (λ i l k. state .1 i (omega (arith, next-after rows e o)) k)
@@ -125,7 +131,8 @@ module _ (rows : List ℕ) (count choice node e : ℕ) (t : List ℕ) (limited :
         (λ i l k. others i .1 (omega (arith, next-after rows e o)) ∙ state .1 i (omega (arith, next-after rows e o)) k)
 
 -- a map over a list is a map over the numbers of its elements
-by-number : {A : Type 0} (F q : ℕ → A) (ns : List ℕ) (k : ℕ) → ((i : ℕ) → i < length ns → q (k + i) ≡ F (getD ns i 0)) → map q (numbers k (length ns)) ≡ map F ns
+by-number : {A : Type 0} (F q : ℕ → A) (ns : List ℕ) (k : ℕ) → ((i : ℕ) → i < length ns → q (k + i) ≡ F (getD ns i 0))
+    → map q (numbers k (length ns)) ≡ map F ns
 by-number F q [] k h = refl
 by-number F q (x ∷ ns) k h =
     let a : q k ≡ F x = ap q {x = k} {y = k + 0} (omega arith) ∙ h 0 (omega arith) in
@@ -133,7 +140,8 @@ by-number F q (x ∷ ns) k h =
     λ j. a j ∷ b j
 
 -- all rows
-pub all-done : (rows : List ℕ) (count choice node : ℕ) (t : List ℕ) → Limited rows count → Done rows count choice node count t → Triples-of rows count choice node t
+pub all-done : (rows : List ℕ) (count choice node : ℕ) (t : List ℕ) → Limited rows count → Done rows count choice node count t
+    → Triples-of rows count choice node t
 unfolding triples those
 all-done rows count choice node t limited done v w nv cw =
     let ns = nexts-of rows 0 count in
@@ -142,7 +150,8 @@ all-done rows count choice node t limited done v w nv cw =
     ap (λ (k : ℕ). map (λ f. map (cell f) (numbers 0 k)) (numbers 0 k)) (operands-all rows count known ∙ sym (nexts-all rows count known))
     ∙ by-number (λ e. row-of ns (has v (suc e)) (reached (table-of rows count) w (suc e))) (λ f. map (cell f) (numbers 0 (length ns))) ns 0
     (λ i hi.
-    by-number (λ d. cond (has v (suc (getD ns i 0))) (getD (reached (table-of rows count) w (suc (getD ns i 0))) d []) blank) (cell (0 + i)) ns 0
+    by-number (λ d. cond (has v (suc (getD ns i 0))) (getD (reached (table-of rows count) w (suc (getD ns i 0))) d []) blank)
+    (cell (0 + i)) ns 0
     (λ j hj. one i j (nexts-at rows count known 0 count i (omega arith) hi) (nexts-at rows count known 0 count j (omega arith) hj)))
   where
     one : (i j : ℕ) → Next-in rows 0 count i (getD (nexts-of rows 0 count) i 0) → Next-in rows 0 count j (getD (nexts-of rows 0 count) j 0)
@@ -153,5 +162,6 @@ all-done rows count choice node t limited done v w nv cw =
     one i j a b =
         let e = getD (nexts-of rows 0 count) i 0 in
         let d = getD (nexts-of rows 0 count) j 0 in
-        ap (λ (k : ℕ). weighs (bit (getD t k 0))) {x = (0 + i) * 12 + (0 + j)} {y = next-rank rows e * 12 + next-rank rows d} (omega (arith, a .rank, b .rank))
+        ap (λ (k : ℕ). weighs (bit (getD t k 0))) {x = (0 + i) * 12 + (0 + j)} {y = next-rank rows e * 12 + next-rank rows d}
+        (omega (arith, a .rank, b .rank))
         ∙ done v w nv cw e d (omega (arith, a .high)) (a .op) (omega (arith, b .high)) (b .op)

@@ -56,7 +56,8 @@ module _ (q : ℕ → Bool) where
   before-most (suc e) = omega (arith, count-one (q e) (before q e), one-most (q e), before-most e)
 
 -- an array of ranks, one more at a time
-pub ranked-more : (rank : ℕ → ℕ) (e n : ℕ) (l : List ℕ) → e < length l → n ≡ rank e → n < 256 → Ranked rank e l → Ranked rank (e + 1) (set l e (n % 256))
+pub ranked-more : (rank : ℕ → ℕ) (e n : ℕ) (l : List ℕ) → e < length l → n ≡ rank e → n < 256 → Ranked rank e l
+    → Ranked rank (e + 1) (set l e (n % 256))
 ranked-more rank e n l h q s r d k = go (ℕ-discrete d e)
   where
     go : Dec (d ≡ e) → getD (set l e (n % 256)) d 0 ≡ rank d
@@ -141,7 +142,8 @@ module _ (rows : List ℕ) where
         wider i j d q k = record { low = omega (arith, k .low); high = omega (arith, k .high); op = k .op; rank = k .rank ∙ q }
 
         go : Dec (code e ≡ 8) → (i : ℕ) → i < length (nexts-of e (suc n))
-            → ((i : ℕ) → i < length (nexts-of (suc e) n) → Next-in (suc e) n i (getD (nexts-of (suc e) n) i 0)) → Next-in e (suc n) i (getD (nexts-of e (suc n)) i 0)
+            → ((i : ℕ) → i < length (nexts-of (suc e) n) → Next-in (suc e) n i (getD (nexts-of (suc e) n) i 0))
+            → Next-in e (suc n) i (getD (nexts-of e (suc n)) i 0)
         go (no o) i h f =
             let q = nexts-none e n (known e (omega arith)) o in
             subst⁻¹ (λ (l : List ℕ). Next-in e (suc n) i (getD l i 0)) q
@@ -151,7 +153,8 @@ module _ (rows : List ℕ) where
             (record { low = omega arith; high = omega arith; op = o; rank = omega arith })
         go (yes o) (suc i) h f =
             subst⁻¹ (λ (l : List ℕ). Next-in e (suc n) (suc i) (getD l (suc i) 0)) (nexts-one e n o)
-            (wider i (suc i) (getD (nexts-of (suc e) n) i 0) (omega (arith, next-suc e o)) (f i (omega (arith, ap length (nexts-one e n o)))))
+            (wider i (suc i) (getD (nexts-of (suc e) n) i 0) (omega (arith, next-suc e o))
+            (f i (omega (arith, ap length (nexts-one e n o)))))
 
     -- all of them
     pub nexts-all : length (nexts-of 0 count) ≡ next-rank rows count
@@ -165,7 +168,8 @@ module _ (rows : List ℕ) where
     fixes-length e (suc n) l =
         let rest = leasts (operators-of rows (suc e) n) in
         let (s, k) = known e (omega arith) in
-        ap (λ (t : Bool). fix-rank rows e + length (cond t (is-least (operator-at rows e) ∷ rest) rest)) (fix-same (code e) (getD rows (48 + e) 0) e s k)
+        ap (λ (t : Bool). fix-rank rows e + length (cond t (is-least (operator-at rows e) ∷ rest) rest))
+        (fix-same (code e) (getD rows (48 + e) 0) e s k)
         ∙ longer (fix-at rows e) (fix-rank rows e) (is-least (operator-at rows e)) rest
         ∙ fixes-length (suc e) n (omega arith)
         ∙ ap (fix-rank rows) {x = suc e + n} {y = e + suc n} (omega arith)
@@ -217,8 +221,10 @@ ranking-start rows next fix l k =
       fixes-are = refl;
     }
 
-pub ranking-more : (rows : List ℕ) (e : ℕ) (next fix : List ℕ) (nexts fixes n m : ℕ) → e < 48 → n ≡ cond (next-at rows e) 1 0 → m ≡ cond (fix-at rows e) 1 0
-    → Ranking rows e next fix nexts fixes → Ranking rows (e + 1) (set next e (nexts % 256)) (set fix e (fixes % 256)) (nexts + n) (fixes + m)
+pub ranking-more : (rows : List ℕ) (e : ℕ) (next fix : List ℕ) (nexts fixes n m : ℕ) → e < 48 → n ≡ cond (next-at rows e) 1 0
+    → m ≡ cond (fix-at rows e) 1 0
+    → Ranking rows e next fix nexts fixes → Ranking rows (e + 1) (set next e (nexts % 256)) (set fix e (fixes % 256)) (nexts + n)
+    (fixes + m)
 ranking-more rows e next fix nexts fixes n m h en em r =
     record {
       next-long = length-set next e (nexts % 256) ∙ r .next-long;
@@ -244,6 +250,7 @@ ranking-end rows count e next fix nexts fixes f h k r =
     }
 
 -- so that counts fit
-pub ranking-small : {rows : List ℕ} {e : ℕ} {next fix : List ℕ} {nexts fixes : ℕ} → Ranking rows e next fix nexts fixes → (nexts ≤ e) × (fixes ≤ e)
+pub ranking-small : {rows : List ℕ} {e : ℕ} {next fix : List ℕ} {nexts fixes : ℕ} → Ranking rows e next fix nexts fixes
+    → (nexts ≤ e) × (fixes ≤ e)
 ranking-small {rows} {e} r =
     (omega (arith, r .nexts-are, before-most (next-at rows) e), omega (arith, r .fixes-are, before-most (fix-at rows) e))

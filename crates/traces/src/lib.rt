@@ -11,7 +11,8 @@ ghost use Rattle.base.specs.Bits.{bit};
 ghost use Rattle.formula.specs.Rows.{operator-at};
 ghost use Rattle.tableau.specs.Promise.{table-of, Placed, Formed};
 ghost use Rattle.coded.specs.Marks.{leasts};
-ghost use Rattle.traces.specs.Promise.{next-rank, fix-rank, Limited, Ranked, Ranks-of, Marked, Passed, Swept-marks, Reached, Row-of, Other-rows, Done-to, Triples-of};
+ghost use Rattle.traces.specs.Promise.{next-rank, fix-rank, Limited, Ranked, Ranks-of, Marked, Passed, Swept-marks, Reached};
+ghost use Rattle.traces.specs.Promise.{Row-of, Other-rows, Done-to, Triples-of};
 
 // The ranks of the subformulas: how many next, or fixpoints, begin before each one; and how many next there are in all.
 pub struct Ranks {
@@ -64,7 +65,8 @@ fn bit8(k: usize) -> u8
 fn passing(rows: &[u8; 144], fix: &[u8; 48], choice: u64, s: Subformula, marks: &mut [u8; 48])
     requires { ⌜ Placed (now rows) (s .0) ⌝ }
     requires { ⌜ (8 < getD (now rows) (s .0) 0 → getD (now fix) (s .0) 0 < 8) ⌝ }
-    ensures { λ r. ⌜ Passed (operator-at (now (rows .entry)) (s .0)) (bit choice (s .0)) (s .0) (getD (now (fix .entry)) (s .0) 0) (now (marks .entry)) (now (marks .exit)) ⌝ }
+    ensures { λ r. ⌜ Passed (operator-at (now (rows .entry)) (s .0)) (bit choice (s .0)) (s .0) (getD (now (fix .entry)) (s .0) 0)
+        (now (marks .entry)) (now (marks .exit)) ⌝ }
 {
     let e = s.0;
     let w = marks[e];

@@ -68,7 +68,8 @@ near-above u v n top k =
     there i p (no l) = absurd (subst T (top (i + k) (omega arith)) p)
 
 -- what `down` computes
-pub down-bits : (w : ℕ) → w < 2 ^ 8 → (a b : ℕ) → a ≡ bitOr w (w / 2 ^ 1) → b ≡ bitOr a (a / 2 ^ 2) → Bits (bitOr b (b / 2 ^ 4)) (above (bit w))
+pub down-bits : (w : ℕ) → w < 2 ^ 8 → (a b : ℕ) → a ≡ bitOr w (w / 2 ^ 1) → b ≡ bitOr a (a / 2 ^ 2)
+    → Bits (bitOr b (b / 2 ^ 4)) (above (bit w))
 down-bits w h a b p q k l =
     near-above (bit w) (bit (bitOr b (b / 2 ^ 4)))
     (near-twice (bit w) b 4
@@ -117,7 +118,8 @@ module _ (a b : ℕ → Bool) (k : ℕ) (l : k < 8) where
       ])
 
 -- what `minima` computes
-pub minima-bits : (a b c d : ℕ) → Bits c (above (bit b)) → Bits d (above (bit a)) → Bits (bitOr (bitAnd a c) (bitAnd b d)) (smaller (bit a) (bit b))
+pub minima-bits : (a b c d : ℕ) → Bits c (above (bit b)) → Bits d (above (bit a))
+    → Bits (bitOr (bitAnd a c) (bitAnd b d)) (smaller (bit a) (bit b))
 minima-bits a b c d p q k h =
     bit-or (bitAnd a c) (bitAnd b d) k
     ∙ ap (λ (t : Bool). t || bit (bitAnd b d) k) (bit-and a c k ∙ ap (λ (t : Bool). bit a k && t) (p k h))

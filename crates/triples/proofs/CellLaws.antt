@@ -81,7 +81,8 @@ module _ (n : ℕ) (a : List ℕ) where
   unfolding lap
   laps-still s m left e q h same =
       let still : triples-in n m ≡ triples-in n s =
-      triples-at-0 n m h ∙ same-triples-sound (triples-at n m 0) (triples-in n s) (to-T (same-triples (triples-at n m 0) (triples-in n s)) (sym same)) in
+      triples-at-0 n m h ∙ same-triples-sound (triples-at n m 0) (triples-in n s)
+      (to-T (same-triples (triples-at n m 0) (triples-in n s)) (sym same)) in
       sym (e ∙ repeat-stays left (lap n base) (triples-in n s) (sym q ∙ still))
 
   pub laps-end : (s : List ℕ) (left : ℕ) → left ≤ 0 → On-way s left → triples-in n s ≡ laps n base
@@ -105,11 +106,13 @@ module _ (n mask : ℕ) (a : Triples) (s : List ℕ) (e : triples-in n s ≡ lap
       some-same 8 (λ x. bit mask x && holds (triples-in n s) f x f) (λ x. bit mask x && bits (bytes s) f x f)
       (λ x hx. ap (λ (t : Bool). bit mask x && t) (holds-those n (bits (bytes s)) f x f hf hx hf)))
 
-  pub rejecting-found : (f : ℕ) → f < n → bytes s (f * 12 + f) < 2 ^ 8 → (bitAnd (bytes s (f * 12 + f)) mask ≡ 0 → ⊥) → true ≡ rejecting (bit mask) n a
+  pub rejecting-found : (f : ℕ) → f < n → bytes s (f * 12 + f) < 2 ^ 8 → (bitAnd (bytes s (f * 12 + f)) mask ≡ 0 → ⊥)
+      → true ≡ rejecting (bit mask) n a
   rejecting-found f h b d =
       sym
       (rejecting-diagonal
-      ∙ of-T (some n (diagonal s mask)) (some-in n (diagonal s mask) f h (to-T (diagonal s mask f) (met-some (bytes s (f * 12 + f)) mask b d))))
+      ∙ of-T (some n (diagonal s mask))
+      (some-in n (diagonal s mask) f h (to-T (diagonal s mask f) (met-some (bytes s (f * 12 + f)) mask b d))))
 
 pub diagonal-more : (s : List ℕ) (mask f : ℕ) → some f (diagonal s mask) ≡ false → bitAnd (bytes s (f * 12 + f)) mask ≡ 0
     → some (f + 1) (diagonal s mask) ≡ false

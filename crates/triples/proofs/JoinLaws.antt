@@ -69,7 +69,8 @@ module _ (n : ℕ) (s a b : List ℕ) where
   joined-start = record { done = λ f x g h. absurd (omega arith); rest = λ i h. refl }
 
   -- one row more
-  pub joined-more : (t u : List ℕ) (f : ℕ) → n ≤ 12 → Joined-to n s a b f t → Row-with t f 12 (by-way a b n f) u → Joined-to n s a b (f + 1) u
+  pub joined-more : (t u : List ℕ) (f : ℕ) → n ≤ 12 → Joined-to n s a b f t → Row-with t f 12 (by-way a b n f) u
+      → Joined-to n s a b (f + 1) u
   joined-more t u f h p r =
       record {
         done = λ i x j hi hx hj. at i x j hi hx hj (ℕ-discrete i f);
@@ -84,10 +85,12 @@ module _ (n : ℕ) (s a b : List ℕ) where
           ap (λ (w : ℕ). bit w x) (r .rest (i * 12 + j) (λ k m. d (omega arith))) ∙ p .done i x j (omega arith) hx hj
 
   -- all rows
-  pub joined-all : (t : List ℕ) → Joined-to n s a b n t → triples-in n t ≡ either n (triples-in n s) (join n (triples-in n a) (triples-in n b))
+  pub joined-all : (t : List ℕ) → Joined-to n s a b n t
+      → triples-in n t ≡ either n (triples-in n s) (join n (triples-in n a) (triples-in n b))
   joined-all t p =
       those-same n (bits (bytes t)) (joined-test s a b n) (p .done)
-      ∙ sym (ap (either n (triples-in n s)) (join-those n (bits (bytes a)) (bits (bytes b))) ∙ either-those n (bits (bytes s)) (by-way a b n))
+      ∙ sym (ap (either n (triples-in n s)) (join-those n (bits (bytes a)) (bits (bytes b)))
+      ∙ either-those n (bits (bytes s)) (by-way a b n))
 
 -- joined to nothing
 pub joined-none : (n : ℕ) (z a b : List ℕ) → n ≤ 12 → ((i : ℕ) → i < 144 → getD z i 0 ≡ 0)

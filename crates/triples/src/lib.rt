@@ -54,7 +54,8 @@ fn joined_row(a: &[u8; 144], b: &[u8; 144], n: usize, f: usize, t: &mut [u8; 144
 // The triples in s, with a joined with b.
 fn joined_or(s: &[u8; 144], a: &[u8; 144], b: &[u8; 144], n: usize) -> [u8; 144]
     requires { ⌜ n ≤ 12 ⌝ }
-    ensures { λ r. ⌜ triples-in n r ≡ either n (triples-in n (now (s .entry))) (join n (triples-in n (now (a .entry))) (triples-in n (now (b .entry)))) ⌝ }
+    ensures { λ r. ⌜ triples-in n r ≡ either n (triples-in n (now (s .entry)))
+        (join n (triples-in n (now (a .entry))) (triples-in n (now (b .entry)))) ⌝ }
 {
     let mut t = *s;
     let mut f = 0;

@@ -43,7 +43,8 @@ found-apart met stem cycle K P h s =
       refusal = low 0 256 (met + 2 * sizes) (omega arith);
       met-is = part n 0 256 met 2 sizes (omega arith) (omega arith) (omega arith);
       stem-is = part n (256 * met) 512 stem 8192 around (omega arith) (omega arith) (omega (arith, s .stem-fits));
-      cycle-is = part n (256 * met + 512 * stem) 4194304 cycle 8192 counts (omega arith) (omega (arith, s .stem-fits)) (omega (arith, s .cycle-fits));
+      cycle-is = part n (256 * met + 512 * stem) 4194304 cycle 8192 counts (omega arith) (omega (arith, s .stem-fits))
+          (omega (arith, s .cycle-fits));
       nodes-are =
           part n (256 * met + 512 * stem + 4194304 * cycle) 34359738368 K 8192 P (omega arith) (omega (arith, s .stem-fits, s .cycle-fits))
           (omega (arith, s .nodes-fit));

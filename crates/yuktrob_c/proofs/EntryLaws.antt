@@ -1,5 +1,5 @@
--- The bytes of a row are the command and the argument of the operator that they decode to, as every command of an accepted formula is known;
--- so the number made of them is the definition's. Assumes nothing.
+-- The bytes of a row are the command and the argument of the operator that they decode to, as every command of an accepted formula is
+-- known; so the number made of them is the definition's. Assumes nothing.
 use mathlib.Core.Path.{_≡_, refl, sym, ap, _∙_}
 use mathlib.Core.Bool.{Bool, cond}
 use mathlib.Core.List.{List, map}
@@ -34,7 +34,8 @@ With op k = 2 < op → op < 8 → (a e : ℕ) → a ≡ argument-of (operator-of
 
 pub argument-kept : (op : ℕ) → With op (opcode op)
 argument-kept =
-    by-opcode With (λ i j. absurd (omega arith)) (λ i j. absurd (omega arith)) (λ i j. absurd (omega arith)) (λ i j a e. refl) (λ i j a e. refl)
+    by-opcode With (λ i j. absurd (omega arith)) (λ i j. absurd (omega arith)) (λ i j. absurd (omega arith)) (λ i j a e. refl)
+    (λ i j a e. refl)
     (λ i j a e. refl) (λ i j a e. refl) (λ i j a e. refl) (λ i j. absurd (omega arith)) (λ i j. absurd (omega arith))
     (λ i j. absurd (omega arith)) (λ op l i j. absurd (omega arith))
 
@@ -43,7 +44,8 @@ Before op k = 0 < op → op < 3 → (a e : ℕ) → 0 ≡ argument-of (operator-
 
 pub none-before : (op : ℕ) → Before op (opcode op)
 none-before =
-    by-opcode Before (λ i j. absurd (omega arith)) (λ i j a e. refl) (λ i j a e. refl) (λ i j. absurd (omega arith)) (λ i j. absurd (omega arith))
+    by-opcode Before (λ i j. absurd (omega arith)) (λ i j a e. refl) (λ i j a e. refl) (λ i j. absurd (omega arith))
+    (λ i j. absurd (omega arith))
     (λ i j. absurd (omega arith)) (λ i j. absurd (omega arith)) (λ i j. absurd (omega arith)) (λ i j. absurd (omega arith))
     (λ i j. absurd (omega arith)) (λ i j. absurd (omega arith)) (λ op l i j. absurd (omega arith))
 
@@ -53,10 +55,12 @@ Behind op k = 7 < op → op < 11 → (a e : ℕ) → 0 ≡ argument-of (operator
 pub none-behind : (op : ℕ) → Behind op (opcode op)
 none-behind =
     by-opcode Behind (λ i j. absurd (omega arith)) (λ i j. absurd (omega arith)) (λ i j. absurd (omega arith)) (λ i j. absurd (omega arith))
-    (λ i j. absurd (omega arith)) (λ i j. absurd (omega arith)) (λ i j. absurd (omega arith)) (λ i j. absurd (omega arith)) (λ i j a e. refl)
+    (λ i j. absurd (omega arith)) (λ i j. absurd (omega arith)) (λ i j. absurd (omega arith)) (λ i j. absurd (omega arith))
+    (λ i j a e. refl)
     (λ i j a e. refl) (λ i j a e. refl) (λ op l i j. absurd (omega arith))
 
-pub packed-number : (op a end k x y z r : ℕ) → 0 < op → op < 11 → ((e : ℕ) → k ≡ argument-of (operator-of (opcode op) a e)) → x ≡ k → y ≡ end
+pub packed-number : (op a end k x y z r : ℕ) → 0 < op → op < 11 → ((e : ℕ) → k ≡ argument-of (operator-of (opcode op) a e)) → x ≡ k
+    → y ≡ end
     → z ≡ op → r ≡ number 0 (z + 256 * (x + 256 * y)) → (e : ℕ) → r ≡ number 0 (packed (operator-of (opcode op) a e) end)
 packed-number op a end k x y z r i j h p q s t e = omega (arith, command-right op i j a e, h e)
 
@@ -73,7 +77,8 @@ module _ (t : Table) (e r : ℕ) where
       q ∙ sym (ap (chosen _) (le-ltb e (length (operators-of (t .rows) 0 (t .count))) (omega (arith, count))))
 
   pub entry-there : e < t .count
-      → ((k : ℕ) → r ≡ number 0 (packed (operator-of (opcode (getD (t .rows) e 0)) (getD (t .rows) (48 + e) 0) k) (getD (t .rows) (96 + e) 0)))
+      → ((k : ℕ) → r ≡ number 0
+      (packed (operator-of (opcode (getD (t .rows) e 0)) (getD (t .rows) (48 + e) 0) k) (getD (t .rows) (96 + e) 0)))
       → r ≡ entry-number (Reading.accepted (entries-of t)) e
   entry-there l h =
       h e

@@ -31,5 +31,6 @@ module _ {bytes : List ℕ} {N M : ℕ} {w w′ b b′ : List ℕ} {v : code.Ver
   pub decided-fits : VerdictFits v
   decided-fits = bounded-fits N M v (decided-bounded d)
 
-  pub decided-number : {n : ℕ} → n ≡ verdict-number v → (n ≡ verdict-number (answer-of bytes N M w b)) × Decided bytes N M w w′ b b′ (answer-of bytes N M w b)
+  pub decided-number : {n : ℕ} → n ≡ verdict-number v → (n ≡ verdict-number (answer-of bytes N M w b)) × Decided bytes N M w w′ b b′
+      (answer-of bytes N M w b)
   decided-number e = (e ∙ ap verdict-number (d .answered), record { answered = refl; buffered = d .buffered; worked = d .worked })

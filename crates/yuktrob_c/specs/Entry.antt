@@ -34,7 +34,8 @@ packed o end = command-of o + 256 * (argument-of o + 256 * end)
 -- "every operation that reads a rule passes it on"; an entry that is not there is 0, which is no command
 abbrev pub entry-number : Reading Entries → (e : ℕ) → ℕ
 entry-number (Reading.refused code place) e = number code place
-entry-number (Reading.accepted x) e = number 0 (cond (ltb e (length (x .operators))) (packed (operator (x .operators) e) (getD (x .ends) e 0)) 0)
+entry-number (Reading.accepted x) e =
+    number 0 (cond (ltb e (length (x .operators))) (packed (operator (x .operators) e) (getD (x .ends) e 0)) 0)
 
 -- The table's rows are few, and each has a command.
 pub record Commands (t : Table) : Type 0 where

@@ -125,8 +125,10 @@ pub extern "C" fn yuktrob_entry(rule: &[u8], e: usize) -> u64
 // The truth of a formula on a lasso.
 #[no_mangle]
 pub extern "C" fn yuktrob_truth(rule: &[u8], places: &[u16], lead: usize, words: &mut [u64]) -> u64
-    ensures numbered { λ r. ⌜ r ≡ truth-number (answer (truth (now (rule .entry)) (lasso (now (places .entry)) lead) (length (now (words .entry))))) ⌝ }
-    ensures labelled { λ _. ⌜ now (words .exit) ≡ written (truth (now (rule .entry)) (lasso (now (places .entry)) lead) (length (now (words .entry)))) (now (words .entry)) ⌝ }
+    ensures numbered { λ r. ⌜ r ≡ truth-number
+        (answer (truth (now (rule .entry)) (lasso (now (places .entry)) lead) (length (now (words .entry))))) ⌝ }
+    ensures labelled { λ _. ⌜ now (words .exit) ≡ written
+        (truth (now (rule .entry)) (lasso (now (places .entry)) lead) (length (now (words .entry)))) (now (words .entry)) ⌝ }
 {
     truth_number(lasso::evaluate(rule, places, lead, words))
 }
@@ -140,8 +142,10 @@ pub extern "C" fn yuktrob_decide(
     work: &mut [u8],
     course: &mut [u16],
 ) -> u64
-    ensures numbered { λ r. ⌜ r ≡ verdict-number (answer-of (now (rule .entry)) nodes profiles (now (work .entry)) (now (course .entry))) ⌝ }
-    ensures decided { λ _. ⌜ Decided (now (rule .entry)) nodes profiles (now (work .entry)) (now (work .exit)) (now (course .entry)) (now (course .exit)) (answer-of (now (rule .entry)) nodes profiles (now (work .entry)) (now (course .entry))) ⌝ }
+    ensures numbered { λ r. ⌜ r ≡ verdict-number
+        (answer-of (now (rule .entry)) nodes profiles (now (work .entry)) (now (course .entry))) ⌝ }
+    ensures decided { λ _. ⌜ Decided (now (rule .entry)) nodes profiles (now (work .entry)) (now (work .exit)) (now (course .entry))
+        (now (course .exit)) (answer-of (now (rule .entry)) nodes profiles (now (work .entry)) (now (course .entry))) ⌝ }
 {
     verdict_number(decision::decide(rule, nodes, profiles, work, course))
 }

@@ -23,16 +23,23 @@ abbrev μ-loop : tie.MeasureT-loop
 μ-loop area shelf count mask p₀ p = count - p
 
 loop-holds : tie.Need-loop-holds Inv-loop μ-loop
-loop-holds c = let u = c .before in (first-start (test (u .args .area .now) (u .args .shelf) (u .args .mask)), omega arith)
+loop-holds c =
+    let u = c .before in
+    (first-start (test (u .args .area .now) (u .args .shelf) (u .args .mask)), omega arith)
 
 is-accepting-requires : tie.Need-is-accepting-requires Inv-loop μ-loop
-is-accepting-requires c κs = (c .before .before .before .pre .0, omega (arith, c .before .before .before .pre .1))
+is-accepting-requires c κs =
+    let start = c .before .before .before in
+    (start .pre .0, omega (arith, start .pre .1))
 
 returns : tie.Need-returns Inv-loop μ-loop
 returns c =
-    let u = c .before .before .before .before .before in
-    let l = c .before .before .before .loop in
-    first-found (test (u .args .area .now) (u .args .shelf) (u .args .mask)) (u .args .count) (l .p) (omega arith) (l .inv .0) (sym (c .before .is-accepting .ensures) ∙ c .if1 .taken)
+    let before = c .before .before .before .before .before in
+    let loop = c .before .before .before .loop in
+    let u = before in
+    let l = loop in
+    first-found (test (u .args .area .now) (u .args .shelf) (u .args .mask)) (u .args .count) (l .p) (omega arith) (l .inv .0)
+    (sym (c .before .is-accepting .ensures) ∙ c .if1 .taken)
 
 add-p : tie.Need-add-p Inv-loop μ-loop
 add-p c = search needs
@@ -42,15 +49,22 @@ loop-less c = search needs
 
 loop-again : tie.Need-loop-again Inv-loop μ-loop
 loop-again c =
-    let u = c .before .before .before .before .before in
-    let l = c .before .before .before .loop in
-    (first-next (test (u .args .area .now) (u .args .shelf) (u .args .mask)) (l .p) (l .inv .0) (sym (c .before .is-accepting .ensures) ∙ c .if1 .left), omega arith)
+    let before = c .before .before .before .before .before in
+    let loop = c .before .before .before .loop in
+    let u = before in
+    let l = loop in (
+      first-next (test (u .args .area .now) (u .args .shelf) (u .args .mask)) (l .p) (l .inv .0)
+          (sym (c .before .is-accepting .ensures) ∙ c .if1 .left),
+      omega arith,
+    )
 
 returns-2 : tie.Need-returns-2 Inv-loop μ-loop
 returns-2 c =
-    let u = c .before .before .before in
+    let before = c .before .before .before in
+    let u = before in
     let l = c .before .loop in
-    first-none (test (u .args .area .now) (u .args .shelf) (u .args .mask)) (u .args .count) (l .p) (l .inv .1) (omega arith) (l .inv .0)
+    first-none (test (u .args .area .now) (u .args .shelf) (u .args .mask)) (u .args .count) (l .p) (l .inv .1) (omega arith)
+    (l .inv .0)
 
 pub accepting-spec : {M : Type 1} → statement M
 accepting-spec =

@@ -16,8 +16,21 @@ accepting-requires c κs = search needs
 
 witnessed-requires : tie.Need-witnessed-requires
 witnessed-requires c κs =
-    let u = c .before .before .before .before .before .before in
-    (u .pre .0, ((c .before .if1 .taken, (first-same (λ i. accepts-same (table-of (u .args .rows .now) (u .args .count)) (u .args .shelf .n) (bit (c .before .before .before .least-mask .result)) (record-of (u .args .shelf) (u .args .area .now) i) (u .pre .0 .operands-are) (c .before .before .before .least-mask .ensures)) (c .before .before .accepting .ensures))), u .pre .1 .1))
+    let before = c .before .before .before .before .before .before in
+    let least-mask = c .before .before .before .least-mask in
+    let accepting = c .before .before .accepting in
+    let u = before in (
+      u .pre .0,
+      (
+        (
+          c .before .if1 .taken,
+          (first-same (λ i. accepts-same (table-of (u .args .rows .now) (u .args .count)) (u .args .shelf .n)
+              (bit (least-mask .result)) (record-of (u .args .shelf) (u .args .area .now) i) (u .pre .0 .operands-are)
+              (least-mask .ensures)) (accepting .ensures)),
+        ),
+        u .pre .1 .1,
+      ),
+    )
 
 same-length : tie.Need-same-length
 same-length c = search needs
@@ -27,8 +40,13 @@ returns c = search needs
 
 returns-2 : tie.Need-returns-2
 returns-2 c =
-    let u = c .before .before .before .before .before in
-    none-answers (u .pre .0) (u .args .letters .now) (omega (arith, c .if1 .left)) (first-same (λ i. accepts-same (table-of (u .args .rows .now) (u .args .count)) (u .args .shelf .n) (bit (c .before .before .least-mask .result)) (record-of (u .args .shelf) (u .args .area .now) i) (u .pre .0 .operands-are) (c .before .before .least-mask .ensures)) (c .before .accepting .ensures))
+    let before = c .before .before .before .before .before in
+    let least-mask = c .before .before .least-mask in
+    let u = before in
+    none-answers (u .pre .0) (u .args .letters .now) (omega (arith, c .if1 .left))
+    (first-same (λ i. accepts-same (table-of (u .args .rows .now) (u .args .count)) (u .args .shelf .n)
+    (bit (least-mask .result)) (record-of (u .args .shelf) (u .args .area .now) i) (u .pre .0 .operands-are)
+    (least-mask .ensures)) (c .before .accepting .ensures))
 
 pub answered-spec : {M : Type 1} → statement M
 answered-spec =

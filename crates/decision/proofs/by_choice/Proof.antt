@@ -14,13 +14,27 @@ enum-known-to : tie.Need-enum-known-to
 enum-known-to c = search needs
 
 returns : tie.Need-returns
-returns c = let a = c .before .before .before .before .before .args in tries-found (a .number) (a .set) (c .before .before .before .before .by-word .ensures) (c .before .before .to .given .1) (c .if1 .taken)
+returns c =
+    let start = c .before .before .before .before .before in
+    let by-word = c .before .before .before .before .by-word in
+    let to = c .before .before .to in
+    let a = start .args in
+    tries-found (a .number) (a .set) (by-word .ensures) (to .given .1) (c .if1 .taken)
 
 returns-2 : tie.Need-returns-2
-returns-2 c = let a = c .before .before .before .args in tries-nowhere (a .number) (a .set) (c .before .before .by-word .ensures) (c .enum-told .given .1)
+returns-2 c =
+    let start = c .before .before .before in
+    let by-word = c .before .before .by-word in
+    let a = start .args in
+    tries-nowhere (a .number) (a .set) (by-word .ensures) (c .enum-told .given .1)
 
 returns-3 : tie.Need-returns-3
-returns-3 c = let a = c .before .before .before .before .before .args in tries-other (a .number) (a .set) (c .before .before .before .before .by-word .ensures) (c .before .before .to .given .1) (c .if1 .left)
+returns-3 c =
+    let start = c .before .before .before .before .before in
+    let by-word = c .before .before .before .before .by-word in
+    let to = c .before .before .to in
+    let a = start .args in
+    tries-other (a .number) (a .set) (by-word .ensures) (to .given .1) (c .if1 .left)
 
 pub by-choice-spec : {M : Type 1} → statement M
 by-choice-spec =

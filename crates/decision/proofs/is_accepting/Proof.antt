@@ -14,8 +14,10 @@ ends-of-requires c κs = search needs
 
 returns : tie.Need-returns
 returns c =
-    let a = c .before .before .before .before .args in
-    let e = c .before .before .ends-of .ensures in
+    let start = c .before .before .before .before in
+    let ends-of = c .before .before .ends-of in
+    let a = start .args in
+    let e = ends-of .ensures in
     accepts-open (bit (a .mask)) (a .shelf .n) (record-of (a .shelf) (a .area .now) (a .p)) (e .first) (e .last) (c .if1 .taken)
 
 place-requires : tie.Need-place-requires
@@ -26,10 +28,14 @@ is-rejecting-requires c κs = search needs
 
 returns-2 : tie.Need-returns-2
 returns-2 c =
-    let a = c .before .before .before .before .before .before .args in
-    let e = c .before .before .before .before .ends-of .ensures in
-    accepts-closed (bit (a .mask)) (a .shelf .n) (record-of (a .shelf) (a .area .now) (a .p)) (e .first) (e .last) (c .before .before .if1 .left)
-    (c .is-rejecting .ensures ∙ ap (λ (y : Triples). rejecting (bit (a .mask)) (a .shelf .n) y) (carried-at (a .shelf) (a .area .now) (a .p) (c .before .place .ensures)))
+    let start = c .before .before .before .before .before .before in
+    let ends-of = c .before .before .before .before .ends-of in
+    let if1 = c .before .before .if1 in
+    let a = start .args in
+    let e = ends-of .ensures in
+    accepts-closed (bit (a .mask)) (a .shelf .n) (record-of (a .shelf) (a .area .now) (a .p)) (e .first) (e .last) (if1 .left)
+    (c .is-rejecting .ensures ∙ ap (λ (y : Triples). rejecting (bit (a .mask)) (a .shelf .n) y)
+    (carried-at (a .shelf) (a .area .now) (a .p) (c .before .place .ensures)))
 
 pub is-accepting-spec : {M : Type 1} → statement M
 is-accepting-spec =

@@ -17,27 +17,53 @@ add-at : tie.Need-add-at Inv-loop μ-loop
 add-at c = search needs
 
 loop-holds : tie.Need-loop-holds Inv-loop μ-loop
-loop-holds c = let u = c .before in counted-start (record-of (u .args .shelf) (u .args .area .now)) (u .args .p) (u .args .p + 1) (omega arith)
+loop-holds c =
+    let u = c .before in
+    counted-start (record-of (u .args .shelf) (u .args .area .now)) (u .args .p) (u .args .p + 1) (omega arith)
 
 add-n : tie.Need-add-n Inv-loop μ-loop
 add-n c =
-    let u = c .before .before .before in
-    record { fits = omega (arith, counted-room (record-of (u .args .shelf) (u .args .area .now)) (u .pre .1 .1) (c .before .loop .inv), u .pre .1 .0, u .pre .0 .few) }
+    let before = c .before .before .before in
+    let u = before in
+    record {
+      fits = omega (
+        arith,
+        counted-room (record-of (u .args .shelf) (u .args .area .now)) (u .pre .1 .1) (c .before .loop .inv),
+        u .pre .1 .0,
+        u .pre .0 .few,
+      );
+    }
 
 sub-ends-of : tie.Need-sub-ends-of Inv-loop μ-loop
 sub-ends-of c = search needs
 
 ends-of-requires : tie.Need-ends-of-requires Inv-loop μ-loop
-ends-of-requires c κs = let u = c .before .before .before in (u .pre .0, omega (arith, c .before .loop .inv .low, u .pre .1 .0))
+ends-of-requires c κs =
+    let before = c .before .before .before in
+    let u = before in
+    (u .pre .0, omega (arith, c .before .loop .inv .low, u .pre .1 .0))
 
 loop-less : tie.Need-loop-less Inv-loop μ-loop
-loop-less c = let u = c .before .before .before .before in counted-less (record-of (u .args .shelf) (u .args .area .now)) (u .pre .1 .1) (c .before .before .loop .inv) (omega arith) (c .ends-of .ensures .parent)
+loop-less c =
+    let before = c .before .before .before .before in
+    let loop = c .before .before .loop in
+    let u = before in
+    counted-less (record-of (u .args .shelf) (u .args .area .now)) (u .pre .1 .1) (loop .inv) (omega arith)
+    (c .ends-of .ensures .parent)
 
 loop-again : tie.Need-loop-again Inv-loop μ-loop
-loop-again c = let u = c .before .before .before .before in counted-next (record-of (u .args .shelf) (u .args .area .now)) (u .pre .1 .1) (c .before .before .loop .inv) (omega arith) (c .ends-of .ensures .parent)
+loop-again c =
+    let before = c .before .before .before .before in
+    let loop = c .before .before .loop in
+    let u = before in
+    counted-next (record-of (u .args .shelf) (u .args .area .now)) (u .pre .1 .1) (loop .inv) (omega arith)
+    (c .ends-of .ensures .parent)
 
 returns : tie.Need-returns Inv-loop μ-loop
-returns c = let u = c .before .before .before in counted-end (record-of (u .args .shelf) (u .args .area .now)) (u .pre .1 .1) (c .before .loop .inv) (omega arith)
+returns c =
+    let before = c .before .before .before in
+    let u = before in
+    counted-end (record-of (u .args .shelf) (u .args .area .now)) (u .pre .1 .1) (c .before .loop .inv) (omega arith)
 
 pub length-of-spec : {M : Type 1} → statement M
 length-of-spec =

@@ -16,7 +16,11 @@ same-length : tie.Need-same-length
 same-length c = search needs
 
 returns : tie.Need-returns
-returns c = let u = c .before .before .before .before .before .before .before in nodes-14 (u .pre .0) (u .pre .1) (c .before .before .before .nodes .ensures) (c .if1 .taken) (u .args .letters .now)
+returns c =
+    let before = c .before .before .before .before .before .before .before in
+    let nodes = c .before .before .before .nodes in
+    let u = before in
+    nodes-14 (u .pre .0) (u .pre .1) (nodes .ensures) (c .if1 .taken) (u .args .letters .now)
 
 ranked-requires : tie.Need-ranked-requires
 ranked-requires c κs = search needs
@@ -26,17 +30,21 @@ mul-t15 c = search needs
 
 -- the nodes have room, and the shelf stands behind them
 behind : (c : tie.After-ranked) → let u = c .before .before .before .before .before .before .before .before in
-    Behind (u .args .rows .now) (u .args .count) (u .args .node-capacity) (u .args .profile-capacity) (length (u .args .letters .now)) (u .args .area .now)
+    Behind (u .args .rows .now) (u .args .count) (u .args .node-capacity) (u .args .profile-capacity) (length (u .args .letters .now))
+    (u .args .area .now)
     (c .before .before .before .before .nodes .last .1 .1 .0) (c .before .before .before .before .nodes .result) (c .ranked .result)
     (record { base = 8 * u .args .node-capacity; capacity = u .args .profile-capacity; n = c .ranked .result .nexts })
 behind c =
-    let u = c .before .before .before .before .before .before .before .before in
+    let before = c .before .before .before .before .before .before .before .before in
+    let nodes = c .before .before .before .before .nodes in
+    let u = before in
     record {
       decoded = u .pre .0;
       lends = u .pre .1;
-      holds = c .before .before .before .before .nodes .ensures;
+      holds = nodes .ensures;
       fits = omega (arith, c .before .if1 .left);
-      ranks = c .ranked .ensures;
+      ranks =
+          c .ranked .ensures;
       base-is = refl;
       capacity-is = refl;
       nexts-are = refl;
@@ -49,13 +57,20 @@ same-length-2 : tie.Need-same-length-2
 same-length-2 c = search needs
 
 returns-2 : tie.Need-returns-2
-returns-2 c = profiles-15 (behind (c .before .before .before .before .before)) (c .before .before .before .profiles-of .ensures) (c .if2 .taken) (c .before .before .before .before .before .before .before .before .before .before .before .before .before .args .letters .now)
+returns-2 c =
+    let before = c .before .before .before .before .before in
+    let profiles-of = c .before .before .before .profiles-of in
+    let start = c .before .before .before .before .before .before .before .before .before .before .before .before .before in
+    profiles-15 (behind (before)) (profiles-of .ensures) (c .if2 .taken) (start .args .letters .now)
 
 answered-requires : tie.Need-answered-requires
 answered-requires c κs =
-    let b = behind (c .before .before .before .before .before .before .before .before .before) in
-    let g = c .before .before .before .before .before .before .before .profiles-of .ensures in
-    (all-profiled b g (omega (arith, c .before .before .before .before .if2 .left)), (b .ranks .fix-is, buffer-room b g (omega (arith, c .before .before .before .before .if2 .left))))
+    let before = c .before .before .before .before .before .before .before .before .before in
+    let profiles-of = c .before .before .before .before .before .before .before .profiles-of in
+    let if2 = c .before .before .before .before .if2 in
+    let b = behind (before) in
+    let g = profiles-of .ensures in
+    (all-profiled b g (omega (arith, if2 .left)), (b .ranks .fix-is, buffer-room b g (omega (arith, if2 .left))))
 
 same-length-3 : tie.Need-same-length-3
 same-length-3 c = search needs
@@ -64,7 +79,12 @@ same-length-4 : tie.Need-same-length-4
 same-length-4 c = search needs
 
 returns-3 : tie.Need-returns-3
-returns-3 c = answer-on (behind (c .before .before .before .before .before .before .before .before .before .before .before .before)) (c .before .before .before .before .before .before .before .before .before .before .profiles-of .ensures) (omega (arith, c .before .before .before .before .before .before .before .if2 .left)) (c .before .before .answered .ensures)
+returns-3 c =
+    let before = c .before .before .before .before .before .before .before .before .before .before .before .before in
+    let profiles-of = c .before .before .before .before .before .before .before .before .before .before .profiles-of in
+    let if2 = c .before .before .before .before .before .before .before .if2 in
+    let answered = c .before .before .answered in
+    answer-on (behind (before)) (profiles-of .ensures) (omega (arith, if2 .left)) (answered .ensures)
 
 pub searched-spec : {M : Type 1} → statement M
 searched-spec =

@@ -33,9 +33,14 @@ enum-told c = search needs
 
 returns : tie.Need-returns Inv-loop μ-loop
 returns c =
-    let a = c .before .before .before .before .before .before .before .before .before .args in
-    tries-some (table-of (a .rows .now) (a .count)) (a .count) (a .number) (a .from) (a .set) (c .before .before .before .before .before .before .power .ensures) (c .before .before .before .before .before .before .before .ors .ensures) (c .before .before .before .before .before .loop .word) (omega arith)
-    (c .enum-told .given .0 .0) (c .enum-told .given .0 .1 .0) (c .enum-told .given .1) (c .before .before .by-choice .ensures)
+    let start = c .before .before .before .before .before .before .before .before .before in
+    let power = c .before .before .before .before .before .before .power in
+    let ors = c .before .before .before .before .before .before .before .ors in
+    let loop = c .before .before .before .before .before .loop in
+    let by-choice = c .before .before .by-choice in
+    let a = start .args in
+    tries-some (table-of (a .rows .now) (a .count)) (a .count) (a .number) (a .from) (a .set) (power .ensures) (ors .ensures)
+    (loop .word) (omega arith) (c .enum-told .given .0 .0) (c .enum-told .given .0 .1 .0) (c .enum-told .given .1) (by-choice .ensures)
 
 enum-told-2 : tie.Need-enum-told-2 Inv-loop μ-loop
 enum-told-2 c = search needs
@@ -48,15 +53,21 @@ loop-less c = search needs
 
 loop-again : tie.Need-loop-again Inv-loop μ-loop
 loop-again c =
-    let a = c .before .before .before .before .before .before .before .before .before .args in
-    none-next (table-of (a .rows .now) (a .count)) (a .count) (a .number) (a .from) (a .set) (c .before .before .before .before .before .loop .word) (c .before .before .before .before .before .loop .inv) (c .enum-told2 .given .1)
-    (c .before .before .by-choice .ensures)
+    let start = c .before .before .before .before .before .before .before .before .before in
+    let loop = c .before .before .before .before .before .loop in
+    let by-choice = c .before .before .by-choice in
+    let a = start .args in
+    none-next (table-of (a .rows .now) (a .count)) (a .count) (a .number) (a .from) (a .set) (loop .word) (loop .inv)
+    (c .enum-told2 .given .1) (by-choice .ensures)
 
 returns-2 : tie.Need-returns-2 Inv-loop μ-loop
 returns-2 c =
-    let a = c .before .before .before .before .before .args in
-    tries-end (table-of (a .rows .now) (a .count)) (a .count) (a .number) (a .from) (a .set) (c .before .before .power .ensures) (c .before .before .before .ors .ensures) (c .before .loop .word) (omega arith)
-    (c .before .loop .inv)
+    let start = c .before .before .before .before .before in
+    let power = c .before .before .power in
+    let ors = c .before .before .before .ors in
+    let a = start .args in
+    tries-end (table-of (a .rows .now) (a .count)) (a .count) (a .number) (a .from) (a .set) (power .ensures) (ors .ensures)
+    (c .before .loop .word) (omega arith) (c .before .loop .inv)
 
 pub to-set-spec : {M : Type 1} → statement M
 to-set-spec =

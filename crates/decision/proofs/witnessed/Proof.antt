@@ -12,26 +12,43 @@ length-of-requires c κs =
     (u .pre .0 .lent, (omega (arith, u .pre .0 .few, u .pre .1 .0 .0), profiled-linked (u .pre .0) (u .args .p) (u .pre .1 .0 .0)))
 
 ends-of-requires : tie.Need-ends-of-requires
-ends-of-requires c κs = let u = c .before .before .before in (u .pre .0 .lent, omega (arith, u .pre .0 .few, u .pre .1 .0 .0))
+ends-of-requires c κs =
+    let before = c .before .before .before in
+    let u = before in
+    (u .pre .0 .lent, omega (arith, u .pre .0 .few, u .pre .1 .0 .0))
 
 write-stem-requires : tie.Need-write-stem-requires
 write-stem-requires c κs =
-    let u = c .before .before .before .before .before .before in (
+    let before = c .before .before .before .before .before .before in
+    let ends-of = c .before .before .ends-of in
+    let u = before in (
       u .pre .0 .standing,
-      (omega (arith, c .before .before .ends-of .ensures .first, first-node (u .pre .0) (u .args .p) (u .pre .1 .0 .0)), omega (arith, u .pre .0 .nodes-are, u .pre .1 .1)),
+      (
+        omega (arith, ends-of .ensures .first, first-node (u .pre .0) (u .args .p) (u .pre .1 .0 .0)),
+        omega
+            (arith, u .pre .0 .nodes-are, u .pre .1 .1),
+      ),
     )
 
 write-cycle-requires : tie.Need-write-cycle-requires
 write-cycle-requires c κs =
-    let u = c .before .before .before .before .before .before .before .before .before .before in
-    let n = c .before .before .before .before .before .before .before .length-of .ensures in (
+    let before = c .before .before .before .before .before .before .before .before .before .before in
+    let length-of = c .before .before .before .before .before .before .before .length-of in
+    let ends-of = c .before .before .before .before .before .before .ends-of in
+    let write-stem = c .before .before .before .write-stem in
+    let u = before in
+    let n = length-of .ensures in (
       u .pre .0 .lent,
       (
-        (omega (arith, u .pre .0 .few, u .pre .1 .0 .0), profiled-linked (u .pre .0) (u .args .p) (u .pre .1 .0 .0)),
+        (
+          omega (arith, u .pre .0 .few, u .pre .1 .0 .0),
+          profiled-linked (u .pre .0) (u .args .p)
+              (u .pre .1 .0 .0),
+        ),
         (
           n,
           cycle-fits (u .pre .0) (u .args .p) (u .pre .1 .0 .0) (u .pre .1 .1)
-              (omega (arith, c .before .before .before .before .before .before .ends-of .ensures .first, first-node (u .pre .0) (u .args .p) (u .pre .1 .0 .0))) (c .before .before .before .write-stem .ensures) n,
+              (omega (arith, ends-of .ensures .first, first-node (u .pre .0) (u .args .p) (u .pre .1 .0 .0))) (write-stem .ensures) n,
         ),
       ),
     )
@@ -41,9 +58,14 @@ same-length c = search needs
 
 returns : tie.Need-returns
 returns c =
-    let u = c .before .before .before .before .before .before .before .before .before .before .before .before .before in
-    witness-answers (u .pre .0) (u .args .p) (u .pre .1 .0 .0) (u .pre .1 .0 .1) (u .pre .1 .1) (c .before .before .before .before .before .before .before .before .before .ends-of .ensures .first) (c .before .before .before .before .before .before .write-stem .ensures) (c .before .before .before .before .before .before .before .before .before .before .length-of .ensures)
-    (c .before .before .write-cycle .ensures)
+    let before = c .before .before .before .before .before .before .before .before .before .before .before .before .before in
+    let ends-of = c .before .before .before .before .before .before .before .before .before .ends-of in
+    let write-stem = c .before .before .before .before .before .before .write-stem in
+    let length-of = c .before .before .before .before .before .before .before .before .before .before .length-of in
+    let write-cycle = c .before .before .write-cycle in
+    let u = before in
+    witness-answers (u .pre .0) (u .args .p) (u .pre .1 .0 .0) (u .pre .1 .0 .1) (u .pre .1 .1) (ends-of .ensures .first)
+    (write-stem .ensures) (length-of .ensures) (write-cycle .ensures)
 
 pub witnessed-spec : {M : Type 1} → statement M
 witnessed-spec =

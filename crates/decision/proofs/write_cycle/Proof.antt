@@ -20,18 +20,22 @@ add-at c = search needs
 loop-holds : tie.Need-loop-holds Inv-loop μ-loop
 loop-holds c =
     let u = c .before .before in
-    back-start (record-of (u .args .shelf) (u .args .area .now)) (u .args .from) (u .args .p) (u .args .n) (u .args .letters .now) (omega arith) (u .pre .1 .1 .0)
+    back-start (record-of (u .args .shelf) (u .args .area .now)) (u .args .from) (u .args .p) (u .args .n)
+    (u .args .letters .now) (omega arith) (u .pre .1 .1 .0)
 
 -- what is known at each turn
 turn : (c : tie.In-loop Inv-loop μ-loop) → let u = c .before .before .before .before in let l = c .before .loop in
-    Turn (record-of (u .args .shelf) (u .args .area .now)) (u .args .from) (u .args .p) (l .at) (l .left) (u .args .letters .now) (l .letters)
+    Turn (record-of (u .args .shelf) (u .args .area .now)) (u .args .from) (u .args .p) (l .at) (l .left) (u .args .letters .now)
+    (l .letters)
 turn c =
-    let u = c .before .before .before .before in
+    let before = c .before .before .before .before in
+    let u = before in
     record {
       linked = u .pre .1 .0 .1;
       room = omega (arith, u .pre .1 .1 .0, u .pre .1 .1 .1);
       some = omega arith;
-      back = c .before .loop .inv;
+      back = c
+          .before .loop .inv;
     }
 
 sub-left : tie.Need-sub-left Inv-loop μ-loop
@@ -41,7 +45,10 @@ sub-ends-of : tie.Need-sub-ends-of Inv-loop μ-loop
 sub-ends-of c = search needs
 
 ends-of-requires : tie.Need-ends-of-requires Inv-loop μ-loop
-ends-of-requires c κs = let u = c .before .before .before .before in (u .pre .0, omega (arith, c .before .loop .inv .low, u .pre .1 .0 .0))
+ends-of-requires c κs =
+    let before = c .before .before .before .before in
+    let u = before in
+    (u .pre .0, omega (arith, c .before .loop .inv .low, u .pre .1 .0 .0))
 
 narrow-requires : tie.Need-narrow-requires Inv-loop μ-loop
 narrow-requires c κs = c .ends-of .ensures .small .letter
@@ -50,7 +57,9 @@ add-letters : tie.Need-add-letters Inv-loop μ-loop
 add-letters c = record { fits = omega (arith, turn-index (turn (c .before .before))) }
 
 mul-letters : tie.Need-mul-letters Inv-loop μ-loop
-mul-letters c = let t = turn (c .before .before) in record { fits = omega (arith, turn-index t, t .back .written .same-length) }
+mul-letters c =
+    let t = turn (c .before .before) in
+    record { fits = omega (arith, turn-index t, t .back .written .same-length) }
 
 slice-write-letters : tie.Need-slice-write-letters Inv-loop μ-loop
 slice-write-letters c = turn-index (turn (c .before .before))
@@ -59,7 +68,9 @@ loop-less : tie.Need-loop-less Inv-loop μ-loop
 loop-less c = turn-less (turn (c .before .before)) (c .before .ends-of .ensures .parent)
 
 loop-again : tie.Need-loop-again Inv-loop μ-loop
-loop-again c = let e = c .before .ends-of .ensures in turn-next (turn (c .before .before)) (e .parent) (c .narrow .ensures ∙ e .letter)
+loop-again c =
+    let e = c .before .ends-of .ensures in
+    turn-next (turn (c .before .before)) (e .parent) (c .narrow .ensures ∙ e .letter)
 
 same-length : tie.Need-same-length Inv-loop μ-loop
 same-length c = search needs

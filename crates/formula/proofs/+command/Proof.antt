@@ -49,7 +49,8 @@ command-calls t = (
 
 -- what opcode_at found
 command-opened : (t : ℕ) (c : command-lts.After-opened2 (command-calls t) (command-at t) command.Post) →
-    Opened (c .before .before .before .before .args .s .now) (c .before .before .before .before .args .h) (c .opened2 .given .0 .0) (c .opened2 .given .0 .1 .0)
+    Opened (c .before .before .before .before .args .s .now) (c .before .before .before .before .args .h) (c .opened2 .given .0 .0)
+    (c .opened2 .given .0 .1 .0)
 command-opened t c = opened-of (c .opened2 .given .1) (c .before .before .opcode-at .ensures)
 
 command-opcode-at-requires : (t : ℕ) → command-lts.Need-opcode-at-requires (command-calls t) (command-at t) command.Post
@@ -66,36 +67,47 @@ command-enum-known-opened-2 t c = c .match .keys2
 
 command-leaf-requires : (t : ℕ) → command-lts.Need-leaf-requires (command-calls t) (command-at t) command.Post
 command-leaf-requires t c κs =
+    let start = c .before .before .before .before .before .before in
     let o = command-opened t (c .before .before) in
-    (o .some, c .if1 .taken, ready-on (o .further) (c .before .before .before .before .before .before .pre .1), o .count)
+    (o .some, c .if1 .taken, ready-on (o .further) (start .pre .1), o .count)
 
 command-returns : (t : ℕ) → command-lts.Need-returns (command-calls t) (command-at t) command.Post
 command-returns t c =
-    let o = command-opened t (c .before .before .before) in
-    opened-command (c .before .before .before .before .before .before .before .args .scope) o (λ k l. agrees-from (o .further) (c .leaf .ensures (formula k)))
+    let before = c .before .before .before in
+    let start = c .before .before .before .before .before .before .before in
+    let o = command-opened t (before) in
+    opened-command (start .args .scope) o (λ k l. agrees-from (o .further) (c .leaf .ensures (formula k)))
 
 command-inside-requires : (t : ℕ) → command-lts.Need-inside-requires (command-calls t) (command-at t) command.Post
-command-inside-requires t c κs = may-enter (command-opened t (c .before .before)) (c .before .before .before .before .before .before .pre .1)
+command-inside-requires t c κs =
+    let start = c .before .before .before .before .before .before in
+    may-enter (command-opened t (c .before .before)) (start .pre .1)
 
 command-command-requires : (t : ℕ) → command-lts.Need-command-requires (command-calls t) (command-at t) command.Post
 command-command-requires t c κs =
-    let u = c .before .before .before .before .before .before .before in
-    let o = command-opened t (c .before .before .before) in
+    let before = c .before .before .before .before .before .before .before in
+    let before2 = c .before .before .before in
+    let u = before in
+    let o = command-opened t (before2) in
     (omega (arith, u .pre .0, o .inside, o .at), ready-inside o (u .pre .1) (c .inside .ensures))
 
 command-complete-requires : (t : ℕ) → command-lts.Need-complete-requires (command-calls t) (command-at t) command.Post
 command-complete-requires t c κs =
-    let u = c .before .before .before .before .before .before .before .before .before in (
-      may-enter (command-opened t (c .before .before .before .before .before)) (u .pre .1) .0,
+    let before = c .before .before .before .before .before .before .before .before .before in
+    let before2 = c .before .before .before .before .before in
+    let inside = c .before .before .inside in
+    let u = before in (
+      may-enter (command-opened t (before2)) (u .pre .1) .0,
       omega arith,
-      λ q. command-further (u .args .s .now) (u .args .rows) (c .before .before .inside .result) (c .before .command .ensures) q .limits .commands,
+      λ q. command-further (u .args .s .now) (u .args .rows)
+          (inside .result) (c .before .command .ensures) q .limits .commands,
     )
 
 command-returns-2 : (t : ℕ) → command-lts.Need-returns-2 (command-calls t) (command-at t) command.Post
 command-returns-2 t c =
     let one = c .before .before in
-    unary-command (one .before .before .before .before .before .before .before .before .args .scope) (command-opened t (one .before .before .before .before))
-    (one .before .inside .ensures) (one .command .ensures)
+    unary-command (one .before .before .before .before .before .before .before .before .args .scope)
+    (command-opened t (one .before .before .before .before)) (one .before .inside .ensures) (one .command .ensures)
     (c .before .if2 .taken) (c .complete .ensures)
 
 command-enum-told : (t : ℕ) → command-lts.Need-enum-told (command-calls t) (command-at t) command.Post
@@ -106,42 +118,54 @@ command-enum-told-2 t c = c .match2 .keys2
 
 command-command-requires-2 : (t : ℕ) → command-lts.Need-command-requires-2 (command-calls t) (command-at t) command.Post
 command-command-requires-2 t c κs =
-    let one = c .before .before .before .before .before in
+    let before = c .before .before .before .before .before in
+    let one = before in
     let u = one .before .before .before .before .before .before .before .before in
     let o = command-opened t (one .before .before .before .before) in
-    let f = command-further (u .args .s .now) (u .args .rows) (one .before .inside .result) (one .command .ensures) (c .enum-told2 .given .1) in
+    let f = command-further (u .args .s .now) (u .args .rows) (one .before .inside .result) (one .command .ensures)
+    (c .enum-told2 .given .1) in
     (omega (arith, u .pre .0, o .inside, o .at, f .later), ready-on f (ready-inside o (u .pre .1) (one .before .inside .ensures)))
 
 command-complete-requires-2 : (t : ℕ) → command-lts.Need-complete-requires-2 (command-calls t) (command-at t) command.Post
 command-complete-requires-2 t c κs =
-    let one = c .before .before .before .before .before .before in
+    let before = c .before .before .before .before .before .before in
+    let one = before in
     let u = one .before .before .before .before .before .before .before .before in
     let inner = one .before .inside .result in (
       may-enter (command-opened t (one .before .before .before .before)) (u .pre .1) .0,
-      command-further (u .args .s .now) (u .args .rows) inner (one .command .ensures) (c .before .enum-told2 .given .1) .limits .commands,
-      λ q. command-further (u .args .s .now) (one .command .result .rows) inner (c .command2 .ensures) q .limits .commands,
+      command-further (u .args .s .now)
+          (u .args .rows) inner (one .command .ensures) (c .before .enum-told2 .given .1) .limits .commands,
+      λ q. command-further
+          (u .args .s .now) (one .command .result .rows) inner (c .command2 .ensures) q .limits .commands,
     )
 
 command-returns-3 : (t : ℕ) → command-lts.Need-returns-3 (command-calls t) (command-at t) command.Post
 command-returns-3 t c =
-    let u = c .before .before .before .before .before .before in
-    stopped-command (u .args .s .now) (u .args .h) (u .args .rows) (u .args .scope)
-    (c .before .before .opened .given .1) (c .before .before .before .before .opcode-at .ensures) (c .stopped .ensures)
+    let before = c .before .before .before .before .before .before in
+    let opened = c .before .before .opened in
+    let opcode-at = c .before .before .before .before .opcode-at in
+    let u = before in
+    stopped-command (u .args .s .now) (u .args .h) (u .args .rows) (u .args .scope) (opened .given .1) (opcode-at .ensures)
+    (c .stopped .ensures)
 
 command-returns-4 : (t : ℕ) → command-lts.Need-returns-4 (command-calls t) (command-at t) command.Post
 command-returns-4 t c =
-    let one = c .before .before .before .before .before in
-    refused-command (one .before .before .before .before .before .before .before .before .args .scope) (command-opened t (one .before .before .before .before))
-    (one .before .inside .ensures) (one .command .ensures) _
-    (one .before .before .if1 .left) (c .before .before .before .before .if2 .left) (c .enum-told .given .1)
+    let before = c .before .before .before .before .before in
+    let if2 = c .before .before .before .before .if2 in
+    let one = before in
+    refused-command (one .before .before .before .before .before .before .before .before .args .scope)
+    (command-opened t (one .before .before .before .before)) (one .before .inside .ensures) (one .command .ensures) _
+    (one .before .before .if1 .left) (if2 .left) (c .enum-told .given .1)
 
 command-returns-5 : (t : ℕ) → command-lts.Need-returns-5 (command-calls t) (command-at t) command.Post
 command-returns-5 t c =
-    let one = c .before .before .before .before .before .before .before in
-    pair-command (one .before .before .before .before .before .before .before .before .args .scope) (command-opened t (one .before .before .before .before))
-    (one .before .inside .ensures) (one .command .ensures)
-    (one .before .before .if1 .left) (c .before .before .before .before .before .before .if2 .left)
-    (c .before .before .enum-told2 .given .1) (c .before .command2 .ensures) (c .complete2 .ensures)
+    let before = c .before .before .before .before .before .before .before in
+    let if2 = c .before .before .before .before .before .before .if2 in
+    let enum-told2 = c .before .before .enum-told2 in
+    let one = before in
+    pair-command (one .before .before .before .before .before .before .before .before .args .scope)
+    (command-opened t (one .before .before .before .before)) (one .before .inside .ensures) (one .command .ensures)
+    (one .before .before .if1 .left) (if2 .left) (enum-told2 .given .1) (c .before .command2 .ensures) (c .complete2 .ensures)
 
 pub +command-spec : {M : Type 1} → statement M
 +command-spec = close μ-command λ t. command-lts.spec (command-calls t)

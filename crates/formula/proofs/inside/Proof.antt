@@ -23,7 +23,8 @@ add-inner c = omega (arith, c .before .before .pre .2 (c .if2 .taken))
 returns-2 : tie.Need-returns-2
 returns-2 c =
     let u = c .before .before in
-    inside-fix (u .args .scope) (u .args .me .0) (u .args .op) (u .pre .1) (c .if2 .taken) (u .pre .0) (u .pre .2 (c .if2 .taken)) (search needs)
+    inside-fix (u .args .scope) (u .args .me .0) (u .args .op) (u .pre .1) (c .if2 .taken) (u .pre .0)
+    (u .pre .2 (c .if2 .taken)) (search needs)
 
 returns-3 : tie.Need-returns-3
 returns-3 c =

@@ -13,8 +13,10 @@ finished-requires c κs = search needs
 
 returns : tie.Need-returns
 returns c =
-    let u = c .before .before .before in
-    λ self. constant-leaf self (enclosing (u .args .scope)) (u .pre .0) (c .before .if1 .taken) (u .pre .2 .limits) (u .pre .3) (c .finished .ensures)
+    let before = c .before .before .before in
+    let u = before in
+    λ self. constant-leaf self (enclosing (u .args .scope)) (u .pre .0) (c .before .if1 .taken) (u .pre .2 .limits) (u .pre .3)
+    (c .finished .ensures)
 
 argument-at-requires : tie.Need-argument-at-requires
 argument-at-requires c κs = search needs
@@ -30,19 +32,24 @@ enum-known-argument-2 c = search needs
 
 finished-requires-2 : tie.Need-finished-requires-2
 finished-requires-2 c κs =
-    (omega arith, byte-of (c .before .argument2 .given .1) (c .before .before .before .argument-at .ensures 0 (formula 0)) .further .limits .commands)
+    let argument-at = c .before .before .before .argument-at in
+    (omega arith, byte-of (c .before .argument2 .given .1) (argument-at .ensures 0 (formula 0)) .further .limits .commands)
 
 returns-2 : tie.Need-returns-2
-returns-2 c = λ self.
-    let u = c .before .before .before .before .before .before .before in
-    refused-leaf (u .args .op) (c .before .before .argument .given .1)
-    (c .before .before .before .before .argument-at .ensures (u .args .me .0) self) (c .stopped .ensures)
+returns-2 c =
+    let before = c .before .before .before .before .before .before .before in
+    let argument = c .before .before .argument in
+    let argument-at = c .before .before .before .before .argument-at in
+    λ self. let u = before in refused-leaf (u .args .op) (argument .given .1) (argument-at .ensures (u .args .me .0) self)
+    (c .stopped .ensures)
 
 returns-3 : tie.Need-returns-3
-returns-3 c = λ self.
-    let u = c .before .before .before .before .before .before .before in
-    argued-leaf (u .pre .3)
-    (byte-of (c .before .before .argument2 .given .1) (c .before .before .before .before .argument-at .ensures (u .args .me .0) self)) (c .finished2 .ensures)
+returns-3 c =
+    let before = c .before .before .before .before .before .before .before in
+    let argument2 = c .before .before .argument2 in
+    let argument-at = c .before .before .before .before .argument-at in
+    λ self. let u = before in argued-leaf (u .pre .3)
+    (byte-of (argument2 .given .1) (argument-at .ensures (u .args .me .0) self)) (c .finished2 .ensures)
 
 pub leaf-spec : {M : Type 1} → statement M
 leaf-spec =

@@ -20,7 +20,8 @@ returns-3 : tie.Need-returns-3
 returns-3 c = not-known _ (c .before .before .before .before .before .args .h) (omega arith) (unknown-opcode _ (c .if3 .taken))
 
 returns-4 : tie.Need-returns-4
-returns-4 c = too-many _ (c .before .before .before .before .before .before .before .args .h) (omega arith) (omega arith) (omega arith) (c .if4 .taken)
+returns-4 c = too-many _ (c .before .before .before .before .before .before .before .args .h) (omega arith) (omega arith) (omega arith)
+    (c .if4 .taken)
 
 passed-requires : tie.Need-passed-requires
 passed-requires c κs = search needs
@@ -31,7 +32,8 @@ within-requires c κs = search needs
 counted-requires : tie.Need-counted-requires
 counted-requires c κs =
     let u = c .before .before .before .before .before .before .before .before .before .before in
-    room _ (u .args .h) _ _ (c .before .before .passed .ensures) (u .pre) (omega arith) (omega arith) (c .before .within .ensures) (c .if5 .taken)
+    room _ (u .args .h) _ _ (c .before .before .passed .ensures) (u .pre) (omega arith) (omega arith) (c .before .within .ensures)
+    (c .if5 .taken)
 
 returns-5 : tie.Need-returns-5
 returns-5 c =
@@ -41,7 +43,8 @@ returns-5 c =
 
 returns-6 : tie.Need-returns-6
 returns-6 c =
-    no-room _ (c .before .before .before .before .before .before .before .before .before .before .args .h) (omega arith) (omega arith) (omega arith) _ _
+    no-room _ (c .before .before .before .before .before .before .before .before .before .before .args .h) (omega arith) (omega arith)
+    (omega arith) _ _
     (c .before .before .passed .ensures) (omega arith) (c .before .within .ensures) (c .if5 .left)
 
 pub opcode-at-spec : {M : Type 1} → statement M

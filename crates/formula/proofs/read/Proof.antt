@@ -3,6 +3,7 @@
 -- from byte 0 is the definition of reading.
 -- The machine value that `new` returns is stored and passed on as it is. In a local of a body MIR erases the lifetime of the struct's type,
 -- so the value is shown to have the type at `erased`: what the struct owns does not say the lifetime's name. Assumes nothing.
+-- a goal with two clauses: both are shown
 use mathlib.Core.Path.{_≡_, refl, subst, _∙_}
 use Prim.Native.Nat.{ℕ}
 use mathlib.Core.List.{List, [], _∷_}
@@ -19,8 +20,10 @@ use ghost.Atoms.{Atoms, sem}
 use contract.Lifetimes.{Lfts}
 use contract.Monad.{Fun, fact}
 use contract.Running.{givenOf, tables, tablesOf}
-use types.Kit.{Given, Item, Step, step, prop, ‵, raw, _⊛_, ⋆, some, later, _$_, _∵_, !, qed, by, move, use1, use2, split, join, pick, fsplit, fjoin, suffices, frame, await, done}
-use types.Run.{look, init, forget, stop, from, load, and-then, no-more, land, returns, enter, alloc1, alloc0, params1, pass1, pass0, free1, free0}
+use types.Kit.{Given, Item, Step, step, prop, ‵, raw, _⊛_, ⋆, some, later, _$_, _∵_, !, qed, by, move, use1, use2, split, join, pick}
+use types.Kit.{fsplit, fjoin, suffices, frame, await, done}
+use types.Run.{look, init, forget, stop, from, load, and-then, no-more, land, returns, enter, alloc1, alloc0, params1, pass1, pass0}
+use types.Run.{free1, free0}
 use sound.WpLaws.{FmC, fmOf, WpFn-mono}
 use denote.RattleType.{RattleType, owns}
 use denote.Laws.{Is, shows}
@@ -59,7 +62,6 @@ use Rattle.formula.proofs.read as read
 use Rattle.formula.proofs.read.Statement as stated
 use Rattle.formula.proofs.read.Code as code
 
--- a goal with two clauses: both are shown
 says-both : {M : Type 1} {𝓤 : URA M} {H : Heap 𝓤} {A : Atoms 𝓤} {K : Type 0} {W : Given 𝓤 H A} {Γ : List (Item 𝓤)} → K →
     {φ ψ : Type 0} {P : SProp 𝓤} → φ → ψ → Step K W Γ (prop P) Γ (prop (sep 𝓤 P (sep 𝓤 (fact 𝓤 φ) (fact 𝓤 ψ))))
 says-both {𝓤 = 𝓤} k {φ} {ψ} {P} x y = step (λ s. suffices k _ (assoc∗ 𝓤 P (fact 𝓤 φ) (fact 𝓤 ψ)) $ says k y $ says k x $ s)
@@ -132,7 +134,8 @@ module _ {M : Type 1} (𝓤 : URA M) (H : Heap 𝓤) (A : Atoms 𝓤) (W : Given
     abbrev to-read-from : Reader → Val → ReadFrom .Ghost
     to-read-from r u = (((κ, tt), (q, tt), tt, (r, tt), (u ∷ [], tt)), tt)
 
-    goes-read-from : (r : Reader) (u : Val) → ent 𝓤 (⋆ 𝓤 H A (‵ (B (κ, tt) .own r (u ∷ [])) ∷ token ∷ [])) (ReadFrom .pre (to-read-from r u))
+    goes-read-from : (r : Reader) (u : Val) → ent 𝓤 (⋆ 𝓤 H A (‵ (B (κ, tt) .own r (u ∷ [])) ∷ token ∷ []))
+        (ReadFrom .pre (to-read-from r u))
     goes-read-from r u =
         qed W (‵ (B (κ, tt) .own r (u ∷ [])) ∷ token ∷ []) ∵
         nothing ! $ move ! (1 ∷ 0 ∷ []) $ fjoin ! $ move ! (1 ∷ 0 ∷ []) $ join ! $ frame ! $ done !
@@ -177,7 +180,8 @@ module _ {M : Type 1} (𝓤 : URA M) (H : Heap 𝓤) (A : Atoms 𝓤) (W : Given
           peeks ! (B (κ, tt)) (Is (B (κ, tt))) (shows 𝓤 H A (B (κ, tt))) r (u ∷ []) (λ is.
           land ! (from ! (stop !)) (init ! 3 refl (LL.lawful (T.the-type αᵉ) (T′.the-laws αᵉ) 𝓤 H A W .typed r _ is .0)) $
           use2 W (raw (ReadFrom .pre (to-read-from r u))) (goes-read-from r u) $
-          calls-at ! fm ReadFrom known-read-from (to-read-from r u) (and-then ! (load ! (from ! (stop !)) (look ! 2 refl)) (no-more !)) (λ u′.
+          calls-at ! fm ReadFrom known-read-from (to-read-from r u) (and-then ! (load ! (from ! (stop !)) (look ! 2 refl)) (no-more !))
+          (λ u′.
           use1 W (later (some (λ (t : Reading). (token ⊛ ‵ (S.the-row .own t (u′ ∷ []))) ⊛ raw (Ensured r t)))) (id⊢ 𝓤 _) $
           await ! tt $ pick ! (λ t. split ! $ move ! (1 ∷ []) $
           use1 W (raw (fact 𝓤 (Said r t))) (read-from-said r t) $ heard ! (Said r t) (λ e′. split ! $ move ! (1 ∷ []) $
@@ -209,6 +213,7 @@ read-spec 𝓤 H 𝓜 𝓖 𝓡 =
     entered 𝓤 H (tripleOf 𝓤 H (𝓖 .A) read.signature (read.spec 𝓤 H (𝓖 .A) (𝓜 .mem) (𝓡 .run)))
     (tables 𝓤 H 𝓜 𝓡 code.env .C) (tables 𝓤 H 𝓜 𝓡 code.env .Λ) #formula·read code.function (code.unfolded 𝓤 H 𝓜 𝓡)
     (meets 𝓤 H (𝓖 .A) W (𝓜 .mem) (𝓡 .run) (tablesOf 𝓤 H 𝓜 (tables 𝓤 H 𝓜 𝓡 code.env))
-    (cited 𝓤 H (New 𝓤 H (𝓖 .A) W (𝓜 .mem) (𝓡 .run)) 𝓜 𝓡 code.env #formula·new new-def.routine code.calls-formula·new (new-thm.met 𝓤 H 𝓜 𝓖 𝓡))
+    (cited 𝓤 H (New 𝓤 H (𝓖 .A) W (𝓜 .mem) (𝓡 .run)) 𝓜 𝓡 code.env #formula·new new-def.routine code.calls-formula·new
+    (new-thm.met 𝓤 H 𝓜 𝓖 𝓡))
     (cited 𝓤 H (ReadFrom 𝓤 H (𝓖 .A) W (𝓜 .mem) (𝓡 .run)) 𝓜 𝓡 code.env #formula·read-from
     read-from-def.routine code.calls-formula·read-from (read-from-thm.met 𝓤 H 𝓜 𝓖 𝓡)))

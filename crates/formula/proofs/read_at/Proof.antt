@@ -22,16 +22,21 @@ refused-requires-2 c κs = search needs
 
 returns : tie.Need-returns
 returns c =
-    extra-reading (c .before .before .before .before .before .before .before .command .ensures) (c .before .before .before .enum-told .given .1)
-    (c .before .if1 .taken) (c .refused2 .ensures)
+    let command = c .before .before .before .before .before .before .before .command in
+    let enum-told = c .before .before .before .enum-told in
+    extra-reading (command .ensures) (enum-told .given .1) (c .before .if1 .taken) (c .refused2 .ensures)
 
 returns-2 : tie.Need-returns-2
 returns-2 c =
-    refused-reading (c .before .before .before .before .before .before .command .ensures) (c .before .before .outcome .given .1) (c .refused .ensures)
+    let command = c .before .before .before .before .before .before .command in
+    let outcome = c .before .before .outcome in
+    refused-reading (command .ensures) (outcome .given .1) (c .refused .ensures)
 
 returns-3 : tie.Need-returns-3
 returns-3 c =
-    accepted-reading (c .before .before .before .before .before .before .command .ensures) (c .before .before .enum-told .given .1) (c .if1 .left)
+    let command = c .before .before .before .before .before .before .command in
+    let enum-told = c .before .before .enum-told in
+    accepted-reading (command .ensures) (enum-told .given .1) (c .if1 .left)
 
 pub read-at-spec : {M : Type 1} → statement M
 read-at-spec =

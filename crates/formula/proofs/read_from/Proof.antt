@@ -2,6 +2,7 @@
 -- `read_at` is called on the slice and the place. All that the proof knows of `read_at` is that it meets its contract, which says the same.
 -- The struct is Copy: what it owns is had twice, one copy is kept whole for the exit, and of the other what src owns goes to the callee,
 -- beside the lifetime's token, which comes back. Assumes nothing.
+-- the reader's type, over the signature's lifetimes
 use mathlib.Core.Path.{_≡_, refl}
 use Prim.Native.Nat.{_<_, _^_}
 use mathlib.Core.List.{[], _∷_}
@@ -19,9 +20,11 @@ use ghost.Atoms.{Atoms, sem}
 use contract.Lifetimes.{Lfts}
 use contract.Monad.{Fun, fact}
 use contract.Running.{givenOf, tables, tablesOf}
-use types.Kit.{Given, Item, ‵, raw, _⊛_, given, ⋆, some, later, _$_, _∵_, !, qed, by, move, drop, use1, use2, split, join, learn, pick, fsplit, fjoin, suffices, frame, await, done}
+use types.Kit.{Given, Item, ‵, raw, _⊛_, given, ⋆, some, later, _$_, _∵_, !, qed, by, move, drop, use1, use2, split, join, learn, pick}
+use types.Kit.{fsplit, fjoin, suffices, frame, await, done}
 use types.Part.{whole, sub, look-in}
-use types.Run.{look, init, forget, stop, fld, from, load, of-opd, and-then, no-more, assigns, land, returns, enter, alloc1, alloc0, params1, pass1, pass0, free1, free0}
+use types.Run.{look, init, forget, stop, fld, from, load, of-opd, and-then, no-more, assigns, land, returns, enter, alloc1, alloc0}
+use types.Run.{params1, pass1, pass0, free1, free0}
 use sound.WpLaws.{FmC, fmOf, WpFn-mono}
 use denote.RattleType.{RattleType, owns}
 use denote.Laws.{Is, shows}
@@ -59,7 +62,6 @@ use Rattle.formula.proofs.read_from as read-from
 use Rattle.formula.proofs.read_from.Statement as stated
 use Rattle.formula.proofs.read_from.Code as code
 
--- the reader's type, over the signature's lifetimes
 abbrev B : Lfts 1 → RattleType
 B κs = T.the-row (namedLft 1 0 tt κs)
 
@@ -131,7 +133,8 @@ module _ {M : Type 1} (𝓤 : URA M) (H : Heap 𝓤) (A : Atoms 𝓤) (W : Given
         use1 W (‵ Own ⊛ ‵ Own) (LL.copy (D κ) (T′.the-copy (namedLft 1 0 tt (κ, tt))) 𝓤 H A W .twice d (mach ∷ [])) $ split ! $
         use1 W (given (mach ∷ [] ≡ mach ∷ []) (‵ (all-own (D κ .parts) (L κ) fields))) (own-open 𝓤 H A W (D κ) (L κ) fields mach) $
         learn ! (λ _.
-        use1 W (‵ (ownAt (D κ .parts) (L κ) 0 (d .src)) ⊛ ‵ (rest (D κ .parts) (L κ) 0 fields)) (own-out 𝓤 H A W (D κ .parts) (L κ) 0 fields) $ split ! $
+        use1 W (‵ (ownAt (D κ .parts) (L κ) 0 (d .src)) ⊛ ‵ (rest (D κ .parts) (L κ) 0 fields))
+        (own-out 𝓤 H A W (D κ .parts) (L κ) 0 fields) $ split ! $
         -- [what src owns; what at owns; what the reader owns; the token]
         move ! (1 ∷ []) $ drop ! $ nothing ! $ owned ! usize (Is usize) (uint-makes 𝓤 H A W w64) (d .at) _ (refl, fits) $
         fjoin ! $ move ! (1 ∷ 0 ∷ []) $ fjoin ! $

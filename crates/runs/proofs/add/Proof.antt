@@ -20,13 +20,34 @@ same-length : tie.Need-same-length
 same-length c = search needs
 
 returns : tie.Need-returns
-returns c = let s = c .before .before .before .before .before in grown-known (s .args .shelf) (s .args .count) (s .args .area .now) (s .pre .1 .0) (s .pre .1 .1 .1) (found-of (s .args .ends) (triples-in (s .args .shelf .n) (s .args .t .now))) (sym (c .if1 .taken) ∙ c .before .known .ensures)
+returns c =
+    let before = c .before .before .before .before .before in
+    let s = before in
+    grown-known (s .args .shelf) (s .args .count) (s .args .area .now) (s .pre .1 .0) (s .pre .1 .1 .1)
+    (found-of (s .args .ends) (triples-in (s .args .shelf .n) (s .args .t .now))) (sym (c .if1 .taken) ∙ c .before .known .ensures)
 
 write-requires : tie.Need-write-requires
 write-requires c κs = search needs
 
 chain-requires : tie.Need-chain-requires
-chain-requires c κs = let s = c .before .before .before .before .before .before .before .before .before .before .before .before in let w = c .before .before .before .write .ensures in let k = c .before .before .before .before .before .before .before .before .before .before .bucket .ensures in (subst⁻¹ (Lent (s .args .shelf)) (w .1 .same-length) (s .pre .0), ((c .before .before .before .before .before .if2 .taken, k .1), (chained-kept (s .pre .0 .next) (w .1) (s .pre .1 .1 .1), k .0 ∙ ap (λ (y : Found). bucket-of (s .args .shelf) (y .at)) (sym (w .0)))))
+chain-requires c κs =
+    let before = c .before .before .before .before .before .before .before .before .before .before .before .before in
+    let write = c .before .before .before .write in
+    let bucket = c .before .before .before .before .before .before .before .before .before .before .bucket in
+    let if2 = c .before .before .before .before .before .if2 in
+    let s = before in
+    let w = write .ensures in
+    let k = bucket .ensures in (
+      subst⁻¹ (Lent (s .args .shelf)) (w .1 .same-length) (s .pre .0),
+      (
+        (if2 .taken, k .1),
+        (
+          chained-kept (s .pre .0 .next) (w .1) (s .pre .1 .1 .1),
+          k .0 ∙ ap
+              (λ (y : Found). bucket-of (s .args .shelf) (y .at)) (sym (w .0)),
+        ),
+      ),
+    )
 
 add-result : tie.Need-add-result
 add-result c = search needs
@@ -35,7 +56,20 @@ same-length-2 : tie.Need-same-length-2
 same-length-2 c = search needs
 
 returns-2 : tie.Need-returns-2
-returns-2 c = let s = c .before .before .before .before .before .before .before .before .before .before .before .before .before .before .before in let w = c .before .before .before .before .before .before .write .ensures in let d = c .before .before .chain .ensures in grown-new (s .args .shelf) (s .args .count) (s .args .area .now) (s .pre .1 .0) (s .pre .1 .1 .1) (found-of (s .args .ends) (triples-in (s .args .shelf .n) (s .args .t .now))) (s .pre .0 .next) (sym (c .before .before .before .before .before .before .before .before .before .before .if1 .left) ∙ c .before .before .before .before .before .before .before .before .before .before .before .known .ensures) (c .before .before .before .before .before .before .before .before .if2 .taken) (w .0) (w .1) (d .0) (d .1 .0) (d .1 .1)
+returns-2 c =
+    let before = c .before .before .before .before .before .before .before .before .before .before .before .before .before .before
+    .before in
+    let write = c .before .before .before .before .before .before .write in
+    let chain = c .before .before .chain in
+    let if1 = c .before .before .before .before .before .before .before .before .before .before .if1 in
+    let known = c .before .before .before .before .before .before .before .before .before .before .before .known in
+    let if2 = c .before .before .before .before .before .before .before .before .if2 in
+    let s = before in
+    let w = write .ensures in
+    let d = chain .ensures in
+    grown-new (s .args .shelf) (s .args .count) (s .args .area .now) (s .pre .1 .0) (s .pre .1 .1 .1)
+    (found-of (s .args .ends) (triples-in (s .args .shelf .n) (s .args .t .now))) (s .pre .0 .next)
+    (sym (if1 .left) ∙ known .ensures) (if2 .taken) (w .0) (w .1) (d .0) (d .1 .0) (d .1 .1)
 
 add-result-2 : tie.Need-add-result-2
 add-result-2 c = search needs
@@ -44,7 +78,13 @@ same-length-3 : tie.Need-same-length-3
 same-length-3 c = search needs
 
 returns-3 : tie.Need-returns-3
-returns-3 c = let s = c .before .before .before .before .before .before .before in grown-full (s .args .shelf) (s .args .count) (s .args .area .now) (s .pre .1 .0) (s .pre .1 .1 .1) (found-of (s .args .ends) (triples-in (s .args .shelf .n) (s .args .t .now))) (sym (c .before .before .if1 .left) ∙ c .before .before .before .known .ensures) (c .if2 .left)
+returns-3 c =
+    let before = c .before .before .before .before .before .before .before in
+    let if1 = c .before .before .if1 in
+    let known = c .before .before .before .known in
+    let s = before in
+    grown-full (s .args .shelf) (s .args .count) (s .args .area .now) (s .pre .1 .0) (s .pre .1 .1 .1)
+    (found-of (s .args .ends) (triples-in (s .args .shelf .n) (s .args .t .now))) (sym (if1 .left) ∙ known .ensures) (c .if2 .left)
 
 pub add-spec : {M : Type 1} → statement M
 add-spec =

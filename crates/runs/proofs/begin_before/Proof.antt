@@ -19,22 +19,35 @@ add-middle : tie.Need-add-middle Inv-loop μ-loop
 add-middle c = omega (arith, c .before .loop .inv .among, c .before .before .before .pre .0 .few)
 
 ends-of-requires : tie.Need-ends-of-requires Inv-loop μ-loop
-ends-of-requires c κs = (c .before .before .before .pre .0, omega (arith, c .before .loop .inv .among, c .before .before .before .pre .1 .0))
+ends-of-requires c κs =
+    let start = c .before .before .before in
+    (start .pre .0, omega (arith, c .before .loop .inv .among, start .pre .1 .0))
 
 add-low : tie.Need-add-low Inv-loop μ-loop
-add-low c = omega (arith, c .before .before .before .before .before .loop .inv .among, c .before .before .before .before .before .before .before .pre .0 .few)
+add-low c =
+    let loop = c .before .before .before .before .before .loop in
+    let start = c .before .before .before .before .before .before .before in
+    omega (arith, loop .inv .among, start .pre .0 .few)
 
 loop-less : tie.Need-loop-less Inv-loop μ-loop
 loop-less c = search needs
 
 loop-again : tie.Need-loop-again Inv-loop μ-loop
-loop-again c = halved-up (c .before .before .before .before .before .loop .inv) (c .before .before .before .before .before .before .before .pre .1 .1) _ (omega arith) (omega arith) (omega (arith, c .before .before .before .ends-of .ensures .first))
+loop-again c =
+    let loop = c .before .before .before .before .before .loop in
+    let start = c .before .before .before .before .before .before .before in
+    let ends-of = c .before .before .before .ends-of in
+    halved-up (loop .inv) (start .pre .1 .1) _ (omega arith) (omega arith) (omega (arith, ends-of .ensures .first))
 
 loop-less-2 : tie.Need-loop-less-2 Inv-loop μ-loop
 loop-less-2 c = search needs
 
 loop-again-2 : tie.Need-loop-again-2 Inv-loop μ-loop
-loop-again-2 c = halved-down (c .before .before .before .before .before .loop .inv) (c .before .before .before .before .before .before .before .pre .1 .1) _ (omega arith) (omega arith) (omega (arith, c .before .before .before .ends-of .ensures .first))
+loop-again-2 c =
+    let loop = c .before .before .before .before .before .loop in
+    let start = c .before .before .before .before .before .before .before in
+    let ends-of = c .before .before .before .ends-of in
+    halved-down (loop .inv) (start .pre .1 .1) _ (omega arith) (omega arith) (omega (arith, ends-of .ensures .first))
 
 returns : tie.Need-returns Inv-loop μ-loop
 returns c = halved-done (c .before .loop .inv) (c .loop-test .left)

@@ -36,13 +36,33 @@ loop-less : tie.Need-loop-less Inv-loop μ-loop
 loop-less c = search needs
 
 loop-again : tie.Need-loop-again Inv-loop μ-loop
-loop-again c = let s = c .before .before .before .before .before in let l = c .before .before .loop in (omega arith, (c .mix-row .ensures .0, fold-more mixed-row _ (row-of (s .args .t .now) (s .args .shelf .n)) (l .f) (l .inv .1 .1) (c .mix-row .ensures .1)))
+loop-again c =
+    let before = c .before .before .before .before .before in
+    let loop = c .before .before .loop in
+    let s = before in
+    let l = loop in (
+      omega arith,
+      (
+        c .mix-row .ensures .0,
+        fold-more mixed-row _ (row-of (s .args .t .now) (s .args .shelf .n)) (l .f)
+            (l .inv .1 .1) (c .mix-row .ensures .1),
+      ),
+    )
 
 rem-result : tie.Need-rem-result Inv-loop μ-loop
 rem-result c = search needs
 
 returns : tie.Need-returns Inv-loop μ-loop
-returns c = let s = c .before .before .before .before .before in let l = c .before .before .loop in (bucket-is (s .args .shelf) (s .args .ends) (s .args .t .now) (l .h) (l .inv .1 .1 ∙ ap (λ (k : ℕ). foldl mixed-row (s .args .ends .first .0 + s .args .ends .last .0 * 65536) (map (row-of (s .args .t .now) (s .args .shelf .n)) (numbers 0 k))) (le-antisymm (l .inv .0) (c .before .loop-test .left))), mod-lt (l .h / 65536) (s .pre .0 .1))
+returns c =
+    let before = c .before .before .before .before .before in
+    let loop = c .before .before .loop in
+    let s = before in
+    let l = loop in (
+      bucket-is (s .args .shelf) (s .args .ends) (s .args .t .now) (l .h)
+          (l .inv .1 .1 ∙ ap (λ (k : ℕ). foldl mixed-row (s .args .ends .first .0 + s .args .ends .last .0 * 65536)
+          (map (row-of (s .args .t .now) (s .args .shelf .n)) (numbers 0 k))) (le-antisymm (l .inv .0) (c .before .loop-test .left))),
+      mod-lt (l .h / 65536) (s .pre .0 .1),
+    )
 
 pub bucket-spec : {M : Type 1} → statement M
 bucket-spec =

@@ -23,7 +23,25 @@ same-length : tie.Need-same-length
 same-length c = search needs
 
 returns : tie.Need-returns
-returns c = let s = c .before .before .before .before .before .before .before .before .before .before .before .before .before .before .before in let b = c .before .before .before .before .before .before .before .before .before .before .put2 .ensures in let l = c .before .before .before .before .before .before .put22 .ensures in let h = c .before .before .put23 .ensures in (chained-more (s .args .shelf) (s .args .count) (s .args .k) (b .1) (l .1) (h .1) (b .0) (l .0) (h .0) (s .pre .0 .next) (s .pre .1 .1 .0) (c .before .before .before .before .before .before .before .before .before .before .before .before .head .ensures) (s .pre .1 .1 .1), (linked-records (s .args .shelf) (s .args .count) (s .args .k) (b .1) (l .1) (h .1) (s .pre .0 .next), linked-changed (s .args .shelf) (s .args .count) (s .args .k) (b .1) (l .1) (h .1) (s .pre .1 .0 .0) (s .pre .1 .0 .1)))
+returns c =
+    let before = c .before .before .before .before .before .before .before .before .before .before .before .before .before .before
+    .before in
+    let put2 = c .before .before .before .before .before .before .before .before .before .before .put2 in
+    let put22 = c .before .before .before .before .before .before .put22 in
+    let put23 = c .before .before .put23 in
+    let head = c .before .before .before .before .before .before .before .before .before .before .before .before .head in
+    let s = before in
+    let b = put2 .ensures in
+    let l = put22 .ensures in
+    let h = put23 .ensures in (
+      chained-more (s .args .shelf) (s .args .count) (s .args .k) (b .1) (l .1) (h .1) (b .0) (l .0) (h .0) (s .pre .0 .next)
+          (s .pre .1 .1 .0) (head .ensures) (s .pre .1 .1 .1),
+      (
+        linked-records (s .args .shelf) (s .args .count) (s .args .k) (b .1) (l .1) (h .1) (s .pre .0 .next),
+        linked-changed
+            (s .args .shelf) (s .args .count) (s .args .k) (b .1) (l .1) (h .1) (s .pre .1 .0 .0) (s .pre .1 .0 .1),
+      ),
+    )
 
 pub chain-spec : {M : Type 1} → statement M
 chain-spec =

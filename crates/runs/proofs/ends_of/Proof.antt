@@ -17,7 +17,13 @@ get2-requires-4 : tie.Need-get2-requires-4
 get2-requires-4 c κs = search needs
 
 returns : tie.Need-returns
-returns c = let s = c .before .before .before .before .before in ends-are (s .args .shelf) (s .args .area .now) (s .args .p) (c .before .before .before .get2 .ensures) (c .before .before .get22 .ensures) (c .before .get23 .ensures) (c .get24 .ensures)
+returns c =
+    let before = c .before .before .before .before .before in
+    let get2 = c .before .before .before .get2 in
+    let get22 = c .before .before .get22 in
+    let s = before in
+    ends-are (s .args .shelf) (s .args .area .now) (s .args .p) (get2 .ensures) (get22 .ensures) (c .before .get23 .ensures)
+    (c .get24 .ensures)
 
 pub ends-of-spec : {M : Type 1} → statement M
 ends-of-spec =

@@ -25,19 +25,33 @@ begin-before-requires : tie.Need-begin-before-requires Inv-loop μ-loop
 begin-before-requires c κs = let s = c .before .before .before .before .before in (s .pre .0, (omega arith, s .pre .1 .1 .1))
 
 begin-before-requires-2 : tie.Need-begin-before-requires-2 Inv-loop μ-loop
-begin-before-requires-2 c κs = let s = c .before .before .before .before .before .before .before in (s .pre .0, (omega arith, s .pre .1 .1 .1))
+begin-before-requires-2 c κs = let s = c .before .before .before .before .before .before .before in
+    (s .pre .0, (omega arith, s .pre .1 .1 .1))
 
 loop-holds : tie.Need-loop-holds Inv-loop μ-loop
-loop-holds c = let s = c .before .before .before .before .before .before .before .before in (c .begin-before2 .ensures .among, extend-start _ _ _ _ _ (omega arith) (s .pre .1 .1 .0) (λ j l h e. omega (arith, c .begin-before2 .ensures .before j h, c .before .before .before .before .before .ends-of .ensures .last)))
+loop-holds c = let s = c .before .before .before .before .before .before .before .before in (
+  c .begin-before2 .ensures .among,
+  extend-start _ _ _ _ _ (omega arith) (s .pre .1 .1 .0)
+      (λ j l h e. omega (arith, c .begin-before2 .ensures .before j h, c .before .before .before .before .before .ends-of .ensures .last)),
+)
 
 same-length : tie.Need-same-length Inv-loop μ-loop
 same-length c = c .before .before .before .loop .inv .1 .elsewhere .same-length
 
 returns : tie.Need-returns Inv-loop μ-loop
-returns c = let s = c .before .before .before .before .before .before .before .before .before .before .before .before in let l = c .before .before .before .loop in extend-stop (s .args .shelf) (s .args .count) (s .args .p) (s .args .area .now) (l .q) (s .args .ones) (c .if1 .taken) (l .inv .0) (l .inv .1)
+returns c = let s = c .before .before .before .before .before .before .before .before .before .before .before .before in let l =
+    c .before .before .before .loop in extend-stop (s .args .shelf) (s .args .count) (s .args .p) (s .args .area .now) (l .q)
+    (s .args .ones) (c .if1 .taken) (l .inv .0) (l .inv .1)
 
 longer-requires : tie.Need-longer-requires Inv-loop μ-loop
-longer-requires c κs = let s = c .before .before .before .before .before .before .before .before .before .before .before .before .before in let l = c .before .before .before .before .loop in (subst (Lent (s .args .shelf)) (sym (l .inv .1 .elsewhere .same-length)) (s .pre .0), (omega (arith, l .inv .1 .more, c .before .before .before .before .before .before .before .begin-before .ensures .among), l .inv .1 .chained (c .before .if1 .left)))
+longer-requires c κs = let s = c .before .before .before .before .before .before .before .before .before .before .before .before .before
+    in let l = c .before .before .before .before .loop in (
+      subst (Lent (s .args .shelf)) (sym (l .inv .1 .elsewhere .same-length)) (s .pre .0),
+      (
+        omega (arith, l .inv .1 .more, c .before .before .before .before .before .before .before .begin-before .ensures .among),
+        l .inv .1 .chained (c .before .if1 .left),
+      ),
+    )
 
 add-q : tie.Need-add-q Inv-loop μ-loop
 add-q c = search needs
@@ -46,13 +60,25 @@ loop-less : tie.Need-loop-less Inv-loop μ-loop
 loop-less c = search needs
 
 loop-again : tie.Need-loop-again Inv-loop μ-loop
-loop-again c = let s = c .before .before .before .before .before .before .before .before .before .before .before .before .before .before .before .before in let l = c .before .before .before .before .before .before .before .loop in let few = c .before .before .before .before .before .before .before .before .before .before .begin-before .ensures .among in (omega (arith, few), extend-more (s .args .shelf) (s .args .count) (s .args .p) (s .args .area .now) (l .q) (omega arith) (omega (arith, few)) (c .before .before .before .before .if1 .left) (l .inv .1) (c .before .before .longer .ensures))
+loop-again c = let s = c .before .before .before .before .before .before .before .before .before .before .before .before .before .before
+    .before .before in let l = c .before .before .before .before .before .before .before .loop in let few =
+    c .before .before .before .before .before .before .before .before .before .before .begin-before .ensures .among in (
+      omega (arith, few),
+      extend-more (s .args .shelf) (s .args .count) (s .args .p) (s .args .area .now) (l .q) (omega arith)
+          (omega (arith, few)) (c .before .before .before .before .if1 .left) (l .inv .1) (c .before .before .longer .ensures),
+    )
 
 same-length-2 : tie.Need-same-length-2 Inv-loop μ-loop
 same-length-2 c = c .before .loop .inv .1 .elsewhere .same-length
 
 returns-2 : tie.Need-returns-2 Inv-loop μ-loop
-returns-2 c = let s = c .before .before .before .before .before .before .before .before .before .before in let l = c .before .loop in extend-done (s .args .shelf) (s .args .count) (s .args .p) (s .args .area .now) (l .q) (s .args .ones) (l .inv .0) (λ j m h e. omega (arith, c .before .before .before .before .begin-before .ensures .behind j (omega (arith, c .loop-test .left)) h, c .before .before .before .before .before .before .before .ends-of .ensures .last)) (l .inv .1)
+returns-2 c = let s = c .before .before .before .before .before .before .before .before .before .before in let l = c .before .loop in
+    extend-done (s .args .shelf) (s .args .count) (s .args .p) (s .args .area .now) (l .q) (s .args .ones) (l .inv .0)
+    (λ j m h e. omega (
+      arith,
+      c .before .before .before .before .begin-before .ensures .behind j (omega (arith, c .loop-test .left)) h,
+      c .before .before .before .before .before .before .before .ends-of .ensures .last,
+    )) (l .inv .1)
 
 pub extend-spec : {M : Type 1} → statement M
 extend-spec =

@@ -25,7 +25,11 @@ wide2-requires : tie.Need-wide2-requires
 wide2-requires c κs = search needs
 
 returns : tie.Need-returns
-returns c = let s = c .before .before .before .before .before in (c .wide2 .ensures .0 ∙ ap (λ (at : ℕ). two (s .args .area .now) (at + s .args .offset)) (c .before .before .before .place .ensures), c .wide2 .ensures .1)
+returns c =
+    let before = c .before .before .before .before .before in
+    let place = c .before .before .before .place in
+    let s = before in
+    (c .wide2 .ensures .0 ∙ ap (λ (at : ℕ). two (s .args .area .now) (at + s .args .offset)) (place .ensures), c .wide2 .ensures .1)
 
 pub get2-spec : {M : Type 1} → statement M
 get2-spec =

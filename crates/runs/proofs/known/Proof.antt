@@ -30,7 +30,12 @@ same-profile-requires : tie.Need-same-profile-requires Inv-loop μ-loop
 same-profile-requires c κs = search needs
 
 returns : tie.Need-returns Inv-loop μ-loop
-returns c = let s = c .before .before .before .before .before .before in sym (seen-found (s .args .shelf) (s .args .area .now) _ (s .args .count) (c .before .before .before .loop .v - 1) (omega arith) (sym (c .before .same-profile .ensures) ∙ c .if1 .taken))
+returns c =
+    let before = c .before .before .before .before .before .before in
+    let loop = c .before .before .before .loop in
+    let s = before in
+    sym (seen-found (s .args .shelf) (s .args .area .now) _ (s .args .count) (loop .v - 1) (omega arith)
+    (sym (c .before .same-profile .ensures) ∙ c .if1 .taken))
 
 sub-get2 : tie.Need-sub-get2 Inv-loop μ-loop
 sub-get2 c = search needs
@@ -39,13 +44,25 @@ get2-requires : tie.Need-get2-requires Inv-loop μ-loop
 get2-requires c κs = search needs
 
 loop-less : tie.Need-loop-less Inv-loop μ-loop
-loop-less c = passed-less (c .before .before .before .before .before .before .before .pre .1 .1 .0) _ (c .before .before .before .before .loop .inv) (c .before .before .before .loop-test .taken) (c .get2 .ensures .0)
+loop-less c =
+    let start = c .before .before .before .before .before .before .before in
+    let loop = c .before .before .before .before .loop in
+    let test = c .before .before .before .loop-test in
+    passed-less (start .pre .1 .1 .0) _ (loop .inv) (test .taken) (c .get2 .ensures .0)
 
 loop-again : tie.Need-loop-again Inv-loop μ-loop
-loop-again c = passed-more (c .before .before .before .before .before .before .before .pre .1 .1 .0) _ (c .before .before .before .before .loop .inv) (c .before .before .before .loop-test .taken) (c .get2 .ensures .0) (sym (c .before .before .same-profile .ensures) ∙ c .before .if1 .left)
+loop-again c =
+    let start = c .before .before .before .before .before .before .before in
+    let loop = c .before .before .before .before .loop in
+    let test = c .before .before .before .loop-test in
+    let same-profile = c .before .before .same-profile in
+    passed-more (start .pre .1 .1 .0) _ (loop .inv) (test .taken) (c .get2 .ensures .0)
+    (sym (same-profile .ensures) ∙ c .before .if1 .left)
 
 returns-2 : tie.Need-returns-2 Inv-loop μ-loop
-returns-2 c = sym (passed-all (c .before .before .before .before .pre .1 .1 .0) _ (c .before .loop .inv) (c .loop-test .left))
+returns-2 c =
+    let start = c .before .before .before .before in
+    sym (passed-all (start .pre .1 .1 .0) _ (c .before .loop .inv) (c .loop-test .left))
 
 pub known-spec : {M : Type 1} → statement M
 known-spec =

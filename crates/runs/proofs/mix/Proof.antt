@@ -17,7 +17,12 @@ add-result : tie.Need-add-result
 add-result c = search needs
 
 returns : tie.Need-returns
-returns c = let s = c .before in (omega arith, ap (λ (w : ℕ). (s .args .sum * 8 + w) % 4294967296) (c .wide .ensures ∙ sym (subset-word 8 (s .args .x) (omega arith))))
+returns c =
+    let s = c .before in (
+      omega arith,
+      ap (λ (w : ℕ). (s .args .sum * 8 + w) % 4294967296)
+          (c .wide .ensures ∙ sym (subset-word 8 (s .args .x) (omega arith))),
+    )
 
 pub mix-spec : {M : Type 1} → statement M
 mix-spec = tie.close (tie.spec mul-result wide-requires add-result returns)

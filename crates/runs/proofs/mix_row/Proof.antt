@@ -39,7 +39,18 @@ loop-less : tie.Need-loop-less Inv-loop μ-loop
 loop-less c = search needs
 
 loop-again : tie.Need-loop-again Inv-loop μ-loop
-loop-again c = let s = c .before .before .before .before in let l = c .before .before .before .loop in (omega arith, (c .mix .ensures .0, fold-more mixed 0 (λ j. bits-of (getD (s .args .t .now) (s .args .f * 12 + j) 0)) (l .g) (l .inv .1 .1) (c .mix .ensures .1)))
+loop-again c =
+    let before = c .before .before .before .before in
+    let loop = c .before .before .before .loop in
+    let s = before in
+    let l = loop in (
+      omega arith,
+      (
+        c .mix .ensures .0,
+        fold-more mixed 0 (λ j. bits-of (getD (s .args .t .now) (s .args .f * 12 + j) 0)) (l .g)
+            (l .inv .1 .1) (c .mix .ensures .1),
+      ),
+    )
 
 add-result : tie.Need-add-result Inv-loop μ-loop
 add-result c = search needs
@@ -48,7 +59,14 @@ mul-result : tie.Need-mul-result Inv-loop μ-loop
 mul-result c = search needs
 
 returns : tie.Need-returns Inv-loop μ-loop
-returns c = let s = c .before .before in let l = c .before .loop in (omega arith, ap (λ (sum : ℕ). (s .args .h + sum) % 4294967296 * 2654435761 % 4294967296) (l .inv .1 .1 ∙ ap (λ (k : ℕ). foldl mixed 0 (row-of (s .args .t .now) k (s .args .f))) (le-antisymm (l .inv .0) (c .loop-test .left))))
+returns c =
+    let s = c .before .before in
+    let l = c .before .loop in (
+      omega arith,
+      ap (λ (sum : ℕ). (s .args .h + sum) % 4294967296 * 2654435761 % 4294967296)
+          (l .inv .1 .1 ∙ ap (λ (k : ℕ). foldl mixed 0 (row-of (s .args .t .now) k (s .args .f)))
+          (le-antisymm (l .inv .0) (c .loop-test .left))),
+    )
 
 pub mix-row-spec : {M : Type 1} → statement M
 mix-row-spec =

@@ -25,7 +25,17 @@ returns : tie.Need-returns Inv-loop μ-loop
 returns c = λ fuel h. pending-stop (c .before .before .before .loop .inv .1 .1) fuel (c .if1 .taken) (omega arith)
 
 extend-requires : tie.Need-extend-requires Inv-loop μ-loop
-extend-requires c κs = let s = c .before .before .before .before .before .before in let k = c .before .before .before .before .loop .inv .1 .1 .grown in (subst (Lent (s .args .shelf)) (sym (k .elsewhere .same-length)) (s .pre .0), (omega (arith, k .more), (k .chained (c .before .if1 .left), rising-kept (s .args .shelf) (s .args .area .now) (c .before .before .before .before .loop .area) (k .kept) (s .pre .1 .1 .1))))
+extend-requires c κs =
+    let before = c .before .before .before .before .before .before in
+    let loop = c .before .before .before .before .loop in
+    let s = before in
+    let k = loop .inv .1 .1 .grown in (
+      subst (Lent (s .args .shelf)) (sym (k .elsewhere .same-length)) (s .pre .0),
+      (
+        omega (arith, k .more),
+        (k .chained (c .before .if1 .left), rising-kept (s .args .shelf) (s .args .area .now) (loop .area) (k .kept) (s .pre .1 .1 .1)),
+      ),
+    )
 
 add-p : tie.Need-add-p Inv-loop μ-loop
 add-p c = search needs
@@ -34,13 +44,20 @@ loop-less : tie.Need-loop-less Inv-loop μ-loop
 loop-less c = search needs
 
 loop-again : tie.Need-loop-again Inv-loop μ-loop
-loop-again c = let r = c .before .before .extend in (omega arith, (omega (arith, r .ensures .more), pending-next (c .before .before .before .before .before .before .before .loop .inv .1 .1) (c .before .before .before .before .if1 .left) (c .before .before .before .before .before .before .loop-test .taken) (r .ensures)))
+loop-again c =
+    let extend = c .before .before .extend in
+    let loop = c .before .before .before .before .before .before .before .loop in
+    let if1 = c .before .before .before .before .if1 in
+    let test = c .before .before .before .before .before .before .loop-test in
+    let r = extend in
+    (omega arith, (omega (arith, r .ensures .more), pending-next (loop .inv .1 .1) (if1 .left) (test .taken) (r .ensures)))
 
 same-length-2 : tie.Need-same-length-2 Inv-loop μ-loop
 same-length-2 c = c .before .loop .inv .1 .1 .grown .elsewhere .same-length
 
 returns-2 : tie.Need-returns-2 Inv-loop μ-loop
-returns-2 c = λ fuel h. pending-done (c .before .loop .inv .1 .1) fuel (c .loop-test .left) (c .before .loop .inv .0) (omega arith)
+returns-2 c =
+    λ fuel h. pending-done (c .before .loop .inv .1 .1) fuel (c .loop-test .left) (c .before .loop .inv .0) (omega arith)
 
 pub profiles-spec : {M : Type 1} → statement M
 profiles-spec =

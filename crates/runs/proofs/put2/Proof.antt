@@ -33,7 +33,13 @@ same-length : tie.Need-same-length
 same-length c = search needs
 
 returns : tie.Need-returns
-returns c = let s = c .before .before in let e = ap (λ (at : ℕ). at + s .args .offset) (c .place .ensures) in (put-two (s .args .area .now) (s .args .x) e (s .pre .0 .1 .1) (s .pre .1), put-changed (s .args .area .now) (s .args .x) e (s .pre .0 .1 .1))
+returns c =
+    let s = c .before .before in
+    let e = ap (λ (at : ℕ). at + s .args .offset) (c .place .ensures) in (
+      put-two (s .args .area .now) (s .args .x) e (s .pre .0 .1 .1) (s .pre .1),
+      put-changed (s .args .area .now) (s .args .x) e
+          (s .pre .0 .1 .1),
+    )
 
 pub put2-spec : {M : Type 1} → statement M
 put2-spec =

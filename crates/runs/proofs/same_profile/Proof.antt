@@ -12,10 +12,22 @@ ends-of-requires : tie.Need-ends-of-requires
 ends-of-requires c κs = search needs
 
 returns : tie.Need-returns
-returns c = let s = c .before .before .before .before .before in other-first (record-of (s .args .shelf) (s .args .area .now) (s .args .p) .at) (s .args .ends) _ (λ e. c .if1 .taken (c .before .before .before .ends-of .ensures .first ∙ e))
+returns c =
+    let before = c .before .before .before .before .before in
+    let ends-of = c .before .before .before .ends-of in
+    let s = before in
+    other-first (record-of (s .args .shelf) (s .args .area .now) (s .args .p) .at) (s .args .ends) _
+    (λ e. c .if1 .taken (ends-of .ensures .first ∙ e))
 
 returns-2 : tie.Need-returns-2
-returns-2 c = let s = c .before .before .before .before .before .before .before .before in let r = c .before .before .before .before .before .before .ends-of .ensures in other-last (record-of (s .args .shelf) (s .args .area .now) (s .args .p) .at) (s .args .ends) _ (sym (r .first) ∙ c .before .before .before .if1 .left) (λ e. c .if2 .taken (r .last ∙ e))
+returns-2 c =
+    let before = c .before .before .before .before .before .before .before .before in
+    let ends-of = c .before .before .before .before .before .before .ends-of in
+    let if1 = c .before .before .before .if1 in
+    let s = before in
+    let r = ends-of .ensures in
+    other-last (record-of (s .args .shelf) (s .args .area .now) (s .args .p) .at) (s .args .ends) _ (sym (r .first) ∙ if1 .left)
+    (λ e. c .if2 .taken (r .last ∙ e))
 
 place-requires : tie.Need-place-requires
 place-requires c κs = search needs
@@ -24,7 +36,17 @@ same-triples-requires : tie.Need-same-triples-requires
 same-triples-requires c κs = search needs
 
 returns-3 : tie.Need-returns-3
-returns-3 c = let s = c .before .before .before .before .before .before .before .before .before .before in let r = c .before .before .before .before .before .before .before .before .ends-of .ensures in c .same-triples .ensures ∙ ap (λ (y : Triples). same-triples y (triples-in (s .args .shelf .n) (s .args .t .now))) (carried-at (s .args .shelf) (s .args .area .now) (s .args .p) (c .before .place .ensures)) ∙ same-ends (record-of (s .args .shelf) (s .args .area .now) (s .args .p) .at) (s .args .ends) _ (sym (r .first) ∙ c .before .before .before .before .before .if1 .left) (sym (r .last) ∙ c .before .before .if2 .left)
+returns-3 c =
+    let before = c .before .before .before .before .before .before .before .before .before .before in
+    let ends-of = c .before .before .before .before .before .before .before .before .ends-of in
+    let if1 = c .before .before .before .before .before .if1 in
+    let if2 = c .before .before .if2 in
+    let s = before in
+    let r = ends-of .ensures in
+    c .same-triples .ensures ∙ ap (λ (y : Triples). same-triples y (triples-in (s .args .shelf .n) (s .args .t .now)))
+    (carried-at (s .args .shelf) (s .args .area .now) (s .args .p) (c .before .place .ensures)) ∙ same-ends
+    (record-of (s .args .shelf) (s .args .area .now) (s .args .p) .at) (s .args .ends) _ (sym (r .first) ∙ if1 .left)
+    (sym (r .last) ∙ if2 .left)
 
 pub same-profile-spec : {M : Type 1} → statement M
 same-profile-spec =

@@ -27,16 +27,55 @@ triples-of-requires : tie.Need-triples-of-requires
 triples-of-requires c κs = search needs
 
 add-requires : tie.Need-add-requires
-add-requires c κs = let s = c .before .before .before .before .before .before .before .before .before .before .before in let k = s .pre .0 in (k .lent, (s .pre .1 .0 .1, (record { first = omega (arith, s .pre .1 .0 .0, k .few); last = index-small (c .before .before .before .before .before .before .before .to .given .0 .0) (s .args .area .now) (k .few) (c .before .before .before .before .find .ensures); parent = omega arith; letter = single-letter k (s .args .number .0) (s .args .choice-word) (s .pre .1 .0 .0) (s .pre .1 .1 .0 .0) (subst (Stepped-by _ _ _ _) (c .before .before .before .before .before .before .before .to .given .1) (c .before .before .before .before .before .before .before .before .before .by-word .ensures)) }, s .pre .1 .1 .1)))
+add-requires c κs =
+    let before = c .before .before .before .before .before .before .before .before .before .before .before in
+    let to = c .before .before .before .before .before .before .before .to in
+    let find = c .before .before .before .before .find in
+    let by-word = c .before .before .before .before .before .before .before .before .before .by-word in
+    let s = before in
+    let k = s .pre .0 in (
+      k .lent,
+      (
+        s .pre .1 .0 .1,
+        (
+          record {
+            first = omega (arith, s .pre .1 .0 .0, k .few);
+            last = index-small (to .given .0 .0) (s .args .area .now) (k .few)
+                (find .ensures);
+            parent = omega arith;
+            letter = single-letter k (s .args .number .0) (s .args .choice-word)
+                (s .pre .1 .0 .0) (s .pre .1 .1 .0 .0) (subst (Stepped-by _ _ _ _) (to .given .1) (by-word .ensures));
+          },
+          s .pre .1 .1 .1,
+        ),
+      ),
+    )
 
 returns : tie.Need-returns
-returns c = let s = c .before .before .before .before in single-nowhere (s .pre .0) (s .args .number .0) (s .args .choice-word) (s .pre .1 .0 .0) (s .pre .1 .1 .0 .0) (s .pre .1 .0 .1) (s .pre .1 .1 .1) (step-nowhere (c .before .before .by-word .ensures) (c .enum-told .given .1))
+returns c =
+    let before = c .before .before .before .before in
+    let by-word = c .before .before .by-word in
+    let s = before in
+    single-nowhere (s .pre .0) (s .args .number .0) (s .args .choice-word) (s .pre .1 .0 .0) (s .pre .1 .1 .0 .0)
+    (s .pre .1 .0 .1) (s .pre .1 .1 .1) (step-nowhere (by-word .ensures) (c .enum-told .given .1))
 
 same-length : tie.Need-same-length
 same-length c = search needs
 
 returns-2 : tie.Need-returns-2
-returns-2 c = let s = c .before .before .before .before .before .before .before .before .before .before .before .before .before .before in let t = c .before .before .before .before .before .triples-of in single-some (s .pre .0) (s .args .number .0) (s .args .choice-word) (s .pre .1 .0 .0) (s .pre .1 .1 .0 .0) (subst (Stepped-by _ _ _ _) (c .before .before .before .before .before .before .before .before .before .before .to .given .1) (c .before .before .before .before .before .before .before .before .before .before .before .before .by-word .ensures)) (t .result) refl (c .before .before .before .before .before .before .before .find .ensures) (c .before .before .before .before .before .before .choice-of .ensures) (t .ensures) (c .before .before .add .ensures)
+returns-2 c =
+    let before = c .before .before .before .before .before .before .before .before .before .before .before .before .before .before in
+    let triples-of = c .before .before .before .before .before .triples-of in
+    let to = c .before .before .before .before .before .before .before .before .before .before .to in
+    let by-word = c .before .before .before .before .before .before .before .before .before .before .before .before .by-word in
+    let find = c .before .before .before .before .before .before .before .find in
+    let choice-of = c .before .before .before .before .before .before .choice-of in
+    let add = c .before .before .add in
+    let s = before in
+    let t = triples-of in
+    single-some (s .pre .0) (s .args .number .0) (s .args .choice-word) (s .pre .1 .0 .0) (s .pre .1 .1 .0 .0)
+    (subst (Stepped-by _ _ _ _) (to .given .1) (by-word .ensures)) (t .result) refl (find .ensures) (choice-of .ensures)
+    (t .ensures) (add .ensures)
 
 pub single-spec : {M : Type 1} → statement M
 single-spec =

@@ -34,7 +34,18 @@ loop-less : tie.Need-loop-less Inv-loop μ-loop
 loop-less c = search needs
 
 loop-again : tie.Need-loop-again Inv-loop μ-loop
-loop-again c = let s = c .before .before .before in let l = c .before .before .loop in (omega arith, (store-more (l .area) (s .args .t .now) (s .args .at) (l .i) (omega (arith, l .inv .1 .1 .same-length)) (l .inv .1 .0), changed-set (l .inv .1 .1) _ _ (omega arith) (omega arith)))
+loop-again c =
+    let before = c .before .before .before in
+    let loop = c .before .before .loop in
+    let s = before in
+    let l = loop in (
+      omega arith,
+      (
+        store-more (l .area) (s .args .t .now) (s .args .at) (l .i) (omega (arith, l .inv .1 .1 .same-length))
+            (l .inv .1 .0),
+        changed-set (l .inv .1 .1) _ _ (omega arith) (omega arith),
+      ),
+    )
 
 same-length : tie.Need-same-length Inv-loop μ-loop
 same-length c = c .before .loop .inv .1 .1 .same-length

@@ -27,7 +27,18 @@ same-length : tie.Need-same-length
 same-length c = search needs
 
 returns : tie.Need-returns
-returns c = let s = c .before .before .before .before .before .before .before .before .before .before .before .before .before .before .before .before .before .before .before .before .before .before in let at = place (s .args .shelf) (s .args .p) in let i = c .before .before .before .before .before .before .before .before .before .before .before .before .before .before .before .before .before .before .before .place .ensures in let t = c .before .before .before .before .before .before .before .before .before .before .before .before .before .before .before .before .before .before .store .ensures in let p = c .before .before .before .before .before .before .before .before .before .before .before .before .before .before .put2 .ensures in let q = c .before .before .before .before .before .before .before .before .before .before .put22 .ensures in let r = c .before .before .before .before .before .before .put23 .ensures in let u = c .before .before .put24 .ensures in (written (s .args .t .now) at (s .args .ends) i (t .1) (p .1) (q .1) (r .1) (u .1) (t .0) (p .0) (q .0) (r .0) (u .0) (s .args .shelf .n) (s .pre .0 .next), written-changed (s .args .t .now) at (s .args .ends) i (t .1) (p .1) (q .1) (r .1) (u .1))
+returns c = let s = c .before .before .before .before .before .before .before .before .before .before .before .before .before .before
+    .before .before .before .before .before .before .before .before in let at = place (s .args .shelf) (s .args .p) in let i =
+    c .before .before .before .before .before .before .before .before .before .before .before .before .before .before .before .before
+    .before .before .before .place .ensures in let t = c .before .before .before .before .before .before .before .before .before .before
+    .before .before .before .before .before .before .before .before .store .ensures in let p =
+    c .before .before .before .before .before .before .before .before .before .before .before .before .before .before .put2 .ensures in
+    let q = c .before .before .before .before .before .before .before .before .before .before .put22 .ensures in let r =
+    c .before .before .before .before .before .before .put23 .ensures in let u = c .before .before .put24 .ensures in (
+      written (s .args .t .now) at (s .args .ends) i (t .1) (p .1) (q .1) (r .1) (u .1) (t .0) (p .0) (q .0) (r .0) (u .0)
+          (s .args .shelf .n) (s .pre .0 .next),
+      written-changed (s .args .t .now) at (s .args .ends) i (t .1) (p .1) (q .1) (r .1) (u .1),
+    )
 
 pub write-spec : {M : Type 1} → statement M
 write-spec =

@@ -14,7 +14,10 @@ same-length : tie.Need-same-length
 same-length c = search needs
 
 returns : tie.Need-returns
-returns c = let s = c .before .before .before .before .before in (add-known _ _ (s .pre .0 .fits) (sym (c .before .is-known .ensures) ∙ c .if1 .taken), ((omega arith, omega arith), λ h. s .pre .1))
+returns c =
+    let before = c .before .before .before .before .before in
+    let s = before in
+    (add-known _ _ (s .pre .0 .fits) (sym (c .before .is-known .ensures) ∙ c .if1 .taken), ((omega arith, omega arith), λ h. s .pre .1))
 
 mul-put8 : tie.Need-mul-put8
 mul-put8 c = search needs
@@ -45,11 +48,17 @@ same-length-2 c = search needs
 
 returns-2 : tie.Need-returns-2
 returns-2 c =
-    let s = c .before .before .before .before .before .before .before .before .before .before .before in (
-      add-new _ _ (s .pre .0 .fits) (sym (c .before .before .before .before .before .before .before .is-known .ensures) ∙ c .before .before .before .before .before .before .if1 .left) (c .before .before .before .before .before .if2 .taken) (c .before .before .before .put8 .ensures),
+    let before = c .before .before .before .before .before .before .before .before .before .before .before in
+    let is-known = c .before .before .before .before .before .before .before .is-known in
+    let if1 = c .before .before .before .before .before .before .if1 in
+    let if2 = c .before .before .before .before .before .if2 in
+    let put8 = c .before .before .before .put8 in
+    let s = before in (
+      add-new _ _ (s .pre .0 .fits) (sym (is-known .ensures) ∙ if1 .left) (if2 .taken) (put8 .ensures),
       (
         (omega arith, omega arith),
-        λ h. marked-more (s .args .set) _ (s .pre .1) (omega arith) (omega arith) (c .slot .ensures) (omega arith) (c .before .before .before .put8 .ensures),
+        λ h. marked-more (s .args .set) _ (s .pre .1) (omega arith) (omega arith) (c .slot .ensures)
+            (omega arith) (put8 .ensures),
       ),
     )
 
@@ -60,7 +69,12 @@ same-length-3 : tie.Need-same-length-3
 same-length-3 c = search needs
 
 returns-3 : tie.Need-returns-3
-returns-3 c = (add-full _ _ (c .before .before .before .before .before .before .pre .0 .fits) (sym (c .before .before .is-known .ensures) ∙ c .before .if1 .left) (c .if2 .left), ((omega arith, omega arith), λ h. absurd (omega arith)))
+returns-3 c =
+    let start = c .before .before .before .before .before .before in
+    let is-known = c .before .before .is-known in (
+      add-full _ _ (start .pre .0 .fits) (sym (is-known .ensures) ∙ c .before .if1 .left) (c .if2 .left),
+      ((omega arith, omega arith), λ h. absurd (omega arith)),
+    )
 
 pub add-spec : {M : Type 1} → statement M
 add-spec =

@@ -34,7 +34,8 @@ loop-again c = (
   omega arith,
   ⊎-elim
       (λ w. rw (w .1, w .2) (chosen-or (c .before .before .before .loop .inv .1) (w .0 .taken) (omega arith)))
-      (λ w. rw (w .1, w .2) (chosen-other (c .before .before .before .loop .inv .1) (c .before .before .before .before .pre) (c .before .before .loop-test .taken) (w .0 .left)))
+      (λ w. rw (w .1, w .2) (chosen-other (c .before .before .before .loop .inv .1) (c .before .before .before .before .pre)
+      (c .before .before .loop-test .taken) (w .0 .left)))
       (c .if1 .came),
 )
 

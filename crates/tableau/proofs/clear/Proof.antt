@@ -30,13 +30,17 @@ loop-less : tie.Need-loop-less Inv-loop μ-loop
 loop-less c = search needs
 
 loop-again : tie.Need-loop-again Inv-loop μ-loop
-loop-again c = (omega arith, (simp length-set (c .before .loop .inv .1 .0), clear-more _ _ _ (c .before .loop .inv .1 .1) (omega arith)))
+loop-again c =
+    (omega arith, (simp length-set (c .before .loop .inv .1 .0), clear-more _ _ _ (c .before .loop .inv .1 .1) (omega arith)))
 
 same-length : tie.Need-same-length Inv-loop μ-loop
 same-length c = search needs
 
 returns : tie.Need-returns Inv-loop μ-loop
-returns c = at-end (λ (k : ℕ). c .before .loop .area ≡ zeros k ++ drop k (c .before .before .args .area .now)) (c .before .loop .inv .0) (c .loop-test .left) (c .before .loop .inv .1 .1)
+returns c =
+    let start = c .before .before in
+    at-end (λ (k : ℕ). c .before .loop .area ≡ zeros k ++ drop k (start .args .area .now)) (c .before .loop .inv .0)
+    (c .loop-test .left) (c .before .loop .inv .1 .1)
 
 pub clear-spec : {M : Type 1} → statement M
 clear-spec =

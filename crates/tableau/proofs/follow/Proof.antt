@@ -21,13 +21,24 @@ add-requires : tie.Need-add-requires
 add-requires c κs = search needs
 
 returns : tie.Need-returns
-returns c = (follow-nowhere (step-nowhere (c .before .before .by-word .ensures) (c .enum-told .given .1)), ((omega arith, omega arith), λ h. c .before .before .before .before .pre .1 .1 .0))
+returns c =
+    let by-word = c .before .before .by-word in
+    let start = c .before .before .before .before in
+    (follow-nowhere (step-nowhere (by-word .ensures) (c .enum-told .given .1)), ((omega arith, omega arith), λ h. start .pre .1 .1 .0))
 
 same-length : tie.Need-same-length
 same-length c = search needs
 
 returns-2 : tie.Need-returns-2
-returns-2 c = (follow-some (c .before .before .before .before .before .before .before .before .before .before .pre .0) (c .before .before .before .before .before .before .before .before .before .before .pre .1 .0 .fits) (subst (Stepped-by _ _ _ _) (c .before .before .before .before .before .before .to .given .1) (c .before .before .before .before .before .before .before .before .by-word .ensures)) (c .before .before .add .ensures .0), c .before .before .add .ensures .1)
+returns-2 c =
+    let start = c .before .before .before .before .before .before .before .before .before .before in
+    let to = c .before .before .before .before .before .before .to in
+    let by-word = c .before .before .before .before .before .before .before .before .by-word in
+    let add = c .before .before .add in (
+      follow-some (start .pre .0) (start .pre .1 .0 .fits) (subst (Stepped-by _ _ _ _) (to .given .1) (by-word .ensures))
+          (add .ensures .0),
+      add .ensures .1,
+    )
 
 pub follow-spec : {M : Type 1} → statement M
 follow-spec =

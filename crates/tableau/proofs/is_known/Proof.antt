@@ -21,7 +21,10 @@ wide16-requires : tie.Need-wide16-requires
 wide16-requires c κs = search needs
 
 returns : tie.Need-returns
-returns c = sym (unmarked _ (c .before .before .before .before .before .pre .1) (c .before .before .before .slot .ensures) (c .before .wide16 .ensures) (c .if1 .taken))
+returns c =
+    let start = c .before .before .before .before .before in
+    let slot = c .before .before .before .slot in
+    sym (unmarked _ (start .pre .1) (slot .ensures) (c .before .wide16 .ensures) (c .if1 .taken))
 
 sub-t14 : tie.Need-sub-t14
 sub-t14 c = search needs
@@ -30,7 +33,11 @@ node-requires : tie.Need-node-requires
 node-requires c κs = search needs
 
 returns-2 : tie.Need-returns-2
-returns-2 c = let a = c .before .before .before .before .before .before .before .before .args in sym (stands (a .known) (a .area .now) (a .set) (c .before .before .before .before .wide16 .result - 1) (omega arith) (sym (c .before .node .ensures) ∙ c .if3 .taken))
+returns-2 c =
+    let start = c .before .before .before .before .before .before .before .before in
+    let wide16 = c .before .before .before .before .wide16 in
+    let a = start .args in
+    sym (stands (a .known) (a .area .now) (a .set) (wide16 .result - 1) (omega arith) (sym (c .before .node .ensures) ∙ c .if3 .taken))
 
 find-requires : tie.Need-find-requires
 find-requires c κs = search needs

@@ -34,7 +34,11 @@ element-copy-out-if1 : tie.Need-element-copy-out-if1 Inv-loop μ-loop
 element-copy-out-if1 c = search needs
 
 returns : tie.Need-returns Inv-loop μ-loop
-returns c = let a = c .before .before .before .before .args in some-unmet (a .unmet .now) (a .choice-word) (c .before .before .loop-test .taken) (c .if1 .taken)
+returns c =
+    let start = c .before .before .before .before in
+    let test = c .before .before .loop-test in
+    let a = start .args in
+    some-unmet (a .unmet .now) (a .choice-word) (test .taken) (c .if1 .taken)
 
 add-j : tie.Need-add-j Inv-loop μ-loop
 add-j c = search needs
@@ -43,10 +47,17 @@ loop-less : tie.Need-loop-less Inv-loop μ-loop
 loop-less c = search needs
 
 loop-again : tie.Need-loop-again Inv-loop μ-loop
-loop-again c = let a = c .before .before .before .before .args in (omega arith, none-more (a .unmet .now) (a .choice-word) (c .before .before .before .loop .inv .1) (c .if1 .left))
+loop-again c =
+    let start = c .before .before .before .before in
+    let loop = c .before .before .before .loop in
+    let a = start .args in
+    (omega arith, none-more (a .unmet .now) (a .choice-word) (loop .inv .1) (c .if1 .left))
 
 returns-2 : tie.Need-returns-2 Inv-loop μ-loop
-returns-2 c = let a = c .before .before .args in none-unmet (a .unmet .now) (a .choice-word) (λ i h. c .before .loop .inv .1 i (omega arith))
+returns-2 c =
+    let start = c .before .before in
+    let a = start .args in
+    none-unmet (a .unmet .now) (a .choice-word) (λ i h. c .before .loop .inv .1 i (omega arith))
 
 pub is-unmet-spec : {M : Type 1} → statement M
 is-unmet-spec =

@@ -33,13 +33,27 @@ loop-less c = search needs
 
 loop-again : tie.Need-loop-again Inv-loop μ-loop
 loop-again c =
-    ⊎-elim
-    (λ w. (omega arith, (omega (arith, w .1), omega (arith, w .1, ors-one (c .before .before .before .before .args .rows .now) (c .before .before .before .loop .e) (w .0 .taken)))))
-    (λ w. (omega arith, (omega (arith, w .1), omega (arith, w .1, ors-same (c .before .before .before .before .args .rows .now) (c .before .before .before .loop .e) (c .before .before .before .before .pre) (c .before .before .loop-test .taken) (w .0 .left)))))
-    (c .if1 .came)
+    let start = c .before .before .before .before in
+    let loop = c .before .before .before .loop in
+    let test = c .before .before .loop-test in
+    ⊎-elim (λ w. (
+      omega arith,
+      (omega (arith, w .1), omega (arith, w .1, ors-one (start .args .rows .now) (loop .e) (w .0 .taken))),
+    ))
+    (λ w. (
+      omega arith,
+      (
+        omega (arith, w .1),
+        omega
+            (arith, w .1, ors-same (start .args .rows .now) (loop .e) (start .pre) (test .taken) (w .0 .left)),
+      ),
+    )) (c .if1 .came)
 
 returns : tie.Need-returns Inv-loop μ-loop
-returns c = at-end (λ (k : ℕ). c .before .loop .n ≡ ors (table-of (c .before .before .args .rows .now) k)) (c .before .loop .inv .0) (c .loop-test .left) (c .before .loop .inv .1 .1)
+returns c =
+    let start = c .before .before in
+    at-end (λ (k : ℕ). c .before .loop .n ≡ ors (table-of (start .args .rows .now) k)) (c .before .loop .inv .0)
+    (c .loop-test .left) (c .before .loop .inv .1 .1)
 
 pub ors-spec : {M : Type 1} → statement M
 ors-spec =

@@ -24,7 +24,10 @@ lowest-requires : tie.Need-lowest-requires Inv-loop μ-loop
 lowest-requires c κs = search needs
 
 with-required-requires : tie.Need-with-required-requires Inv-loop μ-loop
-with-required-requires c κs = placed (c .before .before .before .before .pre) (passed-below (c .before .before .loop .inv) (c .lowest .ensures))
+with-required-requires c κs =
+    let start = c .before .before .before .before in
+    let loop = c .before .before .loop in
+    placed (start .pre) (passed-below (loop .inv) (c .lowest .ensures))
 
 without-requires : tie.Need-without-requires Inv-loop μ-loop
 without-requires c κs = search needs
@@ -33,7 +36,10 @@ loop-less : tie.Need-loop-less Inv-loop μ-loop
 loop-less c = omega (arith, c .without .ensures .less, pow-pos (c .before .before .lowest .result))
 
 loop-again : tie.Need-loop-again Inv-loop μ-loop
-loop-again c = passed-more (c .before .before .before .before .loop .inv) (c .before .before .lowest .ensures) (c .without .ensures) (c .before .with-required .ensures)
+loop-again c =
+    let loop = c .before .before .before .before .loop in
+    let lowest = c .before .before .lowest in
+    passed-more (loop .inv) (lowest .ensures) (c .without .ensures) (c .before .with-required .ensures)
 
 returns : tie.Need-returns Inv-loop μ-loop
 returns c = passed-all (c .before .loop .inv) (c .loop-test .left)

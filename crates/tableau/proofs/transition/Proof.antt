@@ -14,13 +14,29 @@ required-by-requires : tie.Need-required-by-requires
 required-by-requires c κs = search needs
 
 returns-2 : tie.Need-returns-2
-returns-2 c = step-false (c .before .before .before .before .pre) (c .before .before .before .saturated .ensures) (c .before .required-by .ensures) (c .before .before .if1 .left) (c .if2 .taken)
+returns-2 c =
+    let start = c .before .before .before .before in
+    let saturated = c .before .before .before .saturated in
+    let if1 = c .before .before .if1 in
+    step-false (start .pre) (saturated .ensures) (c .before .required-by .ensures) (if1 .left) (c .if2 .taken)
 
 returns-3 : tie.Need-returns-3
-returns-3 c = step-clash (c .before .before .before .before .before .before .pre) (c .before .before .before .before .before .saturated .ensures) (c .before .before .before .required-by .ensures) (c .before .before .before .before .if1 .left) (c .before .before .if2 .left) (c .if3 .taken)
+returns-3 c =
+    let start = c .before .before .before .before .before .before in
+    let saturated = c .before .before .before .before .before .saturated in
+    let required-by = c .before .before .before .required-by in
+    let if1 = c .before .before .before .before .if1 in
+    let if2 = c .before .before .if2 in
+    step-clash (start .pre) (saturated .ensures) (required-by .ensures) (if1 .left) (if2 .left) (c .if3 .taken)
 
 returns-4 : tie.Need-returns-4
-returns-4 c = step-some (c .before .before .before .before .before .before .pre) (c .before .before .before .before .before .saturated .ensures) (c .before .before .before .required-by .ensures) (c .before .before .before .before .if1 .left) (c .before .before .if2 .left) (c .if3 .left)
+returns-4 c =
+    let start = c .before .before .before .before .before .before in
+    let saturated = c .before .before .before .before .before .saturated in
+    let required-by = c .before .before .before .required-by in
+    let if1 = c .before .before .before .before .if1 in
+    let if2 = c .before .before .if2 in
+    step-some (start .pre) (saturated .ensures) (required-by .ensures) (if1 .left) (if2 .left) (c .if3 .left)
 
 pub transition-spec : {M : Type 1} → statement M
 transition-spec =

@@ -28,10 +28,16 @@ unmet-between-requires : tie.Need-unmet-between-requires Inv-loop μ-loop
 unmet-between-requires c κs = search needs
 
 returns : tie.Need-returns Inv-loop μ-loop
-returns c = unmet-start _ _ (c .before .before .before .ors .ensures) (ap (λ (x : ℕ). x - 1) (c .before .before .power .ensures)) (c .before .unmet-between .ensures) .1
+returns c =
+    let ors = c .before .before .before .ors in
+    let power = c .before .before .power in
+    unmet-start _ _ (ors .ensures) (ap (λ (x : ℕ). x - 1) (power .ensures)) (c .before .unmet-between .ensures) .1
 
 loop-holds : tie.Need-loop-holds Inv-loop μ-loop
-loop-holds c = (omega arith, unmet-start _ _ (c .before .before .before .ors .ensures) (ap (λ (x : ℕ). x - 1) (c .before .before .power .ensures)) (c .before .unmet-between .ensures))
+loop-holds c =
+    let ors = c .before .before .before .ors in
+    let power = c .before .before .power in
+    (omega arith, unmet-start _ _ (ors .ensures) (ap (λ (x : ℕ). x - 1) (power .ensures)) (c .before .unmet-between .ensures))
 
 has-requires : tie.Need-has-requires Inv-loop μ-loop
 has-requires c κs = search needs
@@ -77,12 +83,16 @@ loop-less c = search needs
 
 loop-again : tie.Need-loop-again Inv-loop μ-loop
 loop-again c =
-    let s = c .before .before .before in
+    let before = c .before .before .before in
+    let s = before in
     let f = s .before .before .before .before in
-    ⊎-elim
-    (λ w. (omega arith, rw (w .5) (unmet-turn _ _ (f .ors .ensures) (ap (λ (x : ℕ). x - 1) (s .before .before .before .power .ensures)) (s .loop .j) (omega (arith, f .ors .ensures, f .before .pre .few-ors)) refl refl (w .1 .ensures) (w .2 .ensures) (w .3 .ensures) (w .4 .ensures) (s .loop .inv .1))))
-    (λ w. (omega arith, rw (w .1) (s .loop .inv .1)))
-    (c .if2 .came)
+    ⊎-elim (λ w. (
+      omega arith,
+      rw (w .5)
+          (unmet-turn _ _ (f .ors .ensures) (ap (λ (x : ℕ). x - 1) (s .before .before .before .power .ensures)) (s .loop .j)
+          (omega (arith, f .ors .ensures, f .before .pre .few-ors)) refl refl (w .1 .ensures) (w .2 .ensures) (w .3 .ensures)
+          (w .4 .ensures) (s .loop .inv .1)),
+    )) (λ w. (omega arith, rw (w .1) (s .loop .inv .1))) (c .if2 .came)
 
 returns-2 : tie.Need-returns-2 Inv-loop μ-loop
 returns-2 c = c .before .loop .inv .1 .1

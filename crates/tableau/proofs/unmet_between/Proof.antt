@@ -42,13 +42,23 @@ loop-again : tie.Need-loop-again Inv-loop μ-loop
 loop-again c = (
   omega arith,
   ⊎-elim
-      (λ w. (omega (arith, w .4), rw (w .3, w .4) (outside-or (c .before .before .before .loop .inv .1 .1) (w .0 .taken) (w .1 .ensures) (w .2 .result) (w .2 .ensures))))
-      (λ w. (omega (arith, w .2), rw (w .1, w .2) (outside-other (c .before .before .before .loop .inv .1 .1) (c .before .before .before .before .before .pre) (c .before .before .loop-test .taken) (w .0 .left))))
+      (λ w. (
+        omega (arith, w .4),
+        rw (w .3, w .4) (outside-or (c .before .before .before .loop .inv .1 .1) (w .0 .taken) (w .1 .ensures) (w .2 .result)
+            (w .2 .ensures)),
+      ))
+      (λ w. (
+        omega (arith, w .2),
+        rw (w .1, w .2) (outside-other (c .before .before .before .loop .inv .1 .1) (c .before .before .before .before .before .pre)
+            (c .before .before .loop-test .taken) (w .0 .left)),
+      ))
       (c .if1 .came),
 )
 
 returns : tie.Need-returns Inv-loop μ-loop
-returns c = unmet-all (c .before .before .widest .ensures) (c .before .loop .inv .1 .1) (c .before .loop .inv .0) (c .loop-test .left)
+returns c =
+    let widest = c .before .before .widest in
+    unmet-all (widest .ensures) (c .before .loop .inv .1 .1) (c .before .loop .inv .0) (c .loop-test .left)
 
 pub unmet-between-spec : {M : Type 1} → statement M
 unmet-between-spec =

@@ -30,22 +30,43 @@ lowest-requires : tie.Need-lowest-requires Inv-loop μ-loop
 lowest-requires c κs = search needs
 
 moved-requires : tie.Need-moved-requires Inv-loop μ-loop
-moved-requires c κs = placed (c .before .before .before .before .before .before .pre) (spread-below (c .before .before .loop .inv) (c .lowest .ensures))
+moved-requires c κs =
+    let start = c .before .before .before .before .before .before in
+    let loop = c .before .before .loop in
+    placed (start .pre) (spread-below (loop .inv) (c .lowest .ensures))
 
 moved-requires-2 : tie.Need-moved-requires-2 Inv-loop μ-loop
-moved-requires-2 c κs = placed (c .before .before .before .before .before .before .before .pre) (spread-below (c .before .before .before .loop .inv) (c .before .lowest .ensures))
+moved-requires-2 c κs =
+    let start = c .before .before .before .before .before .before .before in
+    let loop = c .before .before .before .loop in
+    placed (start .pre) (spread-below (loop .inv) (c .before .lowest .ensures))
 
 without-requires : tie.Need-without-requires Inv-loop μ-loop
 without-requires c κs = search needs
 
 loop-less : tie.Need-loop-less Inv-loop μ-loop
-loop-less c = let k = c .before .before .before .before .before .before .before in widest-less (k .before .before .args .rows .now) (k .before .choice-of .result) (k .choice-of2 .result) (c .before .before .before .before .before .loop .inv) (c .before .before .before .lowest .ensures) (c .without .ensures) (c .before .before .moved .ensures) (c .before .moved2 .ensures) (2 ^ 64) (omega arith)
+loop-less c =
+    let before = c .before .before .before .before .before .before .before in
+    let loop = c .before .before .before .before .before .loop in
+    let lowest = c .before .before .before .lowest in
+    let moved = c .before .before .moved in
+    let k = before in
+    widest-less (k .before .before .args .rows .now) (k .before .choice-of .result) (k .choice-of2 .result) (loop .inv)
+    (lowest .ensures) (c .without .ensures) (moved .ensures) (c .before .moved2 .ensures) (2 ^ 64) (omega arith)
 
 loop-again : tie.Need-loop-again Inv-loop μ-loop
-loop-again c = widest-turn _ _ _ (c .before .before .before .before .before .loop .inv) (c .before .before .before .lowest .ensures) (c .without .ensures) (c .before .before .moved .ensures) (c .before .moved2 .ensures) (c .before .before .before .before .before .before .before .before .before .pre)
+loop-again c =
+    let loop = c .before .before .before .before .before .loop in
+    let lowest = c .before .before .before .lowest in
+    let moved = c .before .before .moved in
+    let start = c .before .before .before .before .before .before .before .before .before in
+    widest-turn _ _ _ (loop .inv) (lowest .ensures) (c .without .ensures) (moved .ensures) (c .before .moved2 .ensures) (start .pre)
 
 returns : tie.Need-returns Inv-loop μ-loop
-returns c = widest-rest (c .before .before .before .before .choice-of .ensures) (c .before .before .before .choice-of2 .ensures) (c .before .loop .inv) (c .loop-test .left)
+returns c =
+    let choice-of = c .before .before .before .before .choice-of in
+    let choice-of2 = c .before .before .before .choice-of2 in
+    widest-rest (choice-of .ensures) (choice-of2 .ensures) (c .before .loop .inv) (c .loop-test .left)
 
 pub widest-spec : {M : Type 1} → statement M
 widest-spec =

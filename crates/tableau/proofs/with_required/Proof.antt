@@ -20,10 +20,17 @@ wide-requires : tie.Need-wide-requires
 wide-requires c κs = search needs
 
 power-requires : tie.Need-power-requires
-power-requires c κs = let r = c .before .before .before .before .pre .row in omega (arith, c .before .wide .ensures, r .signal (omega (arith, c .if1 .taken)) (omega (arith, c .if1 .taken)))
+power-requires c κs =
+    let start = c .before .before .before .before in
+    let r = start .pre .row in
+    omega (arith, c .before .wide .ensures, r .signal (omega (arith, c .if1 .taken)) (omega (arith, c .if1 .taken)))
 
 power-requires-2 : tie.Need-power-requires-2
-power-requires-2 c κs = let r = c .before .before .before .before .before .pre .row in omega (arith, c .before .before .wide .ensures, r .signal (omega (arith, c .if2 .taken)) (omega (arith, c .if2 .taken)))
+power-requires-2 c κs =
+    let start = c .before .before .before .before .before in
+    let wide = c .before .before .wide in
+    let r = start .pre .row in
+    omega (arith, wide .ensures, r .signal (omega (arith, c .if2 .taken)) (omega (arith, c .if2 .taken)))
 
 add-power : tie.Need-add-power
 add-power c = search needs
@@ -33,11 +40,15 @@ power-requires-3 c κs = search needs
 
 returns : tie.Need-returns
 returns c =
-    let row = c .before .before .before .before .before .before .before .pre .row in
-    let wide = c .before .before .before .before .wide .ensures in
+    let start = c .before .before .before .before .before .before .before in
+    let wide = c .before .before .before .before .wide in
+    let if1 = c .before .before .before .if1 in
+    let if2 = c .before .before .if2 in
+    let row = start .pre .row in
+    let wide = wide .ensures in
     more-at _ _ _ _ (row .some) (row .known)
-    (⊎-elim (λ w. inl (w .0 .taken, rw (w .3, w .1 .ensures, wide))) (λ w. inr (w .0 .left, w .1)) (c .before .before .before .if1 .came))
-    (⊎-elim (λ w. inl (w .0 .taken, rw (w .3, w .1 .ensures, wide))) (λ w. inr (w .0 .left, w .1)) (c .before .before .if2 .came))
+    (⊎-elim (λ w. inl (w .0 .taken, rw (w .3, w .1 .ensures, wide))) (λ w. inr (w .0 .left, w .1)) (if1 .came))
+    (⊎-elim (λ w. inl (w .0 .taken, rw (w .3, w .1 .ensures, wide))) (λ w. inr (w .0 .left, w .1)) (if2 .came))
     (⊎-elim (λ w. inl (w .0 .taken, rw (w .3, w .1 .ensures))) (λ w. inr (w .0 .left, w .1)) (c .before .if3 .came))
 
 pub with-required-spec : {M : Type 1} → statement M

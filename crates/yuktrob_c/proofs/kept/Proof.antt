@@ -8,11 +8,14 @@ returns : tie.Need-returns
 returns c = none-before (c .before .args .op) (c .before .pre .0) (c .if1 .taken) (c .before .args .argument)
 
 returns-2 : tie.Need-returns-2
-returns-2 c = none-behind (c .before .before .args .op) (c .if2 .taken) (c .before .before .pre .1) (c .before .before .args .argument)
+returns-2 c =
+    let start = c .before .before in
+    none-behind (start .args .op) (c .if2 .taken) (start .pre .1) (start .args .argument)
 
 returns-3 : tie.Need-returns-3
 returns-3 c =
-    argument-kept (c .before .before .args .op) (omega (arith, c .before .if1 .left)) (omega (arith, c .if2 .left)) (c .before .before .args .argument)
+    let start = c .before .before in
+    argument-kept (start .args .op) (omega (arith, c .before .if1 .left)) (omega (arith, c .if2 .left)) (start .args .argument)
 
 pub kept-spec : {M : Type 1} → statement M
 kept-spec = tie.close (tie.spec returns returns-2 returns-3)

@@ -34,7 +34,9 @@ returns-2 : tie.Need-returns-2
 returns-2 c = c .number2 .ensures ∙ sym (ap truth-number (c .before .before .t2 .given .1))
 
 returns-3 : tie.Need-returns-3
-returns-3 c = c .number3 .ensures ∙ ap (number 0) (c .before .one-if .ensures .0) ∙ sym (ap truth-number (c .before .before .before .t3 .given .1))
+returns-3 c =
+    let t3 = c .before .before .before .t3 in
+    c .number3 .ensures ∙ ap (number 0) (c .before .one-if .ensures .0) ∙ sym (ap truth-number (t3 .given .1))
 
 pub truth-number-spec : {M : Type 1} → statement M
 truth-number-spec =

@@ -17,7 +17,8 @@ enum-known-outcome c = search needs
 
 number-requires : tie.Need-number-requires
 number-requires c κs =
-    let at-read = c .before .before .before .before in
+    let before = c .before .before .before .before in
+    let at-read = before in
     early-fits (reading-early _ (at-read .read .result) (at-read .read .ensures .0) _ (c .before .outcome .given .1))
 
 enum-told : tie.Need-enum-told
@@ -25,18 +26,20 @@ enum-told c = search needs
 
 entry-requires : tie.Need-entry-requires
 entry-requires c κs =
-    let at-read = c .before .before .before in
+    let before = c .before .before .before in
+    let at-read = before in
     accepted-commands _ (at-read .read .result) (at-read .read .ensures .0) (c .enum-told .given .1)
 
 returns : tie.Need-returns
 returns c =
-    let at-read = c .before .before .before .before .before in
+    let before = c .before .before .before .before .before in
+    let outcome = c .before .before .outcome in
+    let at-read = before in
     let at-start = at-read .before .before in
     let e = at-start .args .e in
-    c .number .ensures
-    ∙ sym
+    c .number .ensures ∙ sym
     (ap (λ (x : Reading Entries). entry-number x e)
-    (reading-refused (at-start .args .rule .now) (at-read .read .result) (at-read .read .ensures .0) _ (c .before .before .outcome .given .1)))
+    (reading-refused (at-start .args .rule .now) (at-read .read .result) (at-read .read .ensures .0) _ (outcome .given .1)))
 
 returns-2 : tie.Need-returns-2
 returns-2 c =
@@ -44,8 +47,7 @@ returns-2 c =
     let at-read = at-told .before .before .before in
     let at-start = at-read .before .before in
     let e = at-start .args .e in
-    c .entry .ensures
-    ∙ ap (λ (x : Reading Entries). entry-number x e)
+    c .entry .ensures ∙ ap (λ (x : Reading Entries). entry-number x e)
     (reading-accepted (at-start .args .rule .now) (at-read .read .result) (at-read .read .ensures .0) (at-told .enum-told .given .1))
 
 pub yuktrob-entry-spec : {M : Type 1} → statement M

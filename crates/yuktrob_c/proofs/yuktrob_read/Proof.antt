@@ -17,7 +17,8 @@ enum-known-outcome c = search needs
 
 number-requires : tie.Need-number-requires
 number-requires c κs =
-    let at-read = c .before .before .before .before in
+    let before = c .before .before .before .before in
+    let at-read = before in
     early-fits (reading-early _ (at-read .read .result) (at-read .read .ensures .0) _ (c .before .outcome .given .1))
 
 enum-told : tie.Need-enum-told
@@ -25,7 +26,8 @@ enum-told c = search needs
 
 number-requires-2 : tie.Need-number-requires-2
 number-requires-2 c κs =
-    let at-read = c .before .before .before in
+    let before = c .before .before .before in
+    let at-read = before in
     let x = at-read .read .result in
     few-fits (accepted-commands _ x (at-read .read .ensures .0) (c .enum-told .given .1) .few)
   where
@@ -34,12 +36,13 @@ number-requires-2 c κs =
 
 returns : tie.Need-returns
 returns c =
-    let at-read = c .before .before .before .before .before in
+    let before = c .before .before .before .before .before in
+    let outcome = c .before .before .outcome in
+    let at-read = before in
     let at-start = at-read .before .before in
-    c .number .ensures
-    ∙ sym
-    (ap reading-number
-    (reading-refused (at-start .args .rule .now) (at-read .read .result) (at-read .read .ensures .0) _ (c .before .before .outcome .given .1)))
+    c .number .ensures ∙ sym
+    (ap reading-number (reading-refused (at-start .args .rule .now) (at-read .read .result) (at-read .read .ensures .0) _
+    (outcome .given .1)))
 
 returns-2 : tie.Need-returns-2
 returns-2 c =
@@ -47,9 +50,9 @@ returns-2 c =
     let at-read = at-told .before .before .before in
     let at-start = at-read .before .before in
     let x = at-read .read .result in
-    c .number2 .ensures
-    ∙ sym (ap (number 0) (accepted-count (at-start .args .rule .now) x (at-read .read .ensures .0) (at-told .enum-told .given .1)))
-    ∙ ap reading-number (reading-accepted (at-start .args .rule .now) x (at-read .read .ensures .0) (at-told .enum-told .given .1))
+    c .number2 .ensures ∙ sym
+    (ap (number 0) (accepted-count (at-start .args .rule .now) x (at-read .read .ensures .0) (at-told .enum-told .given .1))) ∙
+    ap reading-number (reading-accepted (at-start .args .rule .now) x (at-read .read .ensures .0) (at-told .enum-told .given .1))
 
 pub yuktrob-read-spec : {M : Type 1} → statement M
 yuktrob-read-spec =
