@@ -6,15 +6,14 @@ use Prim.Native.Nat.{ℕ, _+_, _*_, _≤_, _<_}
 use native.Mathlib.Omega.{arith}
 use lib.ListN.{length, length-append, take, drop}
 use lib.Seq.{take-append-seam, drop-append-seam}
-use Rattle.vectors.specs.Text.{hex}
-use Rattle.vectors.proofs.Numerals.{few-digits}
-use Rattle.report.specs.Texts.{number-text, refused-text, each, letter-text}
+use Rattle.text.specs.Text.{hex, number-text, each, letter-text}
+use Rattle.text.proofs.Numerals.{few-digits}
 use Rattle.decision.specs.Verdict.{Verdict, verdict}
 use Rattle.decision.specs.Promise.{says, Buffered, Decided}
 use Rattle.decision.specs.declared.Verdict as code
 use Rattle.decision.specs.declared.Verdict.the-variants.{Satisfiable, Unsatisfiable, Refused, Unread}
 use Rattle.decision.proofs.Bounds.{Bounded, decided-bounded, Small, Parted, witness-parted}
-use Rattle.verdicts.specs.Texts.{verdict-text, lasso-text, program-text}
+use Rattle.verdicts.specs.Texts.{refused-text, verdict-text, lasso-text, program-text}
 
 -- a number behind a text
 numbered : (k : ℕ) (text : List ℕ) (n : ℕ) → length text ≤ k → n < 1000 → length (text ++ number-text n) ≤ k + 4
@@ -86,16 +85,21 @@ lasso-short {stem} {cycle} K P rest w e =
 line-and : (line rest : List ℕ) → length line ≤ 19 → length rest ≤ 3885 → length (line ++ (10 ∷ []) ++ rest) ≤ 4095
 line-and line rest h k = omega (arith, length-append (line ++ (10 ∷ [])) rest, length-append line (10 ∷ []))
 
-program-by : (bytes b b′ : List ℕ) (o : Verdict) → Bounded 256 300 (says o) → Buffered bytes o b b′ → length (program-text (says o) b′) ≤ 4095
-program-by bytes b b′ (Verdict.unread c p) h k = line-and (verdict-text (says (Verdict.unread c p))) [] (verdict-short (says (Verdict.unread c p)) h) (omega arith)
-program-by bytes b b′ (Verdict.refused c) h k = line-and (verdict-text (says (Verdict.refused c))) [] (verdict-short (says (Verdict.refused c)) h) (omega arith)
+program-by : (bytes b b′ : List ℕ) (o : Verdict) → Bounded 256 300 (says o) → Buffered bytes o b b′ → length (program-text (says o) b′)
+    ≤ 4095
+program-by bytes b b′ (Verdict.unread c p) h k = line-and (verdict-text (says (Verdict.unread c p))) []
+    (verdict-short (says (Verdict.unread c p)) h) (omega arith)
+program-by bytes b b′ (Verdict.refused c) h k = line-and (verdict-text (says (Verdict.refused c))) []
+    (verdict-short (says (Verdict.refused c)) h) (omega arith)
 program-by bytes b b′ (Verdict.satisfiable stem cycle K P letters) h k =
     line-and (verdict-text (Satisfiable stem cycle K P)) _ (verdict-short (Satisfiable stem cycle K P) h)
     (omega (arith, h .stem-few, h .cycle-few, lasso-short K P (drop (stem + cycle) b) (witness-parted (k .met .witness)) (k .filled)))
-program-by bytes b b′ (Verdict.unsatisfiable K P) h k = line-and (verdict-text (Unsatisfiable K P)) [] (verdict-short (Unsatisfiable K P) h) (omega arith)
+program-by bytes b b′ (Verdict.unsatisfiable K P) h k = line-and (verdict-text (Unsatisfiable K P)) []
+    (verdict-short (Unsatisfiable K P) h) (omega arith)
 
 -- Theorem: what the program prints has fewer than 4,096 bytes.
 pub program-short : {bytes w w′ b b′ : List ℕ} {v : code.Verdict} → Decided bytes 256 300 w w′ b b′ v → length (program-text v b′) ≤ 4095
 program-short {bytes} {w} {b} {b′} d =
     subst⁻¹ (λ (v : code.Verdict). length (program-text v b′) ≤ 4095) (d .answered)
-    (program-by bytes b b′ (verdict 256 300 (length w) (length b) bytes) (subst (Bounded 256 300) (d .answered) (decided-bounded d)) (d .buffered))
+    (program-by bytes b b′ (verdict 256 300 (length w) (length b) bytes) (subst (Bounded 256 300) (d .answered) (decided-bounded d))
+    (d .buffered))

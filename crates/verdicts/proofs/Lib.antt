@@ -1,3 +1,2 @@
 pub mod Showing
-pub mod Fits
 pub mod Lengths

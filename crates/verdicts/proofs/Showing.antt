@@ -1,9 +1,9 @@
 -- What a program shows of a formula, from the decision's promise and the text that was written. Assumes nothing.
-use mathlib.Core.Path.{_≡_, subst}
+use mathlib.Core.Path.{_≡_}
 use mathlib.Core.List.{List}
 use Prim.Native.Nat.{ℕ}
 use lib.ListN.{length}
-use Rattle.vectors.specs.Text.{Buffer, Wrote}
+use Rattle.text.specs.Text.{Buffer, Wrote}
 use Rattle.decision.specs.Promise.{Decided}
 use Rattle.decision.specs.declared.Verdict.{Verdict}
 use Rattle.verdicts.specs.Shown.{Shown}
@@ -22,9 +22,3 @@ shows text {w} {w′} {b} {b′} {v} d h k p =
       decided = d;
       wrote = p;
     }
-
--- how much was lent, by another name
-pub resized : (text : Verdict → List ℕ → List ℕ) {bytes : List ℕ} {N M room places room′ places′ : ℕ} {s t : Buffer} → room ≡ room′ → places ≡ places′
-    → Shown text bytes N M room places s t → Shown text bytes N M room′ places′ s t
-resized text {bytes} {N} {M} {places} {room′} {s} {t} p q d =
-    subst (λ (n : ℕ). Shown text bytes N M room′ n s t) q (subst (λ (n : ℕ). Shown text bytes N M n places s t) p d)

@@ -3,7 +3,7 @@ use mathlib.Core.Path.{_≡_}
 use mathlib.Core.List.{List}
 use Prim.Native.Nat.{ℕ}
 use lib.ListN.{length}
-use Rattle.vectors.specs.Text.{Buffer, Wrote}
+use Rattle.text.specs.Text.{Buffer, Wrote}
 use Rattle.decision.specs.Promise.{Decided}
 use Rattle.decision.specs.declared.Verdict.{Verdict}
 

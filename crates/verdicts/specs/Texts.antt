@@ -1,8 +1,9 @@
--- The text of a verdict: document 01, "The program". Assumes nothing.
+-- The texts of verdicts and refusals: document 01, "The program". Assumes nothing.
 use mathlib.Core.List.{List, [], _∷_, _++_}
 use Prim.Native.Nat.{ℕ}
 use lib.ListN.{take, drop}
-use Rattle.report.specs.Texts.{number-text, refused-text, unread-text, each, letter-text}
+use Rattle.text.specs.Text.{number-text, each, letter-text}
+use Rattle.formula.specs.declared.Refusal.{Refusal}
 use Rattle.decision.specs.declared.Verdict.{Verdict}
 use Rattle.decision.specs.declared.Verdict.the-variants.{Satisfiable, Unsatisfiable, Refused, Unread}
 
@@ -14,14 +15,22 @@ met-text stem cycle K P = (77 ∷ 69 ∷ 84 ∷ []) ++ number-text stem ++ numbe
 abbrev pub not-text : (K P : ℕ) → List ℕ
 not-text K P = (78 ∷ 79 ∷ 84 ∷ []) ++ number-text K ++ number-text P
 
--- "or `REFUSED` with the number, and for 1 to 9 ` at ` and the byte place"
+-- "or `REFUSED` with the number"
+abbrev pub refused-text : ℕ → List ℕ
+refused-text code = (82 ∷ 69 ∷ 70 ∷ 85 ∷ 83 ∷ 69 ∷ 68 ∷ []) ++ number-text code
+
+-- "and for 1 to 9 ` at ` and the byte place"
+abbrev pub unread-text : Refusal → List ℕ
+unread-text why = refused-text (why .code) ++ (32 ∷ 97 ∷ 116 ∷ []) ++ number-text (why .at)
+
 abbrev pub verdict-text : Verdict → List ℕ
 verdict-text (Satisfiable stem cycle K P) = met-text stem cycle K P
 verdict-text (Unsatisfiable K P) = not-text K P
 verdict-text (Refused code) = refused-text code
 verdict-text (Unread why) = unread-text why
 
--- The letters of the witness, which stand at the buffer's start: those of the stem behind one text, those of the cycle behind another, and a third
+-- The letters of the witness, which stand at the buffer's start: those of the stem behind one text, those of the cycle behind another,
+-- and a third
 -- behind both.
 abbrev pub lasso-text : Verdict → (letters stem-front cycle-front back : List ℕ) → List ℕ
 lasso-text (Satisfiable stem cycle K P) letters stem-front cycle-front back =
@@ -33,7 +42,3 @@ lasso-text (Unread why) letters stem-front cycle-front back = []
 -- "After MET comes one line a place, `S` for lead-in, `L` for loop, and four lower-case hex digits."
 abbrev pub program-text : Verdict → List ℕ → List ℕ
 program-text v letters = verdict-text v ++ (10 ∷ []) ++ lasso-text v letters (83 ∷ 32 ∷ []) (76 ∷ 32 ∷ []) (10 ∷ [])
-
--- A line of the vector file: the verdict and, behind it, each letter behind a blank.
-abbrev pub vector-line : Verdict → List ℕ → List ℕ
-vector-line v letters = verdict-text v ++ lasso-text v letters (32 ∷ []) (32 ∷ []) [] ++ (10 ∷ [])

@@ -1,13 +1,14 @@
--- The program's buffer has room for the text of every verdict, so that what it prints is the text and nothing of it is lost. Assumes nothing.
+-- The program's buffer has room for the text of every verdict, so that what it prints is the text and nothing of it is lost. Assumes
+-- nothing.
 use mathlib.Core.Path.{_≡_}
 use mathlib.Core.List.{List}
 use Prim.Native.Nat.{ℕ, _≤_}
 use native.Mathlib.Omega.{arith}
 use lib.ListN.{length, take}
-use Rattle.vectors.specs.Text.{buffer}
+use Rattle.text.specs.Text.{buffer}
 use Rattle.verdicts.specs.Texts.{program-text}
 use Rattle.verdicts.specs.Shown.{Shown}
-use Rattle.verdicts.proofs.Fits.{stands}
+use Rattle.text.proofs.Writing.{stands}
 use Rattle.verdicts.proofs.Lengths.{program-short}
 
 -- Theorem: the bytes in front of the end are the text of the verdict and the witness, whole.

@@ -1,4 +1,5 @@
--- "It reads standard input, of which the first 97 bytes settle the outcome" (document 01, "The program"): the decision of these is the decision of
+-- "It reads standard input, of which the first 97 bytes settle the outcome" (document 01, "The program"): the decision of these is the
+-- decision of
 -- all of them, as their reading is. Assumes nothing.
 use mathlib.Core.Path.{_≡_, ap}
 use mathlib.Core.List.{List}

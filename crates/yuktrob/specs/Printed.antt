@@ -3,7 +3,7 @@ use mathlib.Core.Path.{_≡_}
 use mathlib.Core.List.{List}
 use Prim.Native.Nat.{ℕ, _≤_}
 use lib.ListN.{length, take}
-use Rattle.vectors.specs.Text.{buffer}
+use Rattle.text.specs.Text.{buffer}
 use Rattle.verdicts.specs.Texts.{program-text}
 use Rattle.verdicts.specs.Shown.{Shown}
 

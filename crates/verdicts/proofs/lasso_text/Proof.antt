@@ -1,7 +1,7 @@
 -- verdicts::lasso_text meets its contract: the stem's letters and the cycle's, or nothing. Assumes nothing.
 use borrow.Author.Needs.{needs}
 use mathlib.Core.Path.{sym}
-use Rattle.vectors.proofs.Writing.{nothing, then}
+use Rattle.text.proofs.Writing.{nothing, then}
 use Rattle.verdicts.proofs.lasso_text.Statement.{statement}
 use Rattle.verdicts.proofs.lasso_text.Tie as tie
 
@@ -33,7 +33,14 @@ same-length : tie.Need-same-length
 same-length c = search needs
 
 returns : tie.Need-returns
-returns c = simp (c .before .before .before .before .before .before .before .before .before .before .before .verdict .given .1, sym (c .before .before .before .before .before .before .before .before .before .part .ensures), sym (c .before .before .before .before .part2 .ensures)) (then (c .before .before .before .before .before .before .before .letters .ensures) (c .before .before .letters2 .ensures))
+returns c = simp (
+  c .before .before .before .before .before .before .before .before .before .before .before .verdict .given .1,
+  sym
+      (c .before .before .before .before .before .before .before .before .before .part .ensures),
+  sym
+      (c .before .before .before .before .part2 .ensures),
+)
+    (then (c .before .before .before .before .before .before .before .letters .ensures) (c .before .before .letters2 .ensures))
 
 returns-2 : tie.Need-returns-2
 returns-2 c = simp (c .enum-told .given .1) nothing

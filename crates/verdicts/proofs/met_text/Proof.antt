@@ -1,6 +1,6 @@
 -- verdicts::met_text meets its contract: the word, then the four numbers. Assumes nothing.
 use borrow.Author.Needs.{needs}
-use Rattle.vectors.proofs.Writing.{then}
+use Rattle.text.proofs.Writing.{then}
 use Rattle.verdicts.proofs.met_text.Statement.{statement}
 use Rattle.verdicts.proofs.met_text.Tie as tie
 
@@ -26,7 +26,11 @@ same-length : tie.Need-same-length
 same-length c = search needs
 
 returns : tie.Need-returns
-returns c = then (then (then (then (c .before .before .before .before .before .before .before .before .before .before .before .before .before .before .before .before .before .before .put-all .ensures) (c .before .before .before .before .before .before .before .before .before .before .before .before .before .before .number .ensures)) (c .before .before .before .before .before .before .before .before .before .before .number2 .ensures)) (c .before .before .before .before .before .before .number3 .ensures)) (c .before .before .number4 .ensures)
+returns c = then (then (then (then (c .before .before .before .before .before .before .before .before .before .before .before .before
+    .before .before .before .before .before .before .put-all .ensures)
+    (c .before .before .before .before .before .before .before .before .before .before .before .before .before .before .number
+    .ensures)) (c .before .before .before .before .before .before .before .before .before .before .number2 .ensures))
+    (c .before .before .before .before .before .before .number3 .ensures)) (c .before .before .number4 .ensures)
 
 pub met-text-spec : {M : Type 1} → statement M
 met-text-spec =

@@ -1,6 +1,6 @@
 -- verdicts::not_text meets its contract: the word, then the two numbers. Assumes nothing.
 use borrow.Author.Needs.{needs}
-use Rattle.vectors.proofs.Writing.{then}
+use Rattle.text.proofs.Writing.{then}
 use Rattle.verdicts.proofs.not_text.Statement.{statement}
 use Rattle.verdicts.proofs.not_text.Tie as tie
 
@@ -20,7 +20,8 @@ same-length : tie.Need-same-length
 same-length c = search needs
 
 returns : tie.Need-returns
-returns c = then (then (c .before .before .before .before .before .before .before .before .before .before .put-all .ensures) (c .before .before .before .before .before .before .number .ensures)) (c .before .before .number2 .ensures)
+returns c = then (then (c .before .before .before .before .before .before .before .before .before .before .put-all .ensures)
+    (c .before .before .before .before .before .before .number .ensures)) (c .before .before .number2 .ensures)
 
 pub not-text-spec : {M : Type 1} → statement M
 not-text-spec =

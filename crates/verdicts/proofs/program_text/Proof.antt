@@ -1,6 +1,6 @@
 -- verdicts::program_text meets its contract: the verdict, the line's end, the witness. Assumes nothing.
 use borrow.Author.Needs.{needs}
-use Rattle.vectors.proofs.Writing.{then}
+use Rattle.text.proofs.Writing.{then}
 use Rattle.verdicts.proofs.program_text.Statement.{statement}
 use Rattle.verdicts.proofs.program_text.Tie as tie
 
@@ -26,7 +26,9 @@ same-length : tie.Need-same-length
 same-length c = search needs
 
 returns : tie.Need-returns
-returns c = then (then (c .before .before .before .before .before .before .before .before .before .before .before .before .before .verdict-text .ensures) (c .before .before .before .before .before .before .before .before .before .put .ensures)) (c .before .before .lasso-text .ensures)
+returns c = then (then (c .before .before .before .before .before .before .before .before .before .before .before .before .before
+    .verdict-text .ensures) (c .before .before .before .before .before .before .before .before .before .put .ensures))
+    (c .before .before .lasso-text .ensures)
 
 pub program-text-spec : {M : Type 1} → statement M
 program-text-spec =

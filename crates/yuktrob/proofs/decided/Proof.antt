@@ -1,6 +1,7 @@
--- yuktrob::decided meets its contract: the decision's promise, and the text of what it answered, whole where there is room. Assumes nothing.
+-- yuktrob::decided meets its contract: the decision's promise, and the text of what it answered, whole where there is room. Assumes
+-- nothing.
 use borrow.Author.Needs.{needs}
-use Rattle.vectors.proofs.Writing.{place-within}
+use Rattle.text.proofs.Writing.{place-within}
 use Rattle.verdicts.specs.Texts.{program-text}
 use Rattle.verdicts.proofs.Showing.{shows}
 use Prim.Native.Nat.{ℕ, zero-le}
@@ -31,7 +32,8 @@ same-length c = search needs
 returns : tie.Need-returns
 returns c =
     let wrote = c .before .before .program-text .ensures in
-    let d = shows program-text (c .before .before .before .before .before .before .before .decide .ensures) (length-replicate {A = ℕ} 59648 0) (length-replicate {A = ℕ} 556 0) wrote in
+    let d = shows program-text (c .before .before .before .before .before .before .before .decide .ensures)
+    (length-replicate {A = ℕ} 59648 0) (length-replicate {A = ℕ} 556 0) wrote in
     (counts _ _ (place-within wrote zero-le), record { shown = d; whole = prints d })
 
 pub decided-spec : {M : Type 1} → statement M

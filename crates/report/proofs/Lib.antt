@@ -1,2 +1,0 @@
-pub mod Each
-pub mod Parts
