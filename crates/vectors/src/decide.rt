@@ -2,84 +2,70 @@
 // nothing where 11 refuses. With `| lent WORK COURSE` behind it so many bytes and places are, filled with patterns, and the outcome is
 // followed by how many bytes are zero from the start on and how many of each area at its end are as they were.
 use crate::area;
-use crate::field::Count;
+use crate::field::BROKEN;
 use crate::field::bytes;
-use crate::field::first;
+use crate::field::has_part;
 use crate::field::is_lent;
+use crate::field::lent;
 use crate::field::malformed;
 use crate::field::number;
-use crate::field::rest;
+use crate::field::part;
+use crate::field::unbroken;
+use decision::Verdict;
 ghost use mathlib.Core.Path.{_≡_};
 ghost use lib.ListN.{length};
 
-pub(crate) fn outcome(out: &mut [u8], fields: &[u8]) -> usize {
-    let mut kept = [0u8; 65536];
-    let Count::Of(n) = bytes(&mut kept, first(fields, b'|')) else {
-        return malformed(out);
-    };
-    sized(out, area::start_bytes(&kept, n), rest(fields, b'|'))
-}
-
-fn sized(out: &mut [u8], s: &[u8], fields: &[u8]) -> usize {
-    let sizes = first(fields, b'|');
-    let Count::Of(n) = number(first(sizes, b' ')) else {
-        return malformed(out);
-    };
-    let Count::Of(m) = number(rest(sizes, b' ')) else {
-        return malformed(out);
-    };
-    let behind = rest(fields, b'|');
-    let said = first(behind, b'|');
-    if is_lent(said) {
-        return with_areas(out, s, n, m, rest(said, b' '));
-    }
-    as_asked(out, s, n, m)
-}
-
-fn as_asked(out: &mut [u8], s: &[u8], n: usize, m: usize) -> usize {
-    if n <= 1024 {
-        if m <= 4096 {
-            return lent(out, s, n, m, 8 * n + 192 * m, n + m, false);
-        }
-    }
-    lent(out, s, n, m, 0, 0, false)
-}
-
-fn with_areas(out: &mut [u8], s: &[u8], n: usize, m: usize, areas: &[u8]) -> usize {
-    let Count::Of(work) = number(first(areas, b' ')) else {
-        return malformed(out);
-    };
-    let Count::Of(course) = number(rest(areas, b' ')) else {
-        return malformed(out);
-    };
-    lent(out, s, n, m, work, course, true)
-}
-
-fn lent(
-    out: &mut [u8],
-    s: &[u8],
+// What a line asks for: how many bytes its formula has, N and M, how much of the two areas is lent, and whether they are shown
+// afterwards. A broken line asks for more bytes than there are.
+struct Case {
+    bytes: usize,
     n: usize,
     m: usize,
     work: usize,
     course: usize,
     shown: bool,
-) -> usize {
+}
+
+pub(crate) fn outcome(out: &mut [u8], line: &[u8]) -> usize {
+    let mut kept = [0u8; 32768];
     let mut workspace = room();
     let mut letters = [48879u16; 8192];
-    if work <= 800000 {
-        if course <= 8192 {
-            return run(
-                out,
-                s,
-                n,
-                m,
-                &mut workspace[0..work],
-                &mut letters[0..course],
-                shown,
-            );
-        }
+    let a = asked(&mut kept, line);
+    let work = a.work;
+    let course = a.course;
+    if 800000 < work {
+        return malformed(out);
     }
-    malformed(out)
+    if 8192 < course {
+        return malformed(out);
+    }
+    let s = area::start_bytes(&kept, a.bytes);
+    decided(out, s, a, &mut workspace[0..work], &mut letters[0..course])
+}
+
+fn asked(kept: &mut [u8], line: &[u8]) -> Case {
+    let sizes = part(line, b'|', 2);
+    let said = part(line, b'|', 3);
+    let bytes = bytes(kept, part(line, b'|', 1));
+    let n = number(part(sizes, b' ', 0));
+    let m = second(sizes);
+    Case {
+        bytes: bytes,
+        n: n,
+        m: m,
+        work: unbroken(
+            bytes,
+            n,
+            unbroken(m, 0, lent(said, 1, 3, bytes_asked(n, m))),
+        ),
+        course: lent(said, 2, 3, letters_asked(n, m)),
+        shown: is_lent(said),
+    }
+}
+
+fn decided(out: &mut [u8], s: &[u8], a: Case, workspace: &mut [u8], letters: &mut [u16]) -> usize {
+    let verdict = decision::decide(s, a.n, a.m, workspace, letters);
+    noted(out, verdict, workspace, letters, a.shown)
 }
 
 // The `ensures` gives only the length.
@@ -89,16 +75,39 @@ fn room() -> [u8; 800000]
     [165; 800000]
 }
 
-fn run(
+// The second number, which is the last.
+fn second(sizes: &[u8]) -> usize {
+    if has_part(sizes, b' ', 2) {
+        return BROKEN;
+    }
+    number(part(sizes, b' ', 1))
+}
+
+fn bytes_asked(n: usize, m: usize) -> usize {
+    if n <= 1024 {
+        if m <= 4096 {
+            return 8 * n + 192 * m;
+        }
+    }
+    0
+}
+
+fn letters_asked(n: usize, m: usize) -> usize {
+    if n <= 1024 {
+        if m <= 4096 {
+            return n + m;
+        }
+    }
+    0
+}
+
+fn noted(
     out: &mut [u8],
-    s: &[u8],
-    n: usize,
-    m: usize,
-    workspace: &mut [u8],
-    letters: &mut [u16],
+    verdict: Verdict,
+    workspace: &[u8],
+    letters: &[u16],
     shown: bool,
 ) -> usize {
-    let verdict = decision::decide(s, n, m, workspace, letters);
     let a = verdicts::verdict_text(out, 0, verdict);
     let end = verdicts::lasso_text(out, a, verdict, letters, b" ", b" ", b"");
     if shown {

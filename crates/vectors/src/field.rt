@@ -1,41 +1,67 @@
 // The parts of a line, and what is written in them: numbers, bytes in hex, letters (document 01: the values of places) of four hex
 // digits, and how much is lent.
-ghost use Prim.Native.Nat.{_≤_, _<_};
 
-// How many, or that a field is broken.
-pub(crate) enum Count {
-    Of(usize),
-    Broken,
+// Stands for a number that is broken: no field has one so large.
+pub(crate) const BROKEN: usize = usize::MAX;
+
+// The last of three numbers, if none is broken.
+pub(crate) fn unbroken(a: usize, b: usize, last: usize) -> usize {
+    if a == BROKEN {
+        return BROKEN;
+    }
+    if b == BROKEN {
+        return BROKEN;
+    }
+    last
 }
 
-// What the runner writes for a line that it cannot run.
+// What is written for a line that cannot be run.
 pub(crate) fn malformed(out: &mut [u8]) -> usize {
     text::put_all(out, 0, b"MALFORMED")
 }
 
-// What stands in front of the first mark.
-pub(crate) fn first(s: &[u8], mark: u8) -> &[u8] {
-    let end = bytes::scan::find(s, 0, s.len(), mark);
-    &s[0..end]
-}
-
-// What stands behind it: nothing, where there is none.
-pub(crate) fn rest(s: &[u8], mark: u8) -> &[u8] {
-    let end = bytes::scan::find(s, 0, s.len(), mark);
-    if end < s.len() {
-        let start = end + 1;
-        return &s[start..];
+// Where the part of this number begins, from 0, the parts standing between marks: behind the end, where there are fewer.
+fn start(s: &[u8], mark: u8, number: usize) -> usize {
+    let mut at = 0;
+    let mut left = number;
+    while 0 < left {
+        if s.len() < at {
+            return at;
+        }
+        at = bytes::scan::find(s, at, s.len(), mark) + 1;
+        left -= 1;
     }
-    &s[end..]
+    at
 }
 
-pub(crate) fn has(s: &[u8], mark: u8) -> bool {
-    bytes::scan::find(s, 0, s.len(), mark) < s.len()
+pub(crate) fn has_part(s: &[u8], mark: u8, number: usize) -> bool {
+    start(s, mark, number) <= s.len()
+}
+
+// Of a part that is not there, nothing.
+pub(crate) fn part(s: &[u8], mark: u8, number: usize) -> &[u8] {
+    let at = start(s, mark, number);
+    if s.len() < at {
+        return &s[0..0];
+    }
+    let end = bytes::scan::find(s, at, s.len(), mark);
+    &s[at..end]
 }
 
 // Whether the field says how much is lent.
 pub(crate) fn is_lent(field: &[u8]) -> bool {
-    check::same(first(field, b' '), b"lent")
+    check::same(part(field, b' ', 0), b"lent")
+}
+
+// The number of such a field in this place, the word being in place 0, and how many there are in all; or `otherwise` of another field.
+pub(crate) fn lent(field: &[u8], place: usize, words: usize, otherwise: usize) -> usize {
+    if !is_lent(field) {
+        return otherwise;
+    }
+    if has_part(field, b' ', words) {
+        return BROKEN;
+    }
+    number(part(field, b' ', place))
 }
 
 // The value of a digit, or 16.
@@ -66,21 +92,21 @@ fn letter_digit(b: u8) -> usize {
 }
 
 // A number in decimal. From 2 ^ 32 on, which every operation refuses, it stays where it is.
-pub(crate) fn number(s: &[u8]) -> Count {
+pub(crate) fn number(s: &[u8]) -> usize {
     if s.len() == 0 {
-        return Count::Broken;
+        return BROKEN;
     }
     let mut n = 0;
     let mut i = 0;
     while i < s.len() {
         let d = digit(s[i]);
         if 10 <= d {
-            return Count::Broken;
+            return BROKEN;
         }
         n = grown(n, d);
         i += 1;
     }
-    Count::Of(n)
+    n
 }
 
 fn grown(n: usize, d: usize) -> usize {
@@ -93,32 +119,32 @@ fn grown(n: usize, d: usize) -> usize {
 }
 
 // Bytes in hex; a dash stands for none.
-pub(crate) fn bytes(out: &mut [u8], s: &[u8]) -> Count {
+pub(crate) fn bytes(out: &mut [u8], s: &[u8]) -> usize {
     if check::same(s, b"-") {
-        return Count::Of(0);
+        return 0;
     }
     if s.len() == 0 {
-        return Count::Broken;
+        return BROKEN;
     }
     pairs(out, s)
 }
 
-fn pairs(out: &mut [u8], s: &[u8]) -> Count {
+fn pairs(out: &mut [u8], s: &[u8]) -> usize {
     let mut n = 0;
     let mut i = 0;
     while i < s.len() {
         let b = pair(s, i);
         if out.len() <= n {
-            return Count::Broken;
+            return BROKEN;
         }
         if 256 <= b {
-            return Count::Broken;
+            return BROKEN;
         }
         out[n] = (b % 256) as u8;
         n += 1;
         i += 2;
     }
-    Count::Of(n)
+    n
 }
 
 // The byte of the two digits at i, or 256.
@@ -140,23 +166,23 @@ fn pair(s: &[u8], i: usize) -> usize {
 }
 
 // Letters with a space between two, or none.
-pub(crate) fn letters(out: &mut [u16], s: &[u8]) -> Count {
+pub(crate) fn letters(out: &mut [u16], s: &[u8]) -> usize {
     let mut n = 0;
     let mut at = 0;
     while at < s.len() {
         let end = bytes::scan::find(s, at, s.len(), b' ');
         let x = letter(&s[at..end]);
         if out.len() <= n {
-            return Count::Broken;
+            return BROKEN;
         }
         if 65536 <= x {
-            return Count::Broken;
+            return BROKEN;
         }
         out[n] = (x % 65536) as u16;
         n += 1;
         at = end + 1;
     }
-    Count::Of(n)
+    n
 }
 
 // A letter, or 65,536.

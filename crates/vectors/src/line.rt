@@ -1,9 +1,113 @@
-// A line byte by byte. Blanks are kept as one space between words, and none at the line's ends or beside a bar; so fields and words are
-// what stands between bars and spaces.
+// The lines of standard input, one after another. Blank ones and comments are passed over. Blanks are kept as one space between words,
+// and none at the line's ends or beside a bar; so fields and words are what stands between bars and spaces.
 ghost use Prim.Native.Nat.{_≤_};
 
+// Where the next byte of the input stands among those that were read, how many these are, and whether the input has ended; how long the
+// line is so far, and whether it is whole.
+pub(crate) struct Place {
+    pub at: usize,
+    pub count: usize,
+    pub over: bool,
+    pub length: usize,
+    pub whole: bool,
+}
+
+pub(crate) fn begun() -> Place {
+    Place {
+        at: 0,
+        count: 0,
+        over: false,
+        length: 0,
+        whole: false,
+    }
+}
+
+// The next line. At the input's end it has no bytes.
+pub(crate) fn next(line: &mut [u8], chunk: &mut [u8], from: Place) -> Place {
+    let mut place = from;
+    place.length = 0;
+    place.whole = false;
+    let mut turns = u64::MAX;
+    while 0 < turns {
+        turns -= 1;
+        let full = filled(chunk, place);
+        place = taken(line, chunk, full);
+        if place.whole {
+            return place;
+        }
+    }
+    place
+}
+
+// More of the input, where all that was read is taken.
+fn filled(chunk: &mut [u8], place: Place) -> Place {
+    if place.at < place.count {
+        return place;
+    }
+    let got = libc::read(0, chunk);
+    Place {
+        at: 0,
+        count: io::count(got, chunk),
+        over: got <= 0,
+        length: place.length,
+        whole: false,
+    }
+}
+
+// The line with one byte more. The input's end ends it.
+fn taken(line: &mut [u8], chunk: &[u8], place: Place) -> Place {
+    let at = place.at;
+    if place.over {
+        return ended(place, kept(line, place.length));
+    }
+    if chunk.len() <= at {
+        return ended(place, kept(line, place.length));
+    }
+    if chunk[at] == 10 {
+        return parted(place, at + 1, kept(line, place.length));
+    }
+    Place {
+        at: at + 1,
+        count: place.count,
+        over: false,
+        length: pushed(line, place.length, chunk[at]),
+        whole: false,
+    }
+}
+
+fn ended(place: Place, length: usize) -> Place {
+    Place {
+        at: place.at,
+        count: place.count,
+        over: true,
+        length: length,
+        whole: true,
+    }
+}
+
+fn parted(place: Place, at: usize, length: usize) -> Place {
+    Place {
+        at: at,
+        count: place.count,
+        over: false,
+        length: length,
+        whole: 0 < length,
+    }
+}
+
+// How long a line is that is to be run: a comment is not.
+fn kept(line: &[u8], n: usize) -> usize {
+    if line.len() == 0 {
+        return 0;
+    }
+    if line[0] == b'#' {
+        return 0;
+    }
+    n
+}
+
 // The line, of n bytes, with one byte more. One that fills the room stays as it is.
-pub(crate) fn pushed(line: &mut [u8], n: usize, b: u8) -> usize {
+fn pushed(line: &mut [u8], n: usize, b: u8) -> usize {
     if line.len() <= n {
         return n;
     }
@@ -69,8 +173,7 @@ fn trimmed(line: &[u8], n: usize) -> usize
     n
 }
 
-// The line at its end. Of one that filled the room, and is too long, its first byte: a comment is passed over, and no operation is so
-// short.
+// The line, of n bytes. One that filled the room is too long: it is cut to a byte, and no operation has so short a name.
 pub(crate) fn whole(line: &[u8], n: usize) -> &[u8] {
     if n < line.len() {
         let end = trimmed(line, n);

@@ -1,20 +1,21 @@
 // `read | HEX`: reading a formula. The outcome is `ACCEPTED` with the entries, an opcode each with its operand, operands' numbers or
 // binder, or a refusal.
 use crate::area::start_bytes;
-use crate::field::Count;
+use crate::field::BROKEN;
 use crate::field::bytes;
-use crate::field::first;
 use crate::field::malformed;
+use crate::field::part;
 use formula::Outcome;
 use formula::Subformula;
 use formula::Table;
 ghost use Prim.Native.Nat.{_≤_, _<_};
 
-pub(crate) fn outcome(out: &mut [u8], fields: &[u8]) -> usize {
-    let mut kept = [0u8; 65536];
-    let Count::Of(n) = bytes(&mut kept, first(fields, b'|')) else {
+pub(crate) fn outcome(out: &mut [u8], line: &[u8]) -> usize {
+    let mut kept = [0u8; 32768];
+    let n = bytes(&mut kept, part(line, b'|', 1));
+    if n == BROKEN {
         return malformed(out);
-    };
+    }
     let reading = formula::read(start_bytes(&kept, n));
     let outcome = reading.outcome;
     let table = reading.table;
@@ -123,11 +124,7 @@ fn is_around(rows: &[u8; 144], s: Subformula, outer: Subformula) -> bool
     let e = s.0;
     let f = outer.0;
     if 9 <= rows[f] {
-        return e < wide(rows[96 + f]);
+        return e < base::wide(rows[96 + f]);
     }
     false
-}
-
-fn wide(b: u8) -> usize {
-    b as usize
 }

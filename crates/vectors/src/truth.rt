@@ -2,67 +2,71 @@
 // many words are lent as there are places. With `| lent WORDS` behind it so many are, filled with a pattern, and the outcome is followed
 // by the truth of the formula and by how many words at the end are as they were.
 use crate::area;
-use crate::field::Count;
+use crate::field::BROKEN;
 use crate::field::bytes;
-use crate::field::first;
-use crate::field::has;
+use crate::field::has_part;
 use crate::field::is_lent;
+use crate::field::lent;
 use crate::field::letters;
 use crate::field::malformed;
 use crate::field::number;
-use crate::field::rest;
+use crate::field::part;
+use crate::field::unbroken;
 use lasso::Truth;
 
-pub(crate) fn outcome(out: &mut [u8], fields: &[u8]) -> usize {
-    let mut kept = [0u8; 65536];
-    let Count::Of(n) = bytes(&mut kept, first(fields, b'|')) else {
-        return malformed(out);
-    };
-    let lasso = rest(fields, b'|');
-    if has(lasso, b'|') {
-        return on_lasso(out, area::start_bytes(&kept, n), lasso);
-    }
-    malformed(out)
-}
-
-fn on_lasso(out: &mut [u8], s: &[u8], fields: &[u8]) -> usize {
-    let mut places = [0u16; 32768];
-    let Count::Of(stem) = number(first(fields, b'|')) else {
-        return malformed(out);
-    };
-    let course = rest(fields, b'|');
-    let Count::Of(n) = letters(&mut places, first(course, b'|')) else {
-        return malformed(out);
-    };
-    let behind = rest(course, b'|');
-    let said = first(behind, b'|');
-    if is_lent(said) {
-        let Count::Of(room) = number(rest(said, b' ')) else {
-            return malformed(out);
-        };
-        return lent(out, s, text::part(&places, 0, n), stem, room, true);
-    }
-    lent(out, s, text::part(&places, 0, n), stem, n, false)
-}
-
-fn lent(out: &mut [u8], s: &[u8], letters: &[u16], stem: usize, room: usize, shown: bool) -> usize {
-    let mut words = [9223372036854775808u64; 32768];
-    if room <= 32768 {
-        return run(out, s, letters, stem, &mut words[0..room], shown);
-    }
-    malformed(out)
-}
-
-fn run(
-    out: &mut [u8],
-    s: &[u8],
-    letters: &[u16],
+// What a line asks for: how many bytes its formula has, how long the stem is and how many letters there are, how many words are lent,
+// and whether they are shown afterwards. A broken line asks for more words than there are.
+struct Case {
+    bytes: usize,
     stem: usize,
-    words: &mut [u64],
+    letters: usize,
+    room: usize,
     shown: bool,
-) -> usize {
-    let truth = lasso::evaluate(s, letters, stem, words);
-    let end = told(out, truth, words, letters.len());
+}
+
+pub(crate) fn outcome(out: &mut [u8], line: &[u8]) -> usize {
+    let mut kept = [0u8; 32768];
+    let mut places = [0u16; 16384];
+    let mut words = [9223372036854775808u64; 16384];
+    let a = asked(&mut kept, &mut places, line);
+    let room = a.room;
+    if 16384 < room {
+        return malformed(out);
+    }
+    let s = area::start_bytes(&kept, a.bytes);
+    let letters = text::part(&places, 0, a.letters);
+    evaluated(out, s, letters, a, &mut words[0..room])
+}
+
+fn asked(kept: &mut [u8], places: &mut [u16], line: &[u8]) -> Case {
+    let said = part(line, b'|', 4);
+    let bytes = bytes(kept, part(line, b'|', 1));
+    let stem = number(part(line, b'|', 2));
+    let letters = course(places, line);
+    Case {
+        bytes: bytes,
+        stem: stem,
+        letters: letters,
+        room: unbroken(bytes, stem, unbroken(letters, 0, lent(said, 1, 2, letters))),
+        shown: is_lent(said),
+    }
+}
+
+// A course may have no places, but has its field.
+fn course(places: &mut [u16], line: &[u8]) -> usize {
+    if has_part(line, b'|', 3) {
+        return letters(places, part(line, b'|', 3));
+    }
+    BROKEN
+}
+
+fn evaluated(out: &mut [u8], s: &[u8], letters: &[u16], a: Case, words: &mut [u64]) -> usize {
+    let truth = lasso::evaluate(s, letters, a.stem, words);
+    noted(out, truth, words, letters.len(), a.shown)
+}
+
+fn noted(out: &mut [u8], truth: Truth, words: &[u64], count: usize, shown: bool) -> usize {
+    let end = told(out, truth, words, count);
     if shown {
         let at = note(out, end, truth);
         return area::note_words(out, at, words);

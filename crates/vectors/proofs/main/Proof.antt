@@ -1,4 +1,4 @@
--- vectors::main is safe and ends: the turns left fall. Assumes nothing.
+-- vectors::main is safe and ends: the turns left fall, and the buffers keep their lengths. Assumes nothing.
 use borrow.Author.Needs.{needs}
 use mathlib.Core.Path.{_≡_}
 use lib.ListN.{length}
@@ -9,19 +9,24 @@ pub main-spec : {M : Type 1} → statement M
 main-spec =
     tie.close
     (tie.spec
-    (λ line₀ n₀ chunk₀ turns₀ line n chunk turns. (length chunk ≡ 4096) × (length line ≡ 65536))
-    (λ line₀ n₀ chunk₀ turns₀ line n chunk turns. turns)
+    (λ line₀ chunk₀ out₀ place₀ turns₀ line chunk out place turns. (length line ≡ 65536) × (length chunk ≡ 4096) × (length out ≡ 131072))
+    (λ line₀ chunk₀ out₀ place₀ turns₀ line chunk out place turns. turns)
+    (λ c κs. search needs)
+    (λ c κs. search needs)
+    (λ c κs. search needs)
+    (λ c κs. search needs)
+    (λ c. search needs)
+    (λ c. search needs)
+    (λ c. search needs)
+    (λ c. search needs)
     (λ c κs. search needs)
     (λ c. search needs)
     (λ c. search needs)
     (λ c. search needs)
     (λ c κs. search needs)
-    (λ c. search needs)
     (λ c κs. search needs)
     (λ c. search needs)
-    (λ c. search needs)
     (λ c κs. search needs)
-    (λ c. search needs)
     (λ c. search needs)
     (λ c. search needs)
     (λ c κs. search needs)
