@@ -7,10 +7,10 @@ use crate::field::bytes;
 use crate::field::has_part;
 use crate::field::is_lent;
 use crate::field::lent;
-use crate::field::malformed;
 use crate::field::number;
 use crate::field::part;
 use crate::field::unbroken;
+use crate::say;
 use decision::Verdict;
 ghost use mathlib.Core.Path.{_≡_};
 ghost use lib.ListN.{length};
@@ -34,10 +34,10 @@ pub(crate) fn outcome(out: &mut [u8], line: &[u8]) -> usize {
     let work = a.work;
     let course = a.course;
     if 800000 < work {
-        return malformed(out);
+        return say::malformed(out);
     }
     if 8192 < course {
-        return malformed(out);
+        return say::malformed(out);
     }
     let s = area::start_bytes(&kept, a.bytes);
     decided(out, s, a, &mut workspace[0..work], &mut letters[0..course])
@@ -108,11 +108,15 @@ fn noted(
     letters: &[u16],
     shown: bool,
 ) -> usize {
-    let a = verdicts::verdict_text(out, 0, verdict);
-    let end = verdicts::lasso_text(out, a, verdict, letters, b" ", b" ", b"");
+    let end = told(out, verdict, letters);
     if shown {
         let at = area::note_bytes(out, end, workspace);
         return area::note_letters(out, at, letters);
     }
     end
+}
+
+fn told(out: &mut [u8], verdict: Verdict, letters: &[u16]) -> usize {
+    let a = verdicts::verdict_text(out, 0, verdict);
+    verdicts::lasso_text(out, a, verdict, letters, b" ", b" ", b"")
 }

@@ -1,6 +1,9 @@
 // The parts of a line, and what is written in them: numbers, bytes in hex, letters (document 01: the values of places) of four hex
 // digits, and how much is lent.
 
+ghost use Prim.Native.Nat.{_≤_};
+ghost use lib.ListN.{length};
+
 // Stands for a number that is broken: no field has one so large.
 pub(crate) const BROKEN: usize = usize::MAX;
 
@@ -15,9 +18,16 @@ pub(crate) fn unbroken(a: usize, b: usize, last: usize) -> usize {
     last
 }
 
-// What is written for a line that cannot be run.
-pub(crate) fn malformed(out: &mut [u8]) -> usize {
-    text::put_all(out, 0, b"MALFORMED")
+pub(crate) fn same(a: &[u8], b: &[u8]) -> bool {
+    check::same(a, b)
+}
+
+// Where the mark stands from a place on, or the end.
+fn find(s: &[u8], from: usize, mark: u8) -> usize
+    requires { ⌜ from ≤ length (now s) ⌝ }
+    ensures { λ r. ⌜ (from ≤ r) × (r ≤ length (now (s .entry))) ⌝ }
+{
+    bytes::scan::find(s, from, s.len(), mark)
 }
 
 // Where the part of this number begins, from 0, the parts standing between marks: behind the end, where there are fewer.
@@ -25,13 +35,17 @@ fn start(s: &[u8], mark: u8, number: usize) -> usize {
     let mut at = 0;
     let mut left = number;
     while 0 < left {
-        if s.len() < at {
-            return at;
-        }
-        at = bytes::scan::find(s, at, s.len(), mark) + 1;
+        at = behind(s, mark, at);
         left -= 1;
     }
     at
+}
+
+fn behind(s: &[u8], mark: u8, at: usize) -> usize {
+    if s.len() < at {
+        return at;
+    }
+    find(s, at, mark) + 1
 }
 
 pub(crate) fn has_part(s: &[u8], mark: u8, number: usize) -> bool {
@@ -44,13 +58,13 @@ pub(crate) fn part(s: &[u8], mark: u8, number: usize) -> &[u8] {
     if s.len() < at {
         return &s[0..0];
     }
-    let end = bytes::scan::find(s, at, s.len(), mark);
+    let end = find(s, at, mark);
     &s[at..end]
 }
 
 // Whether the field says how much is lent.
 pub(crate) fn is_lent(field: &[u8]) -> bool {
-    check::same(part(field, b' ', 0), b"lent")
+    same(part(field, b' ', 0), b"lent")
 }
 
 // The number of such a field in this place, the word being in place 0, and how many there are in all; or `otherwise` of another field.
@@ -96,31 +110,32 @@ pub(crate) fn number(s: &[u8]) -> usize {
     if s.len() == 0 {
         return BROKEN;
     }
+    digits(s)
+}
+
+fn digits(s: &[u8]) -> usize {
     let mut n = 0;
     let mut i = 0;
     while i < s.len() {
-        let d = digit(s[i]);
-        if 10 <= d {
-            return BROKEN;
-        }
-        n = grown(n, d);
+        n = grown(n, digit(s[i]));
         i += 1;
     }
     n
 }
 
 fn grown(n: usize, d: usize) -> usize {
+    if 10 <= d {
+        return BROKEN;
+    }
     if n < 4294967296 {
-        if d < 10 {
-            return n * 10 + d;
-        }
+        return n * 10 + d;
     }
     n
 }
 
 // Bytes in hex; a dash stands for none.
 pub(crate) fn bytes(out: &mut [u8], s: &[u8]) -> usize {
-    if check::same(s, b"-") {
+    if same(s, b"-") {
         return 0;
     }
     if s.len() == 0 {
@@ -133,18 +148,21 @@ fn pairs(out: &mut [u8], s: &[u8]) -> usize {
     let mut n = 0;
     let mut i = 0;
     while i < s.len() {
-        let b = pair(s, i);
-        if out.len() <= n {
-            return BROKEN;
-        }
-        if 256 <= b {
-            return BROKEN;
-        }
-        out[n] = (b % 256) as u8;
-        n += 1;
+        n = with_byte(out, n, pair(s, i));
         i += 2;
     }
     n
+}
+
+fn with_byte(out: &mut [u8], n: usize, b: usize) -> usize {
+    if out.len() <= n {
+        return BROKEN;
+    }
+    if 256 <= b {
+        return BROKEN;
+    }
+    out[n] = (b % 256) as u8;
+    n + 1
 }
 
 // The byte of the two digits at i, or 256.
@@ -170,19 +188,22 @@ pub(crate) fn letters(out: &mut [u16], s: &[u8]) -> usize {
     let mut n = 0;
     let mut at = 0;
     while at < s.len() {
-        let end = bytes::scan::find(s, at, s.len(), b' ');
-        let x = letter(&s[at..end]);
-        if out.len() <= n {
-            return BROKEN;
-        }
-        if 65536 <= x {
-            return BROKEN;
-        }
-        out[n] = (x % 65536) as u16;
-        n += 1;
+        let end = find(s, at, b' ');
+        n = with_letter(out, n, letter(&s[at..end]));
         at = end + 1;
     }
     n
+}
+
+fn with_letter(out: &mut [u16], n: usize, letter: usize) -> usize {
+    if out.len() <= n {
+        return BROKEN;
+    }
+    if 65536 <= letter {
+        return BROKEN;
+    }
+    out[n] = (letter % 65536) as u16;
+    n + 1
 }
 
 // A letter, or 65,536.

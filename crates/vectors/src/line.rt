@@ -24,9 +24,7 @@ pub(crate) fn begun() -> Place {
 
 // The next line. At the input's end it has no bytes.
 pub(crate) fn next(line: &mut [u8], chunk: &mut [u8], from: Place) -> Place {
-    let mut place = from;
-    place.length = 0;
-    place.whole = false;
+    let mut place = fresh(from);
     let mut turns = u64::MAX;
     while 0 < turns {
         turns -= 1;
@@ -37,6 +35,17 @@ pub(crate) fn next(line: &mut [u8], chunk: &mut [u8], from: Place) -> Place {
         }
     }
     place
+}
+
+// In front of a line.
+fn fresh(place: Place) -> Place {
+    Place {
+        at: place.at,
+        count: place.count,
+        over: place.over,
+        length: 0,
+        whole: false,
+    }
 }
 
 // More of the input, where all that was read is taken.

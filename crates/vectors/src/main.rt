@@ -5,10 +5,11 @@ mod decide;
 mod field;
 mod line;
 mod read;
+mod say;
 mod truth;
 
-use field::malformed;
 use field::part;
+use field::same;
 ghost use mathlib.Core.Path.{_≡_};
 ghost use lib.ListN.{length};
 
@@ -26,8 +27,7 @@ fn main() {
             return;
         }
         let end = told(&mut out, line::whole(&line, place.length));
-        let n = text::ended(&mut out, end);
-        io::write_all(1, &out[..n]);
+        say::written(&mut out, end);
     }
 }
 
@@ -40,14 +40,14 @@ fn room() -> [u8; 131072]
 
 fn told(out: &mut [u8], line: &[u8]) -> usize {
     let name = part(line, b'|', 0);
-    if check::same(name, b"read") {
+    if same(name, b"read") {
         return read::outcome(out, line);
     }
-    if check::same(name, b"truth") {
+    if same(name, b"truth") {
         return truth::outcome(out, line);
     }
-    if check::same(name, b"decide") {
+    if same(name, b"decide") {
         return decide::outcome(out, line);
     }
-    malformed(out)
+    say::malformed(out)
 }

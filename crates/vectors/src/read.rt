@@ -3,9 +3,10 @@
 use crate::area::start_bytes;
 use crate::field::BROKEN;
 use crate::field::bytes;
-use crate::field::malformed;
 use crate::field::part;
+use crate::say;
 use formula::Outcome;
+use formula::Reading;
 use formula::Subformula;
 use formula::Table;
 ghost use Prim.Native.Nat.{_≤_, _<_};
@@ -14,9 +15,12 @@ pub(crate) fn outcome(out: &mut [u8], line: &[u8]) -> usize {
     let mut kept = [0u8; 32768];
     let n = bytes(&mut kept, part(line, b'|', 1));
     if n == BROKEN {
-        return malformed(out);
+        return say::malformed(out);
     }
-    let reading = formula::read(start_bytes(&kept, n));
+    told(out, formula::read(start_bytes(&kept, n)))
+}
+
+fn told(out: &mut [u8], reading: Reading) -> usize {
     let outcome = reading.outcome;
     let table = reading.table;
     match outcome {
@@ -27,7 +31,7 @@ pub(crate) fn outcome(out: &mut [u8], line: &[u8]) -> usize {
 
 fn accepted(out: &mut [u8], table: Table) -> usize {
     let rows = table.rows;
-    let at = text::put_all(out, 0, b"ACCEPTED");
+    let at = say::put(out, 0, b"ACCEPTED");
     entries(out, at, &rows, least(table.count, 48))
 }
 
@@ -53,13 +57,13 @@ fn entry(out: &mut [u8], at: usize, rows: &[u8; 144], s: Subformula) -> usize
     requires { ⌜ s .0 < 48 ⌝ }
 {
     let e = s.0;
-    let a = text::put(out, at, b' ');
+    let a = say::put(out, at, b" ");
     let b = opcode(out, a, rows[e]);
     operands(out, b, rows, s, rows[e], rows[48 + e])
 }
 
 fn opcode(out: &mut [u8], at: usize, op: u8) -> usize {
-    text::hex(out, at, op as u64, 2)
+    say::hex(out, at, op as u64, 2)
 }
 
 fn operands(
@@ -77,22 +81,22 @@ fn operands(
         return at;
     }
     if op <= 4 {
-        return marked(out, at, b':', argument as u64);
+        return marked(out, at, b":", argument as u64);
     }
     if op <= 5 {
-        let a = marked(out, at, b':', depth(rows, s, argument));
-        return marked(out, a, b'>', argument as u64);
+        let a = marked(out, at, b":", depth(rows, s, argument));
+        return marked(out, a, b">", argument as u64);
     }
-    let a = marked(out, at, b'/', (e + 1) as u64);
+    let a = marked(out, at, b"/", (e + 1) as u64);
     if op <= 7 {
-        return marked(out, a, b'/', argument as u64);
+        return marked(out, a, b"/", argument as u64);
     }
     a
 }
 
-fn marked(out: &mut [u8], at: usize, mark: u8, n: u64) -> usize {
-    let a = text::put(out, at, mark);
-    text::decimal(out, a, n)
+fn marked(out: &mut [u8], at: usize, mark: &[u8], n: u64) -> usize {
+    let a = say::put(out, at, mark);
+    say::decimal(out, a, n)
 }
 
 // How many fixpoints stand around the variable within its binder.

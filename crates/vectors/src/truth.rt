@@ -8,10 +8,10 @@ use crate::field::has_part;
 use crate::field::is_lent;
 use crate::field::lent;
 use crate::field::letters;
-use crate::field::malformed;
 use crate::field::number;
 use crate::field::part;
 use crate::field::unbroken;
+use crate::say;
 use lasso::Truth;
 
 // What a line asks for: how many bytes its formula has, how long the stem is and how many letters there are, how many words are lent,
@@ -31,10 +31,10 @@ pub(crate) fn outcome(out: &mut [u8], line: &[u8]) -> usize {
     let a = asked(&mut kept, &mut places, line);
     let room = a.room;
     if 16384 < room {
-        return malformed(out);
+        return say::malformed(out);
     }
     let s = area::start_bytes(&kept, a.bytes);
-    let letters = text::part(&places, 0, a.letters);
+    let letters = area::start_letters(&places, a.letters);
     evaluated(out, s, letters, a, &mut words[0..room])
 }
 
@@ -76,20 +76,17 @@ fn noted(out: &mut [u8], truth: Truth, words: &[u64], count: usize, shown: bool)
 
 fn told(out: &mut [u8], truth: Truth, words: &[u64], count: usize) -> usize {
     match truth {
-        Truth::Told(_) => hex_words(out, words, count),
+        Truth::Told(_) => hex_words(out, area::start_words(words, count)),
         Truth::Refused(code) => verdicts::refused(out, 0, code),
         Truth::Unread(why) => verdicts::unread(out, 0, why),
     }
 }
 
-// The first words, with a space between two.
-fn hex_words(out: &mut [u8], words: &[u64], count: usize) -> usize {
+// With a space between two.
+fn hex_words(out: &mut [u8], words: &[u64]) -> usize {
     let mut at = 0;
     let mut i = 0;
     while i < words.len() {
-        if count <= i {
-            return at;
-        }
         at = hex_word(out, at, words[i]);
         i += 1;
     }
@@ -98,10 +95,10 @@ fn hex_words(out: &mut [u8], words: &[u64], count: usize) -> usize {
 
 fn hex_word(out: &mut [u8], at: usize, word: u64) -> usize {
     if at == 0 {
-        return text::hex(out, at, word, 1);
+        return say::hex(out, at, word, 1);
     }
-    let a = text::put(out, at, b' ');
-    text::hex(out, a, word, 1)
+    let a = say::put(out, at, b" ");
+    say::hex(out, a, word, 1)
 }
 
 // A refusal tells no truth.
@@ -109,9 +106,9 @@ fn note(out: &mut [u8], at: usize, truth: Truth) -> usize {
     match truth {
         Truth::Told(yes) => {
             if yes {
-                return text::put_all(out, at, b" | true");
+                return say::put(out, at, b" | true");
             }
-            text::put_all(out, at, b" | false")
+            say::put(out, at, b" | false")
         }
         Truth::Refused(_) => at,
         Truth::Unread(_) => at,

@@ -10,10 +10,8 @@ pub hex-words-spec : {M : Type 1} → statement M
 hex-words-spec =
     tie.close
     (tie.spec
-    (λ out₀ words count at₀ i₀ out at i. length out ≡ length out₀)
-    (λ out₀ words count at₀ i₀ out at i. length words - i)
-    (λ c. search needs)
-    (λ c. search needs)
+    (λ out₀ words at₀ i₀ out at i. length out ≡ length out₀)
+    (λ out₀ words at₀ i₀ out at i. length words - i)
     (λ c. search needs)
     (λ c. search needs)
     (λ c. search needs)

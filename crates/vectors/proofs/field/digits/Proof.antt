@@ -1,21 +1,19 @@
--- vectors::field::number is safe and ends: the index is within. Assumes nothing.
+-- vectors::field::digits is safe and ends: the index is within. Assumes nothing.
 use borrow.Author.Needs.{needs}
 use Prim.Native.Nat.{_≤_, _-_}
 use lib.ListN.{length}
-use Rattle.vectors.proofs.field.number.Statement.{statement}
-use Rattle.vectors.proofs.field.number.Tie as tie
+use Rattle.vectors.proofs.field.digits.Statement.{statement}
+use Rattle.vectors.proofs.field.digits.Tie as tie
 
-pub number-spec : {M : Type 1} → statement M
-number-spec =
+pub digits-spec : {M : Type 1} → statement M
+digits-spec =
     tie.close
     (tie.spec
     (λ s n₀ i₀ n i. i ≤ length s)
     (λ s n₀ i₀ n i. length s - i)
     (λ c. search needs)
     (λ c. search needs)
-    (λ c. search needs)
     (λ c κs. search needs)
-    (λ c. search needs)
     (λ c κs. search needs)
     (λ c. search needs)
     (λ c. search needs)
