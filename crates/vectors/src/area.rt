@@ -1,7 +1,6 @@
 // The areas that are lent. All bytes of one are 165 beforehand, all letters 48,879 (beef in hex), all words 2 ^ 63, which is no truth
 // word; behind the outcome stands what is so afterwards.
 use crate::say::number;
-use crate::say::put;
 
 // The first bytes, as many as there are.
 pub(crate) fn start_bytes(s: &[u8], n: usize) -> &[u8] {
@@ -72,26 +71,20 @@ fn kept_words(area: &[u64]) -> usize {
 }
 
 // The notes behind an outcome: how many bytes are zero from the start on, how many at the end are as they were, and how many were lent.
-pub(crate) fn note_bytes(out: &mut [u8], at: usize, area: &[u8]) -> usize {
-    let a = put(out, at, b" | work: zero");
-    let b = number(out, a, zeros(area) as u64);
-    let c = put(out, b, b",");
-    kept(out, c, kept_bytes(area), area.len())
+pub(crate) fn note_bytes(area: &[u8]) {
+    number(b" | work: zero ", zeros(area));
+    kept(b", kept ", kept_bytes(area), area.len());
 }
 
-pub(crate) fn note_letters(out: &mut [u8], at: usize, area: &[u16]) -> usize {
-    let a = put(out, at, b" | course:");
-    kept(out, a, kept_letters(area), area.len())
+pub(crate) fn note_letters(area: &[u16]) {
+    kept(b" | course: kept ", kept_letters(area), area.len());
 }
 
-pub(crate) fn note_words(out: &mut [u8], at: usize, area: &[u64]) -> usize {
-    let a = put(out, at, b" | words:");
-    kept(out, a, kept_words(area), area.len())
+pub(crate) fn note_words(area: &[u64]) {
+    kept(b" | words: kept ", kept_words(area), area.len());
 }
 
-fn kept(out: &mut [u8], at: usize, kept: usize, lent: usize) -> usize {
-    let a = put(out, at, b" kept");
-    let b = number(out, a, kept as u64);
-    let c = put(out, b, b" of");
-    number(out, c, lent as u64)
+fn kept(front: &[u8], kept: usize, lent: usize) {
+    number(front, kept);
+    number(b" of ", lent);
 }

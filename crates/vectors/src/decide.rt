@@ -26,21 +26,23 @@ struct Case {
     shown: bool,
 }
 
-pub(crate) fn outcome(out: &mut [u8], line: &[u8]) -> usize {
-    let mut kept = [0u8; 32768];
+pub(crate) fn outcome(line: &[u8]) {
+    let mut kept = io::large_buffer();
     let mut workspace = room();
     let mut letters = [48879u16; 8192];
     let a = asked(&mut kept, line);
     let work = a.work;
     let course = a.course;
     if 800000 < work {
-        return say::malformed(out);
+        say::malformed();
+        return;
     }
     if 8192 < course {
-        return say::malformed(out);
+        say::malformed();
+        return;
     }
     let s = area::start_bytes(&kept, a.bytes);
-    decided(out, s, a, &mut workspace[0..work], &mut letters[0..course])
+    decided(s, a, &mut workspace[0..work], &mut letters[0..course]);
 }
 
 fn asked(kept: &mut [u8], line: &[u8]) -> Case {
@@ -63,9 +65,61 @@ fn asked(kept: &mut [u8], line: &[u8]) -> Case {
     }
 }
 
-fn decided(out: &mut [u8], s: &[u8], a: Case, workspace: &mut [u8], letters: &mut [u16]) -> usize {
+fn decided(s: &[u8], a: Case, workspace: &mut [u8], letters: &mut [u16]) {
     let verdict = decision::decide(s, a.n, a.m, workspace, letters);
-    noted(out, verdict, workspace, letters, a.shown)
+    told(verdict, letters);
+    if a.shown {
+        area::note_bytes(workspace);
+        area::note_letters(letters);
+    }
+}
+
+fn told(verdict: Verdict, letters: &[u16]) {
+    match verdict {
+        Verdict::Satisfiable {
+            stem,
+            cycle,
+            nodes,
+            profiles,
+        } => {
+            say::number(b"MET ", stem);
+            say::number(b" ", cycle);
+            sizes(nodes, profiles);
+            hex_letters(area::start_letters(letters, total(stem, cycle)));
+        }
+        Verdict::Unsatisfiable { nodes, profiles } => {
+            say::put(b"NOT");
+            sizes(nodes, profiles);
+        }
+        Verdict::Refused(code) => say::refused(code),
+        Verdict::Unread(why) => say::unread(why),
+    }
+}
+
+fn sizes(nodes: usize, profiles: usize) {
+    say::number(b" ", nodes);
+    say::number(b" ", profiles);
+}
+
+fn total(stem: usize, cycle: usize) -> usize {
+    if stem <= 8192 {
+        if cycle <= 8192 {
+            return stem + cycle;
+        }
+    }
+    0
+}
+
+fn hex_letters(letters: &[u16]) {
+    let mut i = 0;
+    while i < letters.len() {
+        hex_letter(letters[i]);
+        i += 1;
+    }
+}
+
+fn hex_letter(letter: u16) {
+    say::hex(b" ", letter as u64, 4);
 }
 
 // The `ensures` gives only the length.
@@ -99,24 +153,4 @@ fn letters_asked(n: usize, m: usize) -> usize {
         }
     }
     0
-}
-
-fn noted(
-    out: &mut [u8],
-    verdict: Verdict,
-    workspace: &[u8],
-    letters: &[u16],
-    shown: bool,
-) -> usize {
-    let end = told(out, verdict, letters);
-    if shown {
-        let at = area::note_bytes(out, end, workspace);
-        return area::note_letters(out, at, letters);
-    }
-    end
-}
-
-fn told(out: &mut [u8], verdict: Verdict, letters: &[u16]) -> usize {
-    let a = verdicts::verdict_text(out, 0, verdict);
-    verdicts::lasso_text(out, a, verdict, letters, b" ", b" ", b"")
 }

@@ -10,14 +10,11 @@ mod truth;
 
 use field::part;
 use field::same;
-ghost use mathlib.Core.Path.{_≡_};
-ghost use lib.ListN.{length};
 
 // Nothing says that the input ends, so the loop counts its turns down, from a number that no run uses up.
 fn main() {
     let mut line = io::large_buffer();
     let mut chunk = io::buffer();
-    let mut out = room();
     let mut place = line::begun();
     let mut turns = u64::MAX;
     while 0 < turns {
@@ -26,28 +23,24 @@ fn main() {
         if place.length == 0 {
             return;
         }
-        let end = told(&mut out, line::whole(&line, place.length));
-        say::written(&mut out, end);
+        told(line::whole(&line, place.length));
+        say::put(b"\n");
     }
 }
 
-// For what a line comes to. The `ensures` gives only the length.
-fn room() -> [u8; 131072]
-    ensures { λ r. ⌜ 131072 ≡ length r ⌝ }
-{
-    [0; 131072]
-}
-
-fn told(out: &mut [u8], line: &[u8]) -> usize {
+fn told(line: &[u8]) {
     let name = part(line, b'|', 0);
     if same(name, b"read") {
-        return read::outcome(out, line);
+        read::outcome(line);
+        return;
     }
     if same(name, b"truth") {
-        return truth::outcome(out, line);
+        truth::outcome(line);
+        return;
     }
     if same(name, b"decide") {
-        return decide::outcome(out, line);
+        decide::outcome(line);
+        return;
     }
-    say::malformed(out)
+    say::malformed();
 }

@@ -11,28 +11,29 @@ use formula::Subformula;
 use formula::Table;
 ghost use Prim.Native.Nat.{_≤_, _<_};
 
-pub(crate) fn outcome(out: &mut [u8], line: &[u8]) -> usize {
-    let mut kept = [0u8; 32768];
+pub(crate) fn outcome(line: &[u8]) {
+    let mut kept = io::large_buffer();
     let n = bytes(&mut kept, part(line, b'|', 1));
     if n == BROKEN {
-        return say::malformed(out);
+        say::malformed();
+        return;
     }
-    told(out, formula::read(start_bytes(&kept, n)))
+    told(formula::read(start_bytes(&kept, n)));
 }
 
-fn told(out: &mut [u8], reading: Reading) -> usize {
+fn told(reading: Reading) {
     let outcome = reading.outcome;
     let table = reading.table;
     match outcome {
-        Outcome::Refused(why) => verdicts::unread(out, 0, why),
-        Outcome::Accepted => accepted(out, table),
+        Outcome::Refused(why) => say::unread(why),
+        Outcome::Accepted => accepted(table),
     }
 }
 
-fn accepted(out: &mut [u8], table: Table) -> usize {
+fn accepted(table: Table) {
     let rows = table.rows;
-    let at = say::put(out, 0, b"ACCEPTED");
-    entries(out, at, &rows, least(table.count, 48))
+    say::put(b"ACCEPTED");
+    entries(&rows, least(table.count, 48));
 }
 
 fn least(a: usize, b: usize) -> usize
@@ -41,79 +42,70 @@ fn least(a: usize, b: usize) -> usize
     if a < b { a } else { b }
 }
 
-fn entries(out: &mut [u8], start: usize, rows: &[u8; 144], count: usize) -> usize
+fn entries(rows: &[u8; 144], count: usize)
     requires { ⌜ count ≤ 48 ⌝ }
 {
-    let mut at = start;
     let mut e = 0;
     while e < count {
-        at = entry(out, at, rows, Subformula(e));
+        entry(rows, Subformula(e));
         e += 1;
     }
-    at
 }
 
-fn entry(out: &mut [u8], at: usize, rows: &[u8; 144], s: Subformula) -> usize
+fn entry(rows: &[u8; 144], s: Subformula)
     requires { ⌜ s .0 < 48 ⌝ }
 {
     let e = s.0;
-    let a = say::put(out, at, b" ");
-    let b = opcode(out, a, rows[e]);
-    operands(out, b, rows, s, rows[e], rows[48 + e])
+    let op = rows[e];
+    let argument = base::wide(rows[48 + e]);
+    opcode(op);
+    operands(op, e, argument, depth(rows, s, argument));
 }
 
-fn opcode(out: &mut [u8], at: usize, op: u8) -> usize {
-    say::hex(out, at, op as u64, 2)
+fn opcode(op: u8) {
+    say::hex(b" ", op as u64, 2);
 }
 
-fn operands(
-    out: &mut [u8],
-    at: usize,
-    rows: &[u8; 144],
-    s: Subformula,
-    op: u8,
-    argument: u8,
-) -> usize
-    requires { ⌜ s .0 < 48 ⌝ }
+fn operands(op: u8, e: usize, argument: usize, depth: usize)
+    requires { ⌜ e < 48 ⌝ }
 {
-    let e = s.0;
     if op <= 2 {
-        return at;
+        return;
     }
     if op <= 4 {
-        return marked(out, at, b":", argument as u64);
+        say::number(b":", argument);
+        return;
     }
     if op <= 5 {
-        let a = marked(out, at, b":", depth(rows, s, argument));
-        return marked(out, a, b">", argument as u64);
+        say::number(b":", depth);
+        say::number(b">", argument);
+        return;
     }
-    let a = marked(out, at, b"/", (e + 1) as u64);
+    say::number(b"/", e + 1);
     if op <= 7 {
-        return marked(out, a, b"/", argument as u64);
+        say::number(b"/", argument);
     }
-    a
 }
 
-fn marked(out: &mut [u8], at: usize, mark: &[u8], n: u64) -> usize {
-    let a = say::put(out, at, mark);
-    say::decimal(out, a, n)
-}
-
-// How many fixpoints stand around the variable within its binder.
-fn depth(rows: &[u8; 144], s: Subformula, binder: u8) -> u64
+// How many fixpoints stand around the variable from its binder on, the binder not counted.
+fn depth(rows: &[u8; 144], s: Subformula, binder: usize) -> usize
     requires { ⌜ s .0 < 48 ⌝ }
 {
     let e = s.0;
-    let mut n = 0u64;
-    let mut f = binder as usize + 1;
+    let mut n = 0;
+    let mut f = binder;
     while f < e {
         n = one_more_if(is_around(rows, s, Subformula(f)), n);
         f += 1;
     }
-    n
+    one_less(n)
 }
 
-fn one_more_if(b: bool, n: u64) -> u64 {
+fn one_less(n: usize) -> usize {
+    if 0 < n { n - 1 } else { n }
+}
+
+fn one_more_if(b: bool, n: usize) -> usize {
     if b {
         if n < 48 {
             return n + 1;

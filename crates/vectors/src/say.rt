@@ -1,30 +1,33 @@
-// Text into the buffer of an outcome, as the library `text` writes it. Nothing is promised of it here, so that what uses it has less to
-// carry.
+// What is written for an outcome, piece by piece, to standard output.
+use formula::Refusal;
 
-pub(crate) fn put(out: &mut [u8], at: usize, said: &[u8]) -> usize {
-    text::put_all(out, at, said)
+pub(crate) fn put(said: &[u8]) {
+    io::write_all(1, said);
 }
 
-// Behind a blank.
-pub(crate) fn number(out: &mut [u8], at: usize, n: u64) -> usize {
-    text::number(out, at, n)
+// In decimal, behind another text.
+pub(crate) fn number(front: &[u8], n: usize) {
+    io::write_all(1, front);
+    io::print_decimal(1, n as u64);
 }
 
-pub(crate) fn decimal(out: &mut [u8], at: usize, n: u64) -> usize {
-    text::decimal(out, at, n)
+// In hex, behind another text.
+pub(crate) fn hex(front: &[u8], n: u64, width: usize) {
+    io::write_all(1, front);
+    io::print_hex(1, n, width);
 }
 
-pub(crate) fn hex(out: &mut [u8], at: usize, n: u64, width: usize) -> usize {
-    text::hex(out, at, n, width)
+// For a line that cannot be run.
+pub(crate) fn malformed() {
+    put(b"MALFORMED");
 }
 
-// What is written for a line that cannot be run.
-pub(crate) fn malformed(out: &mut [u8]) -> usize {
-    put(out, 0, b"MALFORMED")
+pub(crate) fn refused(code: u8) {
+    number(b"REFUSED ", code as usize);
 }
 
-// The outcome with its line's end, to standard output.
-pub(crate) fn written(out: &mut [u8], end: usize) {
-    let n = text::ended(out, end);
-    io::write_all(1, &out[..n]);
+// A refusal of reading has a place.
+pub(crate) fn unread(why: Refusal) {
+    refused(why.code);
+    number(b" at ", why.at);
 }

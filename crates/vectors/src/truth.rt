@@ -24,18 +24,19 @@ struct Case {
     shown: bool,
 }
 
-pub(crate) fn outcome(out: &mut [u8], line: &[u8]) -> usize {
-    let mut kept = [0u8; 32768];
+pub(crate) fn outcome(line: &[u8]) {
+    let mut kept = io::large_buffer();
     let mut places = [0u16; 16384];
     let mut words = [9223372036854775808u64; 16384];
     let a = asked(&mut kept, &mut places, line);
     let room = a.room;
     if 16384 < room {
-        return say::malformed(out);
+        say::malformed();
+        return;
     }
     let s = area::start_bytes(&kept, a.bytes);
     let letters = area::start_letters(&places, a.letters);
-    evaluated(out, s, letters, a, &mut words[0..room])
+    evaluated(s, letters, a, &mut words[0..room]);
 }
 
 fn asked(kept: &mut [u8], places: &mut [u16], line: &[u8]) -> Case {
@@ -60,57 +61,51 @@ fn course(places: &mut [u16], line: &[u8]) -> usize {
     BROKEN
 }
 
-fn evaluated(out: &mut [u8], s: &[u8], letters: &[u16], a: Case, words: &mut [u64]) -> usize {
+fn evaluated(s: &[u8], letters: &[u16], a: Case, words: &mut [u64]) {
     let truth = lasso::evaluate(s, letters, a.stem, words);
-    noted(out, truth, words, letters.len(), a.shown)
-}
-
-fn noted(out: &mut [u8], truth: Truth, words: &[u64], count: usize, shown: bool) -> usize {
-    let end = told(out, truth, words, count);
-    if shown {
-        let at = note(out, end, truth);
-        return area::note_words(out, at, words);
+    told(truth, area::start_words(words, letters.len()));
+    if a.shown {
+        note(truth);
+        area::note_words(words);
     }
-    end
 }
 
-fn told(out: &mut [u8], truth: Truth, words: &[u64], count: usize) -> usize {
+fn told(truth: Truth, words: &[u64]) {
     match truth {
-        Truth::Told(_) => hex_words(out, area::start_words(words, count)),
-        Truth::Refused(code) => verdicts::refused(out, 0, code),
-        Truth::Unread(why) => verdicts::unread(out, 0, why),
+        Truth::Told(_) => hex_words(words),
+        Truth::Refused(code) => say::refused(code),
+        Truth::Unread(why) => say::unread(why),
     }
 }
 
 // With a space between two.
-fn hex_words(out: &mut [u8], words: &[u64]) -> usize {
-    let mut at = 0;
+fn hex_words(words: &[u64]) {
     let mut i = 0;
     while i < words.len() {
-        at = hex_word(out, at, words[i]);
+        hex_word(i, words[i]);
         i += 1;
     }
-    at
 }
 
-fn hex_word(out: &mut [u8], at: usize, word: u64) -> usize {
-    if at == 0 {
-        return say::hex(out, at, word, 1);
+fn hex_word(i: usize, word: u64) {
+    if i == 0 {
+        say::hex(b"", word, 1);
+        return;
     }
-    let a = say::put(out, at, b" ");
-    say::hex(out, a, word, 1)
+    say::hex(b" ", word, 1);
 }
 
 // A refusal tells no truth.
-fn note(out: &mut [u8], at: usize, truth: Truth) -> usize {
+fn note(truth: Truth) {
     match truth {
         Truth::Told(yes) => {
             if yes {
-                return say::put(out, at, b" | true");
+                say::put(b" | true");
+                return;
             }
-            say::put(out, at, b" | false")
+            say::put(b" | false");
         }
-        Truth::Refused(_) => at,
-        Truth::Unread(_) => at,
+        Truth::Refused(_) => {}
+        Truth::Unread(_) => {}
     }
 }

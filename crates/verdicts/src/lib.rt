@@ -14,8 +14,7 @@ pub fn program_text(out: &mut [u8], verdict: Verdict, letters: &[u16]) -> usize
     lasso_text(out, b, verdict, letters, b"S ", b"L ", b"\n")
 }
 
-// The verdict in one line, without its end.
-pub fn verdict_text(out: &mut [u8], at: usize, verdict: Verdict) -> usize
+fn verdict_text(out: &mut [u8], at: usize, verdict: Verdict) -> usize
     ensures { λ r. ⌜ Wrote (buffer (now (out .entry)) at) (verdict-text verdict) (buffer (now (out .exit)) r) ⌝ }
 {
     match verdict {
@@ -75,7 +74,7 @@ fn not_text(out: &mut [u8], at: usize, nodes: u64, profiles: u64) -> usize
 }
 
 // The witness: each letter of the stem behind one text, each of the cycle behind another, and a third behind both.
-pub fn lasso_text(
+fn lasso_text(
     out: &mut [u8],
     at: usize,
     verdict: Verdict,

@@ -9,9 +9,8 @@ pub main-spec : {M : Type 1} → statement M
 main-spec =
     tie.close
     (tie.spec
-    (λ line₀ chunk₀ out₀ place₀ turns₀ line chunk out place turns. (length line ≡ 65536) × (length chunk ≡ 4096) × (length out ≡ 131072))
-    (λ line₀ chunk₀ out₀ place₀ turns₀ line chunk out place turns. turns)
-    (λ c κs. search needs)
+    (λ line₀ chunk₀ place₀ turns₀ t5 line chunk place turns. (length line ≡ 65536) × (length chunk ≡ 4096))
+    (λ line₀ chunk₀ place₀ turns₀ t5 line chunk place turns. turns)
     (λ c κs. search needs)
     (λ c κs. search needs)
     (λ c κs. search needs)
@@ -20,7 +19,6 @@ main-spec =
     (λ c. search needs)
     (λ c. search needs)
     (λ c κs. search needs)
-    (λ c. search needs)
     (λ c. search needs)
     (λ c. search needs)
     (λ c κs. search needs)

@@ -1,8 +1,6 @@
--- vectors::read::entries is safe and ends: the buffer keeps its length. Assumes nothing.
+-- vectors::read::entries is safe and ends: the number is within. Assumes nothing.
 use borrow.Author.Needs.{needs}
-use Prim.Native.Nat.{_-_}
-use mathlib.Core.Path.{_≡_}
-use lib.ListN.{length}
+use Prim.Native.Nat.{_≤_, _-_}
 use Rattle.vectors.proofs.read.entries.Statement.{statement}
 use Rattle.vectors.proofs.read.entries.Tie as tie
 
@@ -10,11 +8,10 @@ pub entries-spec : {M : Type 1} → statement M
 entries-spec =
     tie.close
     (tie.spec
-    (λ out₀ start rows count at₀ e₀ out at e. length out ≡ length out₀)
-    (λ out₀ start rows count at₀ e₀ out at e. count - e)
+    (λ rows count e₀ e. e ≤ count)
+    (λ rows count e₀ e. count - e)
     (λ c. search needs)
     (λ c κs. search needs)
-    (λ c. search needs)
     (λ c. search needs)
     (λ c. search needs)
     (λ c. search needs)
