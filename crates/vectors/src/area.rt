@@ -1,6 +1,7 @@
 // The areas that are lent. All bytes of one are 165 beforehand, all letters 48,879 (beef in hex), all words 2 ^ 63, which is no truth
 // word; behind the outcome stands what is so afterwards.
 use crate::say::number;
+use crate::say::put;
 
 // The first bytes, as many as there are.
 pub(crate) fn start_bytes(s: &[u8], n: usize) -> &[u8] {
@@ -72,19 +73,24 @@ fn kept_words(area: &[u64]) -> usize {
 
 // The notes behind an outcome: how many bytes are zero from the start on, how many at the end are as they were, and how many were lent.
 pub(crate) fn note_bytes(area: &[u8]) {
-    number(b" | work: zero ", zeros(area));
-    kept(b", kept ", kept_bytes(area), area.len());
+    put(b" | work: zero");
+    number(b' ', zeros(area));
+    put(b", kept");
+    kept(kept_bytes(area), area.len());
 }
 
 pub(crate) fn note_letters(area: &[u16]) {
-    kept(b" | course: kept ", kept_letters(area), area.len());
+    put(b" | course: kept");
+    kept(kept_letters(area), area.len());
 }
 
 pub(crate) fn note_words(area: &[u64]) {
-    kept(b" | words: kept ", kept_words(area), area.len());
+    put(b" | words: kept");
+    kept(kept_words(area), area.len());
 }
 
-fn kept(front: &[u8], kept: usize, lent: usize) {
-    number(front, kept);
-    number(b" of ", lent);
+fn kept(kept: usize, lent: usize) {
+    number(b' ', kept);
+    put(b" of");
+    number(b' ', lent);
 }

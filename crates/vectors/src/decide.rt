@@ -67,8 +67,12 @@ fn asked(kept: &mut [u8], line: &[u8]) -> Case {
 
 fn decided(s: &[u8], a: Case, workspace: &mut [u8], letters: &mut [u16]) {
     let verdict = decision::decide(s, a.n, a.m, workspace, letters);
+    noted(verdict, workspace, letters, a.shown);
+}
+
+fn noted(verdict: Verdict, workspace: &[u8], letters: &[u16], shown: bool) {
     told(verdict, letters);
-    if a.shown {
+    if shown {
         area::note_bytes(workspace);
         area::note_letters(letters);
     }
@@ -82,23 +86,27 @@ fn told(verdict: Verdict, letters: &[u16]) {
             nodes,
             profiles,
         } => {
-            say::number(b"MET ", stem);
-            say::number(b" ", cycle);
-            sizes(nodes, profiles);
+            met(stem, cycle, nodes, profiles);
             hex_letters(area::start_letters(letters, total(stem, cycle)));
         }
-        Verdict::Unsatisfiable { nodes, profiles } => {
-            say::put(b"NOT");
-            sizes(nodes, profiles);
-        }
+        Verdict::Unsatisfiable { nodes, profiles } => not(nodes, profiles),
         Verdict::Refused(code) => say::refused(code),
         Verdict::Unread(why) => say::unread(why),
     }
 }
 
-fn sizes(nodes: usize, profiles: usize) {
-    say::number(b" ", nodes);
-    say::number(b" ", profiles);
+fn met(stem: usize, cycle: usize, nodes: usize, profiles: usize) {
+    say::put(b"MET");
+    say::number(b' ', stem);
+    say::number(b' ', cycle);
+    say::number(b' ', nodes);
+    say::number(b' ', profiles);
+}
+
+fn not(nodes: usize, profiles: usize) {
+    say::put(b"NOT");
+    say::number(b' ', nodes);
+    say::number(b' ', profiles);
 }
 
 fn total(stem: usize, cycle: usize) -> usize {
@@ -119,7 +127,7 @@ fn hex_letters(letters: &[u16]) {
 }
 
 fn hex_letter(letter: u16) {
-    say::hex(b" ", letter as u64, 4);
+    say::hex(b' ', letter as u64, 4);
 }
 
 // The `ensures` gives only the length.

@@ -2,21 +2,18 @@
 // and none at the line's ends or beside a bar; so fields and words are what stands between bars and spaces.
 ghost use Prim.Native.Nat.{_≤_};
 
-// Where the next byte of the input stands among those that were read, how many these are, and whether the input has ended; how long the
-// line is so far, and whether it is whole.
+// How many bytes were read last, and how many of them are left; how long the line is so far, and whether it is whole.
 pub(crate) struct Place {
-    pub at: usize,
     pub count: usize,
-    pub over: bool,
+    pub left: usize,
     pub length: usize,
     pub whole: bool,
 }
 
 pub(crate) fn begun() -> Place {
     Place {
-        at: 0,
         count: 0,
-        over: false,
+        left: 0,
         length: 0,
         whole: false,
     }
@@ -24,12 +21,17 @@ pub(crate) fn begun() -> Place {
 
 // The next line. At the input's end it has no bytes.
 pub(crate) fn next(line: &mut [u8], chunk: &mut [u8], from: Place) -> Place {
-    let mut place = fresh(from);
+    let mut place = Place {
+        count: from.count,
+        left: from.left,
+        length: 0,
+        whole: false,
+    };
     let mut turns = u64::MAX;
     while 0 < turns {
         turns -= 1;
         let full = filled(chunk, place);
-        place = taken(line, chunk, full);
+        place = taken(line, full, byte(chunk, full));
         if place.whole {
             return place;
         }
@@ -37,70 +39,66 @@ pub(crate) fn next(line: &mut [u8], chunk: &mut [u8], from: Place) -> Place {
     place
 }
 
-// In front of a line.
-fn fresh(place: Place) -> Place {
-    Place {
-        at: place.at,
-        count: place.count,
-        over: place.over,
-        length: 0,
-        whole: false,
-    }
-}
-
-// More of the input, where all that was read is taken.
+// More of the input, where nothing is left.
 fn filled(chunk: &mut [u8], place: Place) -> Place {
-    if place.at < place.count {
+    if 0 < place.left {
         return place;
     }
-    let got = libc::read(0, chunk);
+    let n = read(chunk);
     Place {
-        at: 0,
-        count: io::count(got, chunk),
-        over: got <= 0,
+        count: n,
+        left: n,
         length: place.length,
         whole: false,
     }
 }
 
-// The line with one byte more. The input's end ends it.
-fn taken(line: &mut [u8], chunk: &[u8], place: Place) -> Place {
-    let at = place.at;
-    if place.over {
-        return ended(place, kept(line, place.length));
+fn read(chunk: &mut [u8]) -> usize {
+    let got = libc::read(0, chunk);
+    io::count(got, chunk)
+}
+
+// The next byte, or 256 at the input's end.
+fn byte(chunk: &[u8], place: Place) -> usize {
+    if place.count < place.left {
+        return 256;
     }
+    let at = place.count - place.left;
     if chunk.len() <= at {
-        return ended(place, kept(line, place.length));
+        return 256;
     }
-    if chunk[at] == 10 {
-        return parted(place, at + 1, kept(line, place.length));
+    if place.left == 0 {
+        return 256;
+    }
+    base::wide(chunk[at])
+}
+
+// The line with one byte more. The input's end ends it.
+fn taken(line: &mut [u8], place: Place, b: usize) -> Place {
+    if b == 256 {
+        return ended(place, kept(line, place.length), true);
+    }
+    if b == 10 {
+        return ended(place, kept(line, place.length), false);
     }
     Place {
-        at: at + 1,
         count: place.count,
-        over: false,
-        length: pushed(line, place.length, chunk[at]),
+        left: one_less(place.left),
+        length: pushed(line, place.length, (b % 256) as u8),
         whole: false,
     }
 }
 
-fn ended(place: Place, length: usize) -> Place {
-    Place {
-        at: place.at,
-        count: place.count,
-        over: true,
-        length: length,
-        whole: true,
-    }
+fn one_less(n: usize) -> usize {
+    if 0 < n { n - 1 } else { n }
 }
 
-fn parted(place: Place, at: usize, length: usize) -> Place {
+fn ended(place: Place, length: usize, last: bool) -> Place {
     Place {
-        at: at,
         count: place.count,
-        over: false,
+        left: one_less(place.left),
         length: length,
-        whole: 0 < length,
+        whole: last || 0 < length,
     }
 }
 

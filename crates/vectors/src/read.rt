@@ -63,7 +63,7 @@ fn entry(rows: &[u8; 144], s: Subformula)
 }
 
 fn opcode(op: u8) {
-    say::hex(b" ", op as u64, 2);
+    say::hex(b' ', op as u64, 2);
 }
 
 fn operands(op: u8, e: usize, argument: usize, depth: usize)
@@ -73,17 +73,17 @@ fn operands(op: u8, e: usize, argument: usize, depth: usize)
         return;
     }
     if op <= 4 {
-        say::number(b":", argument);
+        say::number(b':', argument);
         return;
     }
     if op <= 5 {
-        say::number(b":", depth);
-        say::number(b">", argument);
+        say::number(b':', depth);
+        say::number(b'>', argument);
         return;
     }
-    say::number(b"/", e + 1);
+    say::number(b'/', e + 1);
     if op <= 7 {
-        say::number(b"/", argument);
+        say::number(b'/', argument);
     }
 }
 

@@ -5,15 +5,17 @@ pub(crate) fn put(said: &[u8]) {
     io::write_all(1, said);
 }
 
-// In decimal, behind another text.
-pub(crate) fn number(front: &[u8], n: usize) {
-    io::write_all(1, front);
+// In decimal, behind one byte.
+pub(crate) fn number(front: u8, n: usize) {
+    let byte = [front];
+    io::write_all(1, &byte);
     io::print_decimal(1, n as u64);
 }
 
-// In hex, behind another text.
-pub(crate) fn hex(front: &[u8], n: u64, width: usize) {
-    io::write_all(1, front);
+// In hex, behind one byte.
+pub(crate) fn hex(front: u8, n: u64, width: usize) {
+    let byte = [front];
+    io::write_all(1, &byte);
     io::print_hex(1, n, width);
 }
 
@@ -23,11 +25,13 @@ pub(crate) fn malformed() {
 }
 
 pub(crate) fn refused(code: u8) {
-    number(b"REFUSED ", code as usize);
+    put(b"REFUSED");
+    number(b' ', code as usize);
 }
 
 // A refusal of reading has a place.
 pub(crate) fn unread(why: Refusal) {
     refused(why.code);
-    number(b" at ", why.at);
+    put(b" at");
+    number(b' ', why.at);
 }

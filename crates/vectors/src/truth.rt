@@ -63,8 +63,12 @@ fn course(places: &mut [u16], line: &[u8]) -> usize {
 
 fn evaluated(s: &[u8], letters: &[u16], a: Case, words: &mut [u64]) {
     let truth = lasso::evaluate(s, letters, a.stem, words);
-    told(truth, area::start_words(words, letters.len()));
-    if a.shown {
+    noted(truth, words, letters.len(), a.shown);
+}
+
+fn noted(truth: Truth, words: &[u64], count: usize, shown: bool) {
+    told(truth, area::start_words(words, count));
+    if shown {
         note(truth);
         area::note_words(words);
     }
@@ -89,23 +93,25 @@ fn hex_words(words: &[u64]) {
 
 fn hex_word(i: usize, word: u64) {
     if i == 0 {
-        say::hex(b"", word, 1);
+        io::print_hex(1, word, 1);
         return;
     }
-    say::hex(b" ", word, 1);
+    say::hex(b' ', word, 1);
 }
 
 // A refusal tells no truth.
 fn note(truth: Truth) {
     match truth {
-        Truth::Told(yes) => {
-            if yes {
-                say::put(b" | true");
-                return;
-            }
-            say::put(b" | false");
-        }
+        Truth::Told(yes) => told_so(yes),
         Truth::Refused(_) => {}
         Truth::Unread(_) => {}
     }
+}
+
+fn told_so(yes: bool) {
+    if yes {
+        say::put(b" | true");
+        return;
+    }
+    say::put(b" | false");
 }

@@ -11,9 +11,9 @@ next-spec =
     (tie.spec
     (λ line₀ chunk₀ place₀ turns₀ line chunk place turns. (length line ≡ length line₀) × (length chunk ≡ length chunk₀))
     (λ line₀ chunk₀ place₀ turns₀ line chunk place turns. turns)
+    (λ c. search needs)
+    (λ c. search needs)
     (λ c κs. search needs)
-    (λ c. search needs)
-    (λ c. search needs)
     (λ c κs. search needs)
     (λ c κs. search needs)
     (λ c. search needs)
