@@ -3,7 +3,6 @@
 // followed by how many bytes are zero from the start on and how many of each area at its end are as they were.
 use crate::area;
 use crate::field::BROKEN;
-use crate::field::bytes;
 use crate::field::has_part;
 use crate::field::is_lent;
 use crate::field::lent;
@@ -15,10 +14,8 @@ use decision::Verdict;
 ghost use mathlib.Core.Path.{_≡_};
 ghost use lib.ListN.{length};
 
-// What a line asks for: how many bytes its formula has, N and M, how much of the two areas is lent, and whether they are shown
-// afterwards. A broken line asks for more bytes than there are.
+// What a line asks for: N and M, how much of the two areas is lent, and whether they are shown afterwards. A broken line asks for more bytes than there are.
 struct Case {
-    bytes: usize,
     n: usize,
     m: usize,
     work: usize,
@@ -26,11 +23,10 @@ struct Case {
     shown: bool,
 }
 
-pub(crate) fn outcome(line: &[u8]) {
-    let mut kept = io::large_buffer();
+pub(crate) fn outcome(line: &[u8], s: &[u8]) {
     let mut workspace = room();
     let mut letters = [48879u16; 8192];
-    let a = asked(&mut kept, line);
+    let a = asked(line);
     let work = a.work;
     let course = a.course;
     if 800000 < work {
@@ -41,25 +37,18 @@ pub(crate) fn outcome(line: &[u8]) {
         say::malformed();
         return;
     }
-    let s = area::start_bytes(&kept, a.bytes);
     decided(s, a, &mut workspace[0..work], &mut letters[0..course]);
 }
 
-fn asked(kept: &mut [u8], line: &[u8]) -> Case {
+fn asked(line: &[u8]) -> Case {
     let sizes = part(line, b'|', 2);
     let said = part(line, b'|', 3);
-    let bytes = bytes(kept, part(line, b'|', 1));
     let n = number(part(sizes, b' ', 0));
     let m = second(sizes);
     Case {
-        bytes: bytes,
         n: n,
         m: m,
-        work: unbroken(
-            bytes,
-            n,
-            unbroken(m, 0, lent(said, 1, 3, bytes_asked(n, m))),
-        ),
+        work: unbroken(n, m, lent(said, 1, 3, bytes_asked(n, m))),
         course: lent(said, 2, 3, letters_asked(n, m)),
         shown: is_lent(said),
     }

@@ -1,5 +1,5 @@
 // Runs lines of vectors from standard input and writes what each comes to. A line has an operation and its inputs, parted by bars; what
-// stands behind the last of them is passed over. A kind of line is a module with a function `outcome`, and a test in `told`.
+// stands behind the last of them is passed over. A kind of line is a module with a function `outcome`, and a test in `run`.
 mod area;
 mod decide;
 mod field;
@@ -8,6 +8,9 @@ mod read;
 mod say;
 mod truth;
 
+use area::start_bytes;
+use field::BROKEN;
+use field::bytes;
 use field::part;
 use field::same;
 
@@ -28,18 +31,29 @@ fn main() {
     }
 }
 
+// The first input of every operation is bytes in hex.
 fn told(line: &[u8]) {
+    let mut kept = io::large_buffer();
+    let n = bytes(&mut kept, part(line, b'|', 1));
+    if n == BROKEN {
+        say::malformed();
+        return;
+    }
+    run(line, start_bytes(&kept, n));
+}
+
+fn run(line: &[u8], s: &[u8]) {
     let name = part(line, b'|', 0);
     if same(name, b"read") {
-        read::outcome(line);
+        read::outcome(s);
         return;
     }
     if same(name, b"truth") {
-        truth::outcome(line);
+        truth::outcome(line, s);
         return;
     }
     if same(name, b"decide") {
-        decide::outcome(line);
+        decide::outcome(line, s);
         return;
     }
     say::malformed();

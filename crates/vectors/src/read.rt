@@ -1,9 +1,5 @@
 // `read | HEX`: reading a formula. The outcome is `ACCEPTED` with the entries, an opcode each with its operand, operands' numbers or
 // binder, or a refusal.
-use crate::area::start_bytes;
-use crate::field::BROKEN;
-use crate::field::bytes;
-use crate::field::part;
 use crate::say;
 use formula::Outcome;
 use formula::Reading;
@@ -11,14 +7,8 @@ use formula::Subformula;
 use formula::Table;
 ghost use Prim.Native.Nat.{_≤_, _<_};
 
-pub(crate) fn outcome(line: &[u8]) {
-    let mut kept = io::large_buffer();
-    let n = bytes(&mut kept, part(line, b'|', 1));
-    if n == BROKEN {
-        say::malformed();
-        return;
-    }
-    told(formula::read(start_bytes(&kept, n)));
+pub(crate) fn outcome(s: &[u8]) {
+    told(formula::read(s));
 }
 
 fn told(reading: Reading) {

@@ -3,7 +3,6 @@
 // by the truth of the formula and by how many words at the end are as they were.
 use crate::area;
 use crate::field::BROKEN;
-use crate::field::bytes;
 use crate::field::has_part;
 use crate::field::is_lent;
 use crate::field::lent;
@@ -14,41 +13,36 @@ use crate::field::unbroken;
 use crate::say;
 use lasso::Truth;
 
-// What a line asks for: how many bytes its formula has, how long the stem is and how many letters there are, how many words are lent,
-// and whether they are shown afterwards. A broken line asks for more words than there are.
+// What a line asks for: how long the stem is and how many letters there are, how many words are lent, and whether they are shown
+// afterwards. A broken line asks for more words than there are.
 struct Case {
-    bytes: usize,
     stem: usize,
     letters: usize,
     room: usize,
     shown: bool,
 }
 
-pub(crate) fn outcome(line: &[u8]) {
-    let mut kept = io::large_buffer();
+pub(crate) fn outcome(line: &[u8], s: &[u8]) {
     let mut places = [0u16; 16384];
     let mut words = [9223372036854775808u64; 16384];
-    let a = asked(&mut kept, &mut places, line);
+    let a = asked(&mut places, line);
     let room = a.room;
     if 16384 < room {
         say::malformed();
         return;
     }
-    let s = area::start_bytes(&kept, a.bytes);
     let letters = area::start_letters(&places, a.letters);
     evaluated(s, letters, a, &mut words[0..room]);
 }
 
-fn asked(kept: &mut [u8], places: &mut [u16], line: &[u8]) -> Case {
+fn asked(places: &mut [u16], line: &[u8]) -> Case {
     let said = part(line, b'|', 4);
-    let bytes = bytes(kept, part(line, b'|', 1));
     let stem = number(part(line, b'|', 2));
     let letters = course(places, line);
     Case {
-        bytes: bytes,
         stem: stem,
         letters: letters,
-        room: unbroken(bytes, stem, unbroken(letters, 0, lent(said, 1, 2, letters))),
+        room: unbroken(stem, letters, lent(said, 1, 2, letters)),
         shown: is_lent(said),
     }
 }
