@@ -25,6 +25,28 @@ pub(crate) fn start_words(s: &[u64], n: usize) -> &[u64] {
     s
 }
 
+// The same, to be written.
+pub(crate) fn lent_bytes(s: &mut [u8], n: usize) -> &mut [u8] {
+    if n <= s.len() {
+        return &mut s[0..n];
+    }
+    s
+}
+
+pub(crate) fn lent_letters(s: &mut [u16], n: usize) -> &mut [u16] {
+    if n <= s.len() {
+        return &mut s[0..n];
+    }
+    s
+}
+
+pub(crate) fn lent_words(s: &mut [u64], n: usize) -> &mut [u64] {
+    if n <= s.len() {
+        return &mut s[0..n];
+    }
+    s
+}
+
 // How many bytes are zero from the start on.
 fn zeros(area: &[u8]) -> usize {
     let mut i = 0;

@@ -27,17 +27,26 @@ pub(crate) fn outcome(line: &[u8], s: &[u8]) {
     let mut workspace = room();
     let mut letters = [48879u16; 8192];
     let a = asked(line);
-    let work = a.work;
-    let course = a.course;
+    if is_beyond(a.work, a.course) {
+        say::malformed();
+        return;
+    }
+    let work = area::lent_bytes(&mut workspace, a.work);
+    let course = area::lent_letters(&mut letters, a.course);
+    let verdict = decision::decide(s, a.n, a.m, work, course);
+    noted(
+        verdict,
+        area::start_bytes(&workspace, a.work),
+        area::start_letters(&letters, a.course),
+        a.shown,
+    );
+}
+
+fn is_beyond(work: usize, course: usize) -> bool {
     if 800000 < work {
-        say::malformed();
-        return;
+        return true;
     }
-    if 8192 < course {
-        say::malformed();
-        return;
-    }
-    decided(s, a, &mut workspace[0..work], &mut letters[0..course]);
+    8192 < course
 }
 
 fn asked(line: &[u8]) -> Case {
@@ -52,11 +61,6 @@ fn asked(line: &[u8]) -> Case {
         course: lent(said, 2, 3, letters_asked(n, m)),
         shown: is_lent(said),
     }
-}
-
-fn decided(s: &[u8], a: Case, workspace: &mut [u8], letters: &mut [u16]) {
-    let verdict = decision::decide(s, a.n, a.m, workspace, letters);
-    noted(verdict, workspace, letters, a.shown);
 }
 
 fn noted(verdict: Verdict, workspace: &[u8], letters: &[u16], shown: bool) {

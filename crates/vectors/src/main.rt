@@ -1,5 +1,5 @@
 // Runs lines of vectors from standard input and writes what each comes to. A line has an operation and its inputs, parted by bars; what
-// stands behind the last of them is passed over. A kind of line is a module with a function `outcome`, and a test in `run`.
+// stands behind the last of them is passed over. A kind of line is a module with a function `outcome`, and a number in `kind`.
 mod area;
 mod decide;
 mod field;
@@ -39,22 +39,25 @@ fn told(line: &[u8]) {
         say::malformed();
         return;
     }
-    run(line, start_bytes(&kept, n));
+    let s = start_bytes(&kept, n);
+    match kind(part(line, b'|', 0)) {
+        1 => read::outcome(s),
+        2 => truth::outcome(line, s),
+        3 => decide::outcome(line, s),
+        _ => say::malformed(),
+    }
 }
 
-fn run(line: &[u8], s: &[u8]) {
-    let name = part(line, b'|', 0);
+// The number of an operation, or 0.
+fn kind(name: &[u8]) -> u8 {
     if same(name, b"read") {
-        read::outcome(s);
-        return;
+        return 1;
     }
     if same(name, b"truth") {
-        truth::outcome(line, s);
-        return;
+        return 2;
     }
     if same(name, b"decide") {
-        decide::outcome(line, s);
-        return;
+        return 3;
     }
-    say::malformed();
+    0
 }

@@ -26,13 +26,13 @@ pub(crate) fn outcome(line: &[u8], s: &[u8]) {
     let mut places = [0u16; 16384];
     let mut words = [9223372036854775808u64; 16384];
     let a = asked(&mut places, line);
-    let room = a.room;
-    if 16384 < room {
+    if 16384 < a.room {
         say::malformed();
         return;
     }
     let letters = area::start_letters(&places, a.letters);
-    evaluated(s, letters, a, &mut words[0..room]);
+    let truth = lasso::evaluate(s, letters, a.stem, area::lent_words(&mut words, a.room));
+    noted(truth, area::start_words(&words, a.room), a.letters, a.shown);
 }
 
 fn asked(places: &mut [u16], line: &[u8]) -> Case {
@@ -53,11 +53,6 @@ fn course(places: &mut [u16], line: &[u8]) -> usize {
         return letters(places, part(line, b'|', 3));
     }
     BROKEN
-}
-
-fn evaluated(s: &[u8], letters: &[u16], a: Case, words: &mut [u64]) {
-    let truth = lasso::evaluate(s, letters, a.stem, words);
-    noted(truth, words, letters.len(), a.shown);
 }
 
 fn noted(truth: Truth, words: &[u64], count: usize, shown: bool) {
