@@ -14,7 +14,8 @@ use decision::Verdict;
 ghost use mathlib.Core.Path.{_≡_};
 ghost use lib.ListN.{length};
 
-// What a line asks for: N and M, how much of the two areas is lent, and whether they are shown afterwards. A broken line asks for more bytes than there are.
+// What a line asks for: N and M, how much of the two areas is lent, and whether they are shown afterwards. A broken line asks for more
+// bytes than there are.
 struct Case {
     n: usize,
     m: usize,

@@ -1,4 +1,4 @@
--- vectors::room meets its contract. Assumes nothing.
+-- vectors::decide::room meets its contract. Assumes nothing.
 use mathlib.Core.Path.{sym}
 use Prim.Native.Nat.{ℕ}
 use lib.ListN.{length-replicate}
