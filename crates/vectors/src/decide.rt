@@ -1,16 +1,16 @@
 // `decide | HEX | N M`: the decision. The outcome is the verdict, with the course behind it in one line. What 12 and 13 ask is lent, or
 // nothing where 11 refuses. With `| lent WORK COURSE` behind it so many bytes and places are, filled with patterns, and the outcome is
 // followed by how many bytes are zero from the start on and how many of each area at its end are as they were.
-use crate::area;
-use crate::field::BROKEN;
-use crate::field::has_part;
-use crate::field::is_lent;
-use crate::field::lent;
-use crate::field::number;
-use crate::field::part;
-use crate::field::unbroken;
-use crate::say;
 use decision::Verdict;
+use lines::area;
+use lines::field::BROKEN;
+use lines::field::has_part;
+use lines::field::is_lent;
+use lines::field::lent;
+use lines::field::number;
+use lines::field::part;
+use lines::field::unbroken;
+use lines::say;
 ghost use mathlib.Core.Path.{_≡_};
 ghost use lib.ListN.{length};
 

@@ -1,18 +1,16 @@
 // Runs lines of vectors from standard input and writes what each comes to. A line has an operation and its inputs, parted by bars; what
 // stands behind the last of them is passed over. A kind of line is a module with a function `outcome`, and a number in `kind`.
-mod area;
 mod decide;
-mod field;
-mod line;
 mod read;
-mod say;
 mod truth;
 
-use area::start_bytes;
-use field::BROKEN;
-use field::bytes;
-use field::part;
-use field::same;
+use lines::area::start_bytes;
+use lines::field::BROKEN;
+use lines::field::bytes;
+use lines::field::part;
+use lines::field::same;
+use lines::line;
+use lines::say;
 
 // Nothing says that the input ends, so the loop counts its turns down, from a number that no run uses up.
 fn main() {

@@ -1,10 +1,10 @@
 // `read | HEX`: reading a formula. The outcome is `ACCEPTED` with the entries, an opcode each with its operand, operands' numbers or
 // binder, or a refusal.
-use crate::say;
 use formula::Outcome;
 use formula::Reading;
 use formula::Subformula;
 use formula::Table;
+use lines::say;
 ghost use Prim.Native.Nat.{_≤_, _<_};
 
 pub(crate) fn outcome(s: &[u8]) {

@@ -1,17 +1,17 @@
 // `truth | HEX | LEAD-IN | PLACES`: the truth of a formula on a lasso. The outcome is the word of each place in hex, or a refusal. As
 // many words are lent as there are places. With `| lent WORDS` behind it so many are, filled with a pattern, and the outcome is followed
 // by the truth of the formula and by how many words at the end are as they were.
-use crate::area;
-use crate::field::BROKEN;
-use crate::field::has_part;
-use crate::field::is_lent;
-use crate::field::lent;
-use crate::field::letters;
-use crate::field::number;
-use crate::field::part;
-use crate::field::unbroken;
-use crate::say;
 use lasso::Truth;
+use lines::area;
+use lines::field::BROKEN;
+use lines::field::has_part;
+use lines::field::is_lent;
+use lines::field::lent;
+use lines::field::letters;
+use lines::field::number;
+use lines::field::part;
+use lines::field::unbroken;
+use lines::say;
 
 // What a line asks for: how long the stem is and how many letters there are, how many words are lent, and whether they are shown
 // afterwards. A broken line asks for more words than there are.

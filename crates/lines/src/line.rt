@@ -3,14 +3,14 @@
 ghost use Prim.Native.Nat.{_≤_};
 
 // How many bytes were read last, and how many of them are left; how long the line is so far, and whether it is whole.
-pub(crate) struct Place {
+pub struct Place {
     pub count: usize,
     pub left: usize,
     pub length: usize,
     pub whole: bool,
 }
 
-pub(crate) fn begun() -> Place {
+pub fn begun() -> Place {
     Place {
         count: 0,
         left: 0,
@@ -20,7 +20,7 @@ pub(crate) fn begun() -> Place {
 }
 
 // The next line. At the input's end it has no bytes.
-pub(crate) fn next(line: &mut [u8], chunk: &mut [u8], from: Place) -> Place {
+pub fn next(line: &mut [u8], chunk: &mut [u8], from: Place) -> Place {
     let mut place = Place {
         count: from.count,
         left: from.left,
@@ -181,7 +181,7 @@ fn trimmed(line: &[u8], n: usize) -> usize
 }
 
 // The line, of n bytes. One that filled the room is too long: it is cut to a byte, and no operation has so short a name.
-pub(crate) fn whole(line: &[u8], n: usize) -> &[u8] {
+pub fn whole(line: &[u8], n: usize) -> &[u8] {
     if n < line.len() {
         let end = trimmed(line, n);
         return &line[0..end];

@@ -2,8 +2,8 @@
 use borrow.Author.Needs.{needs}
 use Prim.Native.Nat.{_≤_, _-_}
 use lib.ListN.{length}
-use Rattle.vectors.proofs.field.digits.Statement.{statement}
-use Rattle.vectors.proofs.field.digits.Tie as tie
+use Rattle.lines.proofs.field.digits.Statement.{statement}
+use Rattle.lines.proofs.field.digits.Tie as tie
 
 pub digits-spec : {M : Type 1} → statement M
 digits-spec =

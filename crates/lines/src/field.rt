@@ -5,10 +5,10 @@ ghost use Prim.Native.Nat.{_≤_};
 ghost use lib.ListN.{length};
 
 // Stands for a number that is broken: no field has one so large.
-pub(crate) const BROKEN: usize = usize::MAX;
+pub const BROKEN: usize = usize::MAX;
 
 // The last of three numbers, if none is broken.
-pub(crate) fn unbroken(a: usize, b: usize, last: usize) -> usize {
+pub fn unbroken(a: usize, b: usize, last: usize) -> usize {
     if a == BROKEN {
         return BROKEN;
     }
@@ -18,7 +18,7 @@ pub(crate) fn unbroken(a: usize, b: usize, last: usize) -> usize {
     last
 }
 
-pub(crate) fn same(a: &[u8], b: &[u8]) -> bool {
+pub fn same(a: &[u8], b: &[u8]) -> bool {
     check::same(a, b)
 }
 
@@ -48,12 +48,12 @@ fn behind(s: &[u8], mark: u8, at: usize) -> usize {
     find(s, at, mark) + 1
 }
 
-pub(crate) fn has_part(s: &[u8], mark: u8, number: usize) -> bool {
+pub fn has_part(s: &[u8], mark: u8, number: usize) -> bool {
     start(s, mark, number) <= s.len()
 }
 
 // Of a part that is not there, nothing.
-pub(crate) fn part(s: &[u8], mark: u8, number: usize) -> &[u8] {
+pub fn part(s: &[u8], mark: u8, number: usize) -> &[u8] {
     let at = start(s, mark, number);
     if s.len() < at {
         return &s[0..0];
@@ -63,12 +63,12 @@ pub(crate) fn part(s: &[u8], mark: u8, number: usize) -> &[u8] {
 }
 
 // Whether the field says how much is lent.
-pub(crate) fn is_lent(field: &[u8]) -> bool {
+pub fn is_lent(field: &[u8]) -> bool {
     same(part(field, b' ', 0), b"lent")
 }
 
 // The number of such a field in this place, the word being in place 0, and how many there are in all; or `otherwise` of another field.
-pub(crate) fn lent(field: &[u8], place: usize, words: usize, otherwise: usize) -> usize {
+pub fn lent(field: &[u8], place: usize, words: usize, otherwise: usize) -> usize {
     if !is_lent(field) {
         return otherwise;
     }
@@ -106,7 +106,7 @@ fn letter_digit(b: u8) -> usize {
 }
 
 // A number in decimal. From 2 ^ 32 on, which every operation refuses, it stays where it is.
-pub(crate) fn number(s: &[u8]) -> usize {
+pub fn number(s: &[u8]) -> usize {
     if s.len() == 0 {
         return BROKEN;
     }
@@ -134,7 +134,7 @@ fn grown(n: usize, d: usize) -> usize {
 }
 
 // Bytes in hex; a dash stands for none.
-pub(crate) fn bytes(out: &mut [u8], s: &[u8]) -> usize {
+pub fn bytes(out: &mut [u8], s: &[u8]) -> usize {
     if same(s, b"-") {
         return 0;
     }
@@ -184,7 +184,7 @@ fn pair(s: &[u8], i: usize) -> usize {
 }
 
 // Letters with a space between two, or none.
-pub(crate) fn letters(out: &mut [u16], s: &[u8]) -> usize {
+pub fn letters(out: &mut [u16], s: &[u8]) -> usize {
     let mut n = 0;
     let mut at = 0;
     while at < s.len() {

@@ -3,8 +3,8 @@ use borrow.Author.Needs.{needs}
 use Prim.Native.Nat.{_-_}
 use mathlib.Core.Path.{_≡_}
 use lib.ListN.{length}
-use Rattle.vectors.proofs.field.letters.Statement.{statement}
-use Rattle.vectors.proofs.field.letters.Tie as tie
+use Rattle.lines.proofs.field.letters.Statement.{statement}
+use Rattle.lines.proofs.field.letters.Tie as tie
 
 pub letters-spec : {M : Type 1} → statement M
 letters-spec =

@@ -1,12 +1,12 @@
--- vectors::area::kept_words is safe and ends: the index is within. Assumes nothing.
+-- vectors::area::kept_letters is safe and ends: the index is within. Assumes nothing.
 use borrow.Author.Needs.{needs}
 use Prim.Native.Nat.{_≤_}
 use lib.ListN.{length}
-use Rattle.vectors.proofs.area.kept_words.Statement.{statement}
-use Rattle.vectors.proofs.area.kept_words.Tie as tie
+use Rattle.lines.proofs.area.kept_letters.Statement.{statement}
+use Rattle.lines.proofs.area.kept_letters.Tie as tie
 
-pub kept-words-spec : {M : Type 1} → statement M
-kept-words-spec =
+pub kept-letters-spec : {M : Type 1} → statement M
+kept-letters-spec =
     tie.close
     (tie.spec
     (λ area n₀ n. n ≤ length area)

@@ -3,8 +3,8 @@ use borrow.Author.Needs.{needs}
 use Prim.Native.Nat.{_-_}
 use mathlib.Core.Path.{_≡_}
 use lib.ListN.{length}
-use Rattle.vectors.proofs.field.pairs.Statement.{statement}
-use Rattle.vectors.proofs.field.pairs.Tie as tie
+use Rattle.lines.proofs.field.pairs.Statement.{statement}
+use Rattle.lines.proofs.field.pairs.Tie as tie
 
 pub pairs-spec : {M : Type 1} → statement M
 pairs-spec =

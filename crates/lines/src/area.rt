@@ -4,21 +4,21 @@ use crate::say::number;
 use crate::say::put;
 
 // The first bytes, as many as there are.
-pub(crate) fn start_bytes(s: &[u8], n: usize) -> &[u8] {
+pub fn start_bytes(s: &[u8], n: usize) -> &[u8] {
     if n <= s.len() {
         return &s[0..n];
     }
     s
 }
 
-pub(crate) fn start_letters(s: &[u16], n: usize) -> &[u16] {
+pub fn start_letters(s: &[u16], n: usize) -> &[u16] {
     if n <= s.len() {
         return &s[0..n];
     }
     s
 }
 
-pub(crate) fn start_words(s: &[u64], n: usize) -> &[u64] {
+pub fn start_words(s: &[u64], n: usize) -> &[u64] {
     if n <= s.len() {
         return &s[0..n];
     }
@@ -26,21 +26,21 @@ pub(crate) fn start_words(s: &[u64], n: usize) -> &[u64] {
 }
 
 // The same, to be written.
-pub(crate) fn lent_bytes(s: &mut [u8], n: usize) -> &mut [u8] {
+pub fn lent_bytes(s: &mut [u8], n: usize) -> &mut [u8] {
     if n <= s.len() {
         return &mut s[0..n];
     }
     s
 }
 
-pub(crate) fn lent_letters(s: &mut [u16], n: usize) -> &mut [u16] {
+pub fn lent_letters(s: &mut [u16], n: usize) -> &mut [u16] {
     if n <= s.len() {
         return &mut s[0..n];
     }
     s
 }
 
-pub(crate) fn lent_words(s: &mut [u64], n: usize) -> &mut [u64] {
+pub fn lent_words(s: &mut [u64], n: usize) -> &mut [u64] {
     if n <= s.len() {
         return &mut s[0..n];
     }
@@ -94,19 +94,19 @@ fn kept_words(area: &[u64]) -> usize {
 }
 
 // The notes behind an outcome: how many bytes are zero from the start on, how many at the end are as they were, and how many were lent.
-pub(crate) fn note_bytes(area: &[u8]) {
+pub fn note_bytes(area: &[u8]) {
     put(b" | work: zero");
     number(b' ', zeros(area));
     put(b", kept");
     kept(kept_bytes(area), area.len());
 }
 
-pub(crate) fn note_letters(area: &[u16]) {
+pub fn note_letters(area: &[u16]) {
     put(b" | course: kept");
     kept(kept_letters(area), area.len());
 }
 
-pub(crate) fn note_words(area: &[u64]) {
+pub fn note_words(area: &[u64]) {
     put(b" | words: kept");
     kept(kept_words(area), area.len());
 }

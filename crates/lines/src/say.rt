@@ -1,36 +1,36 @@
 // What is written for an outcome, piece by piece, to standard output.
 use formula::Refusal;
 
-pub(crate) fn put(said: &[u8]) {
+pub fn put(said: &[u8]) {
     io::write_all(1, said);
 }
 
 // In decimal, behind one byte.
-pub(crate) fn number(front: u8, n: usize) {
+pub fn number(front: u8, n: usize) {
     let byte = [front];
     io::write_all(1, &byte);
     io::print_decimal(1, n as u64);
 }
 
 // In hex, behind one byte.
-pub(crate) fn hex(front: u8, n: u64, width: usize) {
+pub fn hex(front: u8, n: u64, width: usize) {
     let byte = [front];
     io::write_all(1, &byte);
     io::print_hex(1, n, width);
 }
 
 // For a line that cannot be run.
-pub(crate) fn malformed() {
+pub fn malformed() {
     put(b"MALFORMED");
 }
 
-pub(crate) fn refused(code: u8) {
+pub fn refused(code: u8) {
     put(b"REFUSED");
     number(b' ', code as usize);
 }
 
 // A refusal of reading has a place.
-pub(crate) fn unread(why: Refusal) {
+pub fn unread(why: Refusal) {
     refused(why.code);
     put(b" at");
     number(b' ', why.at);

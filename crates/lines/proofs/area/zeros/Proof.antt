@@ -2,8 +2,8 @@
 use borrow.Author.Needs.{needs}
 use Prim.Native.Nat.{_-_, _≤_}
 use lib.ListN.{length}
-use Rattle.vectors.proofs.area.zeros.Statement.{statement}
-use Rattle.vectors.proofs.area.zeros.Tie as tie
+use Rattle.lines.proofs.area.zeros.Statement.{statement}
+use Rattle.lines.proofs.area.zeros.Tie as tie
 
 pub zeros-spec : {M : Type 1} → statement M
 zeros-spec =

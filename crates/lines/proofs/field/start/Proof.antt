@@ -1,8 +1,8 @@
 -- vectors::field::start is safe and ends: the parts left fall. Assumes nothing.
 use borrow.Author.Needs.{needs}
 use Prim.Native.Nat.{_≤_}
-use Rattle.vectors.proofs.field.start.Statement.{statement}
-use Rattle.vectors.proofs.field.start.Tie as tie
+use Rattle.lines.proofs.field.start.Statement.{statement}
+use Rattle.lines.proofs.field.start.Tie as tie
 
 pub start-spec : {M : Type 1} → statement M
 start-spec =

@@ -2,8 +2,8 @@
 use borrow.Author.Needs.{needs}
 use mathlib.Core.Path.{_≡_}
 use lib.ListN.{length}
-use Rattle.vectors.proofs.line.next.Statement.{statement}
-use Rattle.vectors.proofs.line.next.Tie as tie
+use Rattle.lines.proofs.line.next.Statement.{statement}
+use Rattle.lines.proofs.line.next.Tie as tie
 
 pub next-spec : {M : Type 1} → statement M
 next-spec =
