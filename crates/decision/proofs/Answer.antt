@@ -37,11 +37,11 @@ IsMet (Verdict.satisfiable stem cycle K P letters) = Unit {0}
 IsMet (Verdict.unsatisfiable K P) = ⊥
 
 -- after a question that is answered by yes
-after : {Question : Type 0} {code : ℕ} {After : Verdict → Type 0} {o : Verdict} → Asked Question code After o → Question → After o
+pub after : {Question : Type 0} {code : ℕ} {After : Verdict → Type 0} {o : Verdict} → Asked Question code After o → Question → After o
 after (Asked.passed q a) r = a
 after (Asked.failed n) r = absurd (n r)
 
-read-of : {N M workspace buffer : ℕ} {f : Formula} {o : Verdict} → Answered N M workspace buffer (Reading.accepted f) o
+pub read-of : {N M workspace buffer : ℕ} {f : Formula} {o : Verdict} → Answered N M workspace buffer (Reading.accepted f) o
     → Decided N M workspace buffer (table f) o
 read-of (Answered.read d) = d
 
@@ -63,7 +63,7 @@ module _ (bytes : List ℕ) (f : Formula) (reads : parse bytes ≡ Reading.accep
       subst⁻¹ (λ (c : Lasso). meets c f ≡ true) (λ i. lasso (w .letters-are i) (w .stem-is i))
       (cycle-meets f (parse-guarded bytes f reads) (parse-limited bytes f reads .signals) (w .leads) (w .accepted))
 
-  no-lasso : ((v : Subset) (ss : List Transition) → AcceptingCycle (table f) v ss → ⊥) → (c : Lasso) → meets c f ≡ true → ⊥
+  pub no-lasso : ((v : Subset) (ss : List Transition) → AcceptingCycle (table f) v ss → ⊥) → (c : Lasso) → meets c f ≡ true → ⊥
   no-lasso n c h = let (v, ss, a) = meets-cycle f (parse-guarded bytes f reads) (parse-limited bytes f reads .signals) c h in n v ss a
 
   concluded-says : {o : Verdict} → Concluded (table f) o → Says bytes o

@@ -9,3 +9,4 @@ pub mod ConcludeLaws
 pub mod SettleLaws
 pub mod SearchedLaws
 pub mod Bounds
+pub mod Demands
