@@ -1,13 +1,12 @@
 -- The nodes are what MEANING 3.7 says, without search and fuel: `nodes` lists exactly the sets that transitions lead to from the root
 -- (`nodes-along`, `nodes-all`), each once (`nodes-distinct`), so that K, its length, is their number (`nodes-count`); each comes with a
 -- shortest way from the root (`nodes-near`), which has fewer than K transitions (`nodes-short`); and K is at most 1 + 2^n for n next
--- operators (`nodes-few`): every node but the root is a part of their operands. That bound is below the search's fuel, so the laws of
--- the search apply. Assumes nothing.
+-- operators (`nodes-few`, and `nodes-few-next` for those of the formula): every node but the root is a part of their operands. That
+-- bound is below the search's fuel, so the laws of the search apply. Assumes nothing.
 use mathlib.Core.Path.{_≡_, refl, sym, ap, subst, subst⁻¹, _∙_}
 use mathlib.Core.Logic.{inl, inr}
-use mathlib.Core.List.{List, [], _∷_, _++_, map, List·Memᴰ, List·Memᴰ·head, List·Memᴰ·tail, List·Memᴰ·eq-of-singleton, Memᴰ·map}
-use mathlib.Core.List.{Memᴰ·of-map, Memᴰ·cast}
-use Prim.Native.Nat.{ℕ, _+_, _^_, _≤_, _<_}
+use mathlib.Core.List.{List, [], _∷_, _++_, map, List·Memᴰ, List·Memᴰ·head, List·Memᴰ·tail, List·Memᴰ·eq-of-singleton, Memᴰ·map, Memᴰ·of-map, Memᴰ·cast}
+use Prim.Native.Nat.{ℕ, suc, _+_, _^_, _≤_, _<_}
 use native.Mathlib.Omega.{arith}
 use lib.ListN.{length, length-map, length-append}
 use Rattle.base.specs.Lists.{tail}
@@ -17,7 +16,9 @@ use Rattle.base.proofs.SearchLaws.{Visits, visits-cons, Distinct, Found, same-n
 use Rattle.base.proofs.SearchLaws.{search-few, search-short}
 use Rattle.base.proofs.SearchOrder.{Sorted, sorted-same, Within, Far, search-sorted, search-near}
 use Rattle.base.proofs.Inside.{inside-length}
-use Rattle.formula.specs.Table.{Operator, Table}
+use Rattle.formula.specs.Formula.{Formula}
+use Rattle.formula.specs.Table.{Operator, Table, table, is-next}
+use Rattle.formula.proofs.Limits.{nexts, how-many, table-nexts}
 use Rattle.tableau.specs.Saturation.{Subset, same-subset, nothing, add}
 use Rattle.tableau.specs.Transition.{Transition, transitions}
 use Rattle.tableau.specs.Nodes.{root, edges, operands, nodes}
@@ -157,3 +158,18 @@ module _ (t : Table) where
   pub others-all : {v : Subset} → Reachable t v → (v ≡ root t → ⊥) → Visits v (tail (nodes t))
   others-all {v} r n =
       elim (visits-cons (subst (Visits v) nodes-first (nodes-all r))) [ inl e ↦ absurd (n e) | inr h ↦ h ]
+
+-- one operand for each next
+pub operands-count : (t : Table) → length (operands t) ≡ how-many is-next t
+operands-count [] = refl
+operands-count (Operator.leaf l ∷ t) = operands-count t
+operands-count (Operator.variable m ∷ t) = operands-count t
+operands-count (Operator.pair o l r ∷ t) = operands-count t
+operands-count (Operator.next g ∷ t) = ap suc (operands-count t)
+operands-count (Operator.fix g l ∷ t) = operands-count t
+
+-- Theorem (MEANING 5.6): K is at most 1 + 2^n, where n is the number of next operators in the formula. It holds of every formula, so of
+-- each that reading accepts.
+pub nodes-few-next : (f : Formula) → length (nodes (table f)) ≤ 1 + 2 ^ nexts f
+nodes-few-next f =
+    subst (λ (n : ℕ). length (nodes (table f)) ≤ 1 + 2 ^ n) (operands-count (table f) ∙ table-nexts f) (nodes-few (table f))

@@ -8,20 +8,11 @@ use Rattle.formula.specs.Table.{Operator, Table as Operators, is-next, is-fix}
 use Rattle.formula.specs.declared.Table.{Table}
 use Rattle.formula.proofs.Limits.{how-many, table-nexts, table-fixpoints, parse-limited}
 use Rattle.formula.proofs.RowLaws.{Held}
-use Rattle.tableau.specs.Nodes.{operands}
 use Rattle.tableau.specs.Promise.{table-of}
 use Rattle.tableau.proofs.FormedLaws.{held-formed}
+use Rattle.tableau.proofs.NodeLaws.{operands-count}
 use Rattle.coded.specs.Marks.{leasts}
 use Rattle.traces.specs.Promise.{Limited}
-
--- one operand for each next
-operands-are : (t : Operators) → length (operands t) ≡ how-many is-next t
-operands-are [] = refl
-operands-are (Operator.leaf l ∷ t) = operands-are t
-operands-are (Operator.variable m ∷ t) = operands-are t
-operands-are (Operator.pair o l r ∷ t) = operands-are t
-operands-are (Operator.next g ∷ t) = ap suc (operands-are t)
-operands-are (Operator.fix g l ∷ t) = operands-are t
 
 -- one Bool for each fixpoint
 leasts-are : (t : Operators) → length (leasts t) ≡ how-many is-fix t
@@ -38,18 +29,13 @@ module _ {bytes : List ℕ} {t : Table} (h : Held bytes t) where
       let limits = parse-limited bytes (h .formula) (h .parsed) in
       record {
         formed = held-formed h;
-        few-nexts = omega (
-          arith,
-          operands-are (table-of (t .rows) (t .count)),
-          ap (how-many is-next) (h .operators),
-          table-nexts (h .formula),
-          limits .nexts,
-        );
-        few-fixes = omega (
-          arith,
-          leasts-are (table-of (t .rows) (t .count)),
-          ap (how-many is-fix) (h .operators),
-          table-fixpoints (h .formula),
-          limits .fixpoints,
-        );
+        few-nexts =
+            omega (
+              arith,
+              operands-count (table-of (t .rows) (t .count)),
+              ap (how-many is-next) (h .operators),
+              table-nexts (h .formula),
+              limits .nexts,
+            );
+        few-fixes = omega (arith, leasts-are (table-of (t .rows) (t .count)), ap (how-many is-fix) (h .operators), table-fixpoints (h .formula), limits .fixpoints);
       }
