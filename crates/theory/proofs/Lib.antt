@@ -12,3 +12,4 @@ pub mod Soundness
 pub mod Completeness
 pub mod CoreTheorem
 pub mod Astray
+pub mod TraceTheorem
