@@ -37,5 +37,11 @@ module _ {bytes : List ℕ} {t : Table} (h : Held bytes t) where
               table-nexts (h .formula),
               limits .nexts,
             );
-        few-fixes = omega (arith, leasts-are (table-of (t .rows) (t .count)), ap (how-many is-fix) (h .operators), table-fixpoints (h .formula), limits .fixpoints);
+        few-fixes = omega (
+          arith,
+          leasts-are (table-of (t .rows) (t .count)),
+          ap (how-many is-fix) (h .operators),
+          table-fixpoints (h .formula),
+          limits .fixpoints,
+        );
       }
