@@ -26,7 +26,7 @@ use Rattle.lasso.proofs.Fixpoint.{fixed}
 abbrev pub true-at : List Positions → (e i : ℕ) → Bool
 true-at ss e i = getD (getD ss e []) i false
 
--- "the last one's successor is the first of the loop"
+-- the position after, and of the last one the first of the cycle
 abbrev pub successor : Lasso → ℕ → ℕ
 successor c i = cond (eqb (i + 1) (span c)) (c .stem) (i + 1)
 

@@ -14,7 +14,7 @@ use Rattle.formula.specs.Formula.{Formula}
 use Rattle.formula.proofs.Closed.{Closed}
 use Rattle.lasso.specs.Lasso.{Lasso, Positions, leaf-at, joined, combine, before, holds, sets}
 
--- how many positions a lasso has: "a course of n places"
+-- how many positions a lasso has
 abbrev pub span : Lasso → ℕ
 span c = length (c .letters)
 

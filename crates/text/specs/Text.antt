@@ -55,15 +55,15 @@ numeral-by (suc most) base width n =
 abbrev pub numeral : (base width n : ℕ) → List ℕ
 numeral base width n = numeral-by (suc (n + width)) base width n
 
--- "in decimal" (document 01)
+-- A number as MEANING 6.2 has it.
 abbrev pub decimal : ℕ → List ℕ
 decimal n = numeral 10 1 n
 
--- "in hex", in lower case
+-- In base 16, letters in lower case.
 abbrev pub hex : (width n : ℕ) → List ℕ
 hex width n = numeral 16 width n
 
--- A number behind a blank; "all else in decimal".
+-- A number with a blank before it: MEANING 6.2.
 abbrev pub number-text : ℕ → List ℕ
 number-text n = (32 ∷ []) ++ decimal n
 
@@ -72,6 +72,6 @@ abbrev pub each : (ℕ → List ℕ) → List ℕ → List ℕ
 each text [] = []
 each text (x ∷ xs) = text x ++ each text xs
 
--- "four lower-case hex digits", between two texts
+-- A letter in base 16, between two texts: MEANING 6.2.
 abbrev pub letter-text : (front back : List ℕ) → ℕ → List ℕ
 letter-text front back letter = front ++ hex 4 letter ++ back

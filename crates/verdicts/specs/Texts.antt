@@ -1,4 +1,4 @@
--- The texts of verdicts and refusals: document 01, "The program". Assumes nothing.
+-- The texts of verdicts and refusals: MEANING 6.2. Assumes nothing.
 use mathlib.Core.List.{List, [], _∷_, _++_}
 use Prim.Native.Nat.{ℕ}
 use lib.ListN.{take, drop}
@@ -7,19 +7,16 @@ use Rattle.formula.specs.declared.Refusal.{Refusal}
 use Rattle.decision.specs.declared.Verdict.{Verdict}
 use Rattle.decision.specs.declared.Verdict.the-variants.{Satisfiable, Unsatisfiable, Refused, Unread}
 
--- "prints `MET` with lead-in length, loop length, K, P"
+-- The line of a verdict, without its end: that of MET, of NOT, of a refusal, and of a refusal of reading. And which of them it is.
 abbrev pub met-text : (stem cycle K P : ℕ) → List ℕ
 met-text stem cycle K P = (77 ∷ 69 ∷ 84 ∷ []) ++ number-text stem ++ number-text cycle ++ number-text K ++ number-text P
 
--- "or `NOT` with K, P"
 abbrev pub not-text : (K P : ℕ) → List ℕ
 not-text K P = (78 ∷ 79 ∷ 84 ∷ []) ++ number-text K ++ number-text P
 
--- "or `REFUSED` with the number"
 abbrev pub refused-text : ℕ → List ℕ
 refused-text code = (82 ∷ 69 ∷ 70 ∷ 85 ∷ 83 ∷ 69 ∷ 68 ∷ []) ++ number-text code
 
--- "and for 1 to 9 ` at ` and the byte place"
 abbrev pub unread-text : Refusal → List ℕ
 unread-text why = refused-text (why .code) ++ (32 ∷ 97 ∷ 116 ∷ []) ++ number-text (why .at)
 
@@ -30,8 +27,7 @@ verdict-text (Refused code) = refused-text code
 verdict-text (Unread why) = unread-text why
 
 -- The letters of the witness, which stand at the buffer's start: those of the stem behind one text, those of the cycle behind another,
--- and a third
--- behind both.
+-- and a third behind both.
 abbrev pub lasso-text : Verdict → (letters stem-front cycle-front back : List ℕ) → List ℕ
 lasso-text (Satisfiable stem cycle K P) letters stem-front cycle-front back =
     each (letter-text stem-front back) (take stem (drop 0 letters)) ++ each (letter-text cycle-front back) (take cycle (drop stem letters))
@@ -39,6 +35,6 @@ lasso-text (Unsatisfiable K P) letters stem-front cycle-front back = []
 lasso-text (Refused code) letters stem-front cycle-front back = []
 lasso-text (Unread why) letters stem-front cycle-front back = []
 
--- "After MET comes one line a place, `S` for lead-in, `L` for loop, and four lower-case hex digits."
+-- All that the program prints: the line of the verdict, and one for each letter of a witness.
 abbrev pub program-text : Verdict → List ℕ → List ℕ
 program-text v letters = verdict-text v ++ (10 ∷ []) ++ lasso-text v letters (83 ∷ 32 ∷ []) (76 ∷ 32 ∷ []) (10 ∷ [])

@@ -1,4 +1,4 @@
-// The texts of verdicts and refusals (document 01, "The program"), put into a buffer from a place on. Each function answers the place
+// The texts of verdicts and refusals (MEANING 6.2), put into a buffer from a place on. Each function answers the place
 // behind what it wrote.
 use decision::Verdict;
 use formula::Refusal;

@@ -1,6 +1,4 @@
--- "It reads standard input, of which the first 97 bytes settle the outcome" (document 01, "The program"): the decision of these is the
--- decision of
--- all of them, as their reading is. Assumes nothing.
+-- MEANING 6.1: the decision of the first 97 bytes is the decision of all of them, as their reading is. Assumes nothing.
 use mathlib.Core.Path.{_≡_, ap}
 use mathlib.Core.List.{List}
 use Prim.Native.Nat.{ℕ}

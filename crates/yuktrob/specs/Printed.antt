@@ -1,4 +1,4 @@
--- What the program prints for a formula: document 01, "The program". Assumes nothing.
+-- What the program prints for a formula: MEANING 6. Assumes nothing.
 use mathlib.Core.Path.{_≡_}
 use mathlib.Core.List.{List}
 use Prim.Native.Nat.{ℕ, _≤_}
@@ -7,8 +7,8 @@ use Rattle.text.specs.Text.{buffer}
 use Rattle.verdicts.specs.Texts.{program-text}
 use Rattle.verdicts.specs.Shown.{Shown}
 
--- The formula's bytes, the buffer before and after, and the end of what was written. It "uses N = 256 and M = 300"; in a buffer
--- of 4,096 bytes the text of every verdict stands whole.
+-- The formula's bytes, the buffer before and after, and the end of what was written. The capacities are those of MEANING
+-- 6.1; in a buffer of 4,096 bytes the text of every verdict stands whole.
 pub record Printed (bytes out out′ : List ℕ) (end : ℕ) : Type 0 where
   pub shown : Shown program-text bytes 256 300 59648 556 (buffer out 0) (buffer out′ end)
   pub whole : 4096 ≤ length out → take end out′ ≡ program-text (shown .answer) (shown .witness′)

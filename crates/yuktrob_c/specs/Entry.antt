@@ -31,7 +31,7 @@ argument-of (Operator.fix g b) = 0
 abbrev pub packed : Operator → (end : ℕ) → ℕ
 packed o end = command-of o + 256 * (argument-of o + 256 * end)
 
--- "every operation that reads a rule passes it on"; an entry that is not there is 0, which is no command
+-- A refusal of reading as it is; an entry that is not there is 0, which is no command.
 abbrev pub entry-number : Reading Entries → (e : ℕ) → ℕ
 entry-number (Reading.refused code place) e = number code place
 entry-number (Reading.accepted x) e =

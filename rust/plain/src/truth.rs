@@ -10,7 +10,7 @@ use crate::rounds::Rounds;
 pub enum Truth {
     Unread(Unreadable),
     Refused(u8),
-    /// The truth of entry 0 at place 0, and the word of each place.
+    /// Whether the rule itself is true at the first place, and the word of each place.
     Told(bool, Vec<u64>),
 }
 

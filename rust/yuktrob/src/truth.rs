@@ -16,7 +16,7 @@ pub const fn words_len(places: usize) -> usize {
 }
 
 /// Truth of a rule on a course: the truth at the first place. The places after the first `lead_len` repeat for ever. Afterwards word i has
-/// bit e exactly if entry e is true at place i, and words past the course are as they were. Refused (1 to 9, 16 to 18), no word is written.
+/// bit e where entry e is true at place i, and words past the course are as they were. Refused (1 to 9, 16 to 18), no word is written.
 ///
 /// ```
 /// let eventually = [0x09, 0x06, 0x03, 0x00, 0x08, 0x05, 0x00];
