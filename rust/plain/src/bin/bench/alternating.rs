@@ -22,7 +22,9 @@ const HALVES: Kind = ("half 0000, one 0002, half 0001, a loop 0000", halves);
 const TURNS: Kind = ("a loop of 0001 and 0002 by turns, the middle place 0000", |n| (turns(n), 0));
 const MIXED: Kind = ("random places of three signals, the later half a loop", |n| (Random::new(n as u64).places(n), n / 2));
 
-const KINDS: [Kind; 9] = [GAP, BLAZE, SPARK, FADING, ENDING, STARTING, HALVES, TURNS, MIXED];
+const MOTLEY: Kind = ("ten values for four places each, the later five a loop, behind a lead-in of 0000", motley);
+
+const KINDS: [Kind; 10] = [GAP, BLAZE, SPARK, FADING, ENDING, STARTING, HALVES, TURNS, MIXED, MOTLEY];
 
 fn with_middle(n: usize, place: u16, middle: u16) -> Vec<u16> {
     (0..n).map(|i| if i == n / 2 { middle } else { place }).collect()
@@ -41,12 +43,18 @@ fn halves(n: usize) -> Course {
     ([vec![0; m], vec![2], vec![1; n - 2 - m], vec![0]].concat(), n - 1)
 }
 
+fn motley(n: usize) -> Course {
+    let values = [0x8879, 0x6346, 0xd5e7, 0xf9f7, 0xa2a6, 0xcedd, 0x5b6b, 0xb6ea, 0x5c95, 0x6508];
+    let last: Vec<u16> = values.into_iter().flat_map(|v| [v; 4]).collect();
+    ([vec![0; n - 40], last].concat(), n - 20)
+}
+
 const CASE_J: &str = "0A 09 06 07 03 00 08 05 01 08 05 00";
 const CASE_L: &str = "09 0A 06 07 03 00 08 05 01 08 05 00";
 
-/// Rules and courses that take many rounds: some made for it, three of the slowest that `bench search` found, the one with most rounds that
+/// Rules and courses that take many rounds: some made for it, three of the slowest that `bench search` found, the two with most rounds that
 /// changing rules step by step led to, and two whose fixpoints are all of one kind but cross.
-const TABLE: [(&str, &str, Kind); 11] = [
+const TABLE: [(&str, &str, Kind); 12] = [
     ("seven fixpoints", "0A 08 09 09 07 05 02 09 07 03 01 06 06 08 09 08 06 05 04 07 03 01 05 02 05 03 09 08 09 08 07 05 02 06 06 05 01 05 03 05 03", GAP),
     ("three fixpoints", "09 0A 09 06 03 01 06 08 05 02 06 07 03 00 08 05 01 07 03 02 08 05 00", HALVES),
     ("case J", CASE_J, FADING),
@@ -56,6 +64,7 @@ const TABLE: [(&str, &str, Kind); 11] = [
     ("six, found", "0A 09 06 07 08 05 00 04 01 0A 09 07 07 04 02 08 05 03 0A 06 08 05 00 07 08 09 03 02 08 05 03", SPARK),
     ("six, found", "0A 09 0A 08 06 08 06 06 05 01 06 03 00 07 05 01 05 02 08 09 0A 06 09 05 04 08 05 00 08 05 01", ENDING),
     ("seven, climbed to", "0A 08 0A 0A 0A 0A 08 09 07 06 06 04 07 08 02 06 03 06 01 06 09 08 08 06 05 01 07 04 09 05 05 07 07 06 05 03 07 04 05 06 06 06 08 07 05 05 01 05 01 02 05 02 06 06 05 03 01 04 06 04 08", GAP),
+    ("seven, climbed to", "0A 08 0A 0A 06 07 07 06 02 04 05 08 04 08 06 06 04 08 03 07 03 07 06 04 08 07 04 09 0A 0A 0A 08 09 08 08 08 08 08 06 07 08 08 07 08 06 05 05 07 03 08 06 05 04 05 03 03 08 05 06 05 00", MOTLEY),
     ("six least", "09 09 09 09 09 06 09 08 07 05 03 05 04 04 00", ENDING),
     ("four least", "09 09 09 06 09 08 07 07 06 03 00 05 02 05 02 05 01 03 01", BLAZE),
 ];
