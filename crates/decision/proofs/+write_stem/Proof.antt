@@ -31,14 +31,12 @@ write-stem-calls t = (came-from-reads.Asked, came-from-reads.Learnt, write-stem-
 
 write-stem-returns : (t : ℕ) → write-stem-lts.Need-returns (write-stem-calls t) (write-stem-at t) write-stem.Post
 write-stem-returns t c =
-    let before = c .before .before .before in
-    let u = before in
+    let u = c .before .before .before in
     stemmed-root (table-of (u .args .rows .now) (u .args .count)) (u .args .number .0) (u .args .letters .now) (c .if1 .taken)
 
 write-stem-came-from-requires : (t : ℕ) → write-stem-lts.Need-came-from-requires (write-stem-calls t) (write-stem-at t) write-stem.Post
 write-stem-came-from-requires t c κs =
-    let before = c .before .before .before in
-    let u = before in
+    let u = c .before .before .before in
     (u .pre .1 .0, (omega (arith, c .if1 .left), u .pre .1 .1 .0))
 
 write-stem-enum-told : (t : ℕ) → write-stem-lts.Need-enum-told (write-stem-calls t) (write-stem-at t) write-stem.Post
@@ -57,8 +55,7 @@ nearer t c =
 
 write-stem-write-stem-requires : (t : ℕ) → write-stem-lts.Need-write-stem-requires (write-stem-calls t) (write-stem-at t) write-stem.Post
 write-stem-write-stem-requires t c κs =
-    let before = c .before .before .before .before .before .before .before .before in
-    let u = before in
+    let u = c .before .before .before .before .before .before .before .before in
     let n = nearer t (c .before .before) in
     (omega (arith, u .pre .0, n .before), (u .pre .1 .0, (omega (arith, n .before, u .pre .1 .1 .0), u .pre .1 .1 .1)))
 
@@ -72,9 +69,8 @@ ending : (t : ℕ) (c : write-stem-lts.After-write-stem (write-stem-calls t) (wr
     (b .before2 .given .0 .1 .0) (c .write-stem .result)
     (u .args .letters .now) (c .write-stem .last .1 .1 .1 .1 .0)
 ending t c =
-    let before = c .before .before .before .before .before .before .before .before .before in
     let before2 = c .before .before .before in
-    let u = before in
+    let u = c .before .before .before .before .before .before .before .before .before in
     record { nearer = nearer t (before2); inside = u .pre .1 .1 .0; room = u .pre .1 .1 .1; stemmed = c .write-stem .ensures }
 
 write-stem-mul-letters : (t : ℕ) → write-stem-lts.Need-mul-letters (write-stem-calls t) (write-stem-at t) write-stem.Post
@@ -92,9 +88,8 @@ write-stem-add-result t c =
 
 write-stem-returns-2 : (t : ℕ) → write-stem-lts.Need-returns-2 (write-stem-calls t) (write-stem-at t) write-stem.Post
 write-stem-returns-2 t c =
-    let before = c .before .before .before .before .before .before in
     let came-from = c .before .before .came-from in
-    let u = before in
+    let u = c .before .before .before .before .before .before in
     absurd (came-some (table-of (u .args .rows .now) (u .args .count)) (u .args .number .0) (c .enum-told .given .1)
     (came-from .ensures))
 

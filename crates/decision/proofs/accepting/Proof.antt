@@ -34,9 +34,8 @@ is-accepting-requires c κs =
 
 returns : tie.Need-returns Inv-loop μ-loop
 returns c =
-    let before = c .before .before .before .before .before in
     let loop = c .before .before .before .loop in
-    let u = before in
+    let u = c .before .before .before .before .before in
     let l = loop in
     first-found (test (u .args .area .now) (u .args .shelf) (u .args .mask)) (u .args .count) (l .p) (omega arith) (l .inv .0)
     (sym (c .before .is-accepting .ensures) ∙ c .if1 .taken)
@@ -49,9 +48,8 @@ loop-less c = search needs
 
 loop-again : tie.Need-loop-again Inv-loop μ-loop
 loop-again c =
-    let before = c .before .before .before .before .before in
     let loop = c .before .before .before .loop in
-    let u = before in
+    let u = c .before .before .before .before .before in
     let l = loop in (
       first-next (test (u .args .area .now) (u .args .shelf) (u .args .mask)) (l .p) (l .inv .0)
           (sym (c .before .is-accepting .ensures) ∙ c .if1 .left),
@@ -60,8 +58,7 @@ loop-again c =
 
 returns-2 : tie.Need-returns-2 Inv-loop μ-loop
 returns-2 c =
-    let before = c .before .before .before in
-    let u = before in
+    let u = c .before .before .before in
     let l = c .before .loop in
     first-none (test (u .args .area .now) (u .args .shelf) (u .args .mask)) (u .args .count) (l .p) (l .inv .1) (omega arith)
     (l .inv .0)

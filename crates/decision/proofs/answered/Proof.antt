@@ -16,10 +16,9 @@ accepting-requires c κs = search needs
 
 witnessed-requires : tie.Need-witnessed-requires
 witnessed-requires c κs =
-    let before = c .before .before .before .before .before .before in
     let least-mask = c .before .before .before .least-mask in
     let accepting = c .before .before .accepting in
-    let u = before in (
+    let u = c .before .before .before .before .before .before in (
       u .pre .0,
       (
         (
@@ -40,9 +39,8 @@ returns c = search needs
 
 returns-2 : tie.Need-returns-2
 returns-2 c =
-    let before = c .before .before .before .before .before in
     let least-mask = c .before .before .least-mask in
-    let u = before in
+    let u = c .before .before .before .before .before in
     none-answers (u .pre .0) (u .args .letters .now) (omega (arith, c .if1 .left))
     (first-same (λ i. accepts-same (table-of (u .args .rows .now) (u .args .count)) (u .args .shelf .n)
     (bit (least-mask .result)) (record-of (u .args .shelf) (u .args .area .now) i) (u .pre .0 .operands-are)

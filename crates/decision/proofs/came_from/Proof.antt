@@ -36,12 +36,11 @@ enum-told c = search needs
 
 returns : tie.Need-returns Inv-loop μ-loop
 returns c =
-    let before = c .before .before .before .before .before .before .before .before in
     let node = c .before .before .before .before .before .before .node in
     let node2 = c .before .before .before .node2 in
     let to-set = c .before .before .to-set in
     let loop = c .before .before .before .before .before .loop in
-    let s = before in
+    let s = c .before .before .before .before .before .before .before .before in
     comes-found (s .pre .0) (s .args .number .0) (node .result) (s .pre .1 .1) (node .ensures) (c .enum-told .given .0 .0)
     (c .enum-told .given .0 .1 .0) refl (omega arith) (node2 .ensures) (c .enum-told .given .1) (to-set .ensures) (loop .inv)
 
@@ -56,20 +55,18 @@ loop-less c = search needs
 
 loop-again : tie.Need-loop-again Inv-loop μ-loop
 loop-again c =
-    let before = c .before .before .before .before .before .before .before .before in
     let node = c .before .before .before .before .before .before .node in
     let node2 = c .before .before .before .node2 in
     let to-set = c .before .before .to-set in
     let loop = c .before .before .before .before .before .loop in
-    let s = before in
+    let s = c .before .before .before .before .before .before .before .before in
     comes-next (s .pre .0) (s .args .number .0) (node .result) (s .pre .1 .1) (node .ensures) (omega arith) (node2 .ensures)
     (c .enum-told2 .given .1) (to-set .ensures) (loop .inv)
 
 returns-2 : tie.Need-returns-2 Inv-loop μ-loop
 returns-2 c =
-    let before = c .before .before .before .before in
     let node = c .before .before .node in
-    let s = before in
+    let s = c .before .before .before .before in
     comes-end (s .pre .0) (s .args .number .0) (node .result) (s .pre .1 .1) (node .ensures) (c .before .loop .i) (s .pre .1 .0)
     (omega arith) (c .before .loop .inv)
 

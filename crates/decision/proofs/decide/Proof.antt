@@ -17,17 +17,15 @@ enum-told c = search needs
 
 lent-requires : tie.Need-lent-requires
 lent-requires c κs =
-    let before = c .before .before .before .before .before .before .before .before .before in
     let read = c .before .before .before .before .before .read in
     let enum-told = c .before .before .enum-told in
-    let u = before in
+    let u = c .before .before .before .before .before .before .before .before .before in
     held-decoded (reading-held (u .args .s .now) (read .result) (read .ensures .0) (enum-told .given .1))
 
 returns : tie.Need-returns
 returns c =
-    let before = c .before .before .before .before .before .before .before .before in
     let read = c .before .before .before .before .read in
-    let u = before in
+    let u = c .before .before .before .before .before .before .before .before in
     unread-decided (u .args .s .now) (u .args .n) (u .args .m) (u .args .workspace .now) (u .args .letters .now)
     (c .before .outcome .given .0 .0)
     (reading-refused (u .args .s .now) (read .result) (c .before .outcome .given .0 .0) (read .ensures .0)
@@ -41,11 +39,10 @@ same-length-2 c = search needs
 
 returns-2 : tie.Need-returns-2
 returns-2 c =
-    let before = c .before .before .before .before .before .before .before .before .before .before .before .before .before .before in
     let read = c .before .before .before .before .before .before .before .before .before .before .read in
     let enum-told = c .before .before .before .before .before .before .before .enum-told in
     let lent = c .before .before .before .before .lent in
-    let u = before in
+    let u = c .before .before .before .before .before .before .before .before .before .before .before .before .before .before in
     held-decided (u .args .s .now) (u .args .n) (u .args .m) (u .args .workspace .now) (u .args .letters .now)
     (reading-held (u .args .s .now) (read .result) (read .ensures .0) (enum-told .given .1)) (lent .ensures)
 

@@ -23,8 +23,7 @@ loop-holds c =
 
 add-n : tie.Need-add-n Inv-loop μ-loop
 add-n c =
-    let before = c .before .before .before in
-    let u = before in
+    let u = c .before .before .before in
     record {
       fits = omega (
         arith,
@@ -39,30 +38,26 @@ sub-ends-of c = search needs
 
 ends-of-requires : tie.Need-ends-of-requires Inv-loop μ-loop
 ends-of-requires c κs =
-    let before = c .before .before .before in
-    let u = before in
+    let u = c .before .before .before in
     (u .pre .0, omega (arith, c .before .loop .inv .low, u .pre .1 .0))
 
 loop-less : tie.Need-loop-less Inv-loop μ-loop
 loop-less c =
-    let before = c .before .before .before .before in
     let loop = c .before .before .loop in
-    let u = before in
+    let u = c .before .before .before .before in
     counted-less (record-of (u .args .shelf) (u .args .area .now)) (u .pre .1 .1) (loop .inv) (omega arith)
     (c .ends-of .ensures .parent)
 
 loop-again : tie.Need-loop-again Inv-loop μ-loop
 loop-again c =
-    let before = c .before .before .before .before in
     let loop = c .before .before .loop in
-    let u = before in
+    let u = c .before .before .before .before in
     counted-next (record-of (u .args .shelf) (u .args .area .now)) (u .pre .1 .1) (loop .inv) (omega arith)
     (c .ends-of .ensures .parent)
 
 returns : tie.Need-returns Inv-loop μ-loop
 returns c =
-    let before = c .before .before .before in
-    let u = before in
+    let u = c .before .before .before in
     counted-end (record-of (u .args .shelf) (u .args .area .now)) (u .pre .1 .1) (c .before .loop .inv) (omega arith)
 
 pub length-of-spec : {M : Type 1} → statement M

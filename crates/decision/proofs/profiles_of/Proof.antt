@@ -19,17 +19,15 @@ same-length c = search needs
 
 returns : tie.Need-returns
 returns c =
-    let before = c .before .before .before .before .before .before .before in
     let singles = c .before .before .before .before .singles in
-    let u = before in
+    let u = c .before .before .before .before .before .before .before in
     λ fuel h. profiles-full (table-of (u .args .rows .now) (u .args .count))
     (nodes-in (u .args .count) (u .args .area .now) (u .args .nodes)) (singles .ensures) (c .if1 .taken) fuel
 
 profiles-requires : tie.Need-profiles-requires
 profiles-requires c κs =
-    let before = c .before .before .before .before .before .before .before .before in
     let singles = c .before .before .before .before .before .singles in
-    let s = before in
+    let s = c .before .before .before .before .before .before .before .before in
     let g = singles .ensures in
     let room = c .before .if1 .left in (
       subst⁻¹ (Lent (s .args .shelf)) (g .elsewhere .same-length) (s .pre .lent),
@@ -48,11 +46,10 @@ same-length-2 c = search needs
 
 returns-2 : tie.Need-returns-2
 returns-2 c =
-    let before = c .before .before .before .before .before .before .before .before .before .before .before in
     let singles = c .before .before .before .before .before .before .before .before .singles in
     let if1 = c .before .before .before .before .if1 in
     let profiles = c .before .before .profiles in
-    let u = before in
+    let u = c .before .before .before .before .before .before .before .before .before .before .before in
     profiles-all (table-of (u .args .rows .now) (u .args .count))
     (nodes-in (u .args .count) (u .args .area .now) (u .args .nodes)) (singles .ensures) (omega (arith, if1 .left))
     (u .pre .nexts ∙ u .pre .ranks .nexts-are) (profiles .ensures)

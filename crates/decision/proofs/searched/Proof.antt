@@ -17,9 +17,8 @@ same-length c = search needs
 
 returns : tie.Need-returns
 returns c =
-    let before = c .before .before .before .before .before .before .before in
     let nodes = c .before .before .before .nodes in
-    let u = before in
+    let u = c .before .before .before .before .before .before .before in
     nodes-14 (u .pre .0) (u .pre .1) (nodes .ensures) (c .if1 .taken) (u .args .letters .now)
 
 ranked-requires : tie.Need-ranked-requires
@@ -35,9 +34,8 @@ behind : (c : tie.After-ranked) → let u = c .before .before .before .before .b
     (c .before .before .before .before .nodes .last .1 .1 .0) (c .before .before .before .before .nodes .result) (c .ranked .result)
     (record { base = 8 * u .args .node-capacity; capacity = u .args .profile-capacity; n = c .ranked .result .nexts })
 behind c =
-    let before = c .before .before .before .before .before .before .before .before in
     let nodes = c .before .before .before .before .nodes in
-    let u = before in
+    let u = c .before .before .before .before .before .before .before .before in
     record {
       decoded = u .pre .0;
       lends = u .pre .1;

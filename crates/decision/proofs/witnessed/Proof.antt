@@ -13,15 +13,13 @@ length-of-requires c κs =
 
 ends-of-requires : tie.Need-ends-of-requires
 ends-of-requires c κs =
-    let before = c .before .before .before in
-    let u = before in
+    let u = c .before .before .before in
     (u .pre .0 .lent, omega (arith, u .pre .0 .few, u .pre .1 .0 .0))
 
 write-stem-requires : tie.Need-write-stem-requires
 write-stem-requires c κs =
-    let before = c .before .before .before .before .before .before in
     let ends-of = c .before .before .ends-of in
-    let u = before in (
+    let u = c .before .before .before .before .before .before in (
       u .pre .0 .standing,
       (
         omega (arith, ends-of .ensures .first, first-node (u .pre .0) (u .args .p) (u .pre .1 .0 .0)),
@@ -32,11 +30,10 @@ write-stem-requires c κs =
 
 write-cycle-requires : tie.Need-write-cycle-requires
 write-cycle-requires c κs =
-    let before = c .before .before .before .before .before .before .before .before .before .before in
     let length-of = c .before .before .before .before .before .before .before .length-of in
     let ends-of = c .before .before .before .before .before .before .ends-of in
     let write-stem = c .before .before .before .write-stem in
-    let u = before in
+    let u = c .before .before .before .before .before .before .before .before .before .before in
     let n = length-of .ensures in (
       u .pre .0 .lent,
       (
@@ -58,12 +55,11 @@ same-length c = search needs
 
 returns : tie.Need-returns
 returns c =
-    let before = c .before .before .before .before .before .before .before .before .before .before .before .before .before in
     let ends-of = c .before .before .before .before .before .before .before .before .before .ends-of in
     let write-stem = c .before .before .before .before .before .before .write-stem in
     let length-of = c .before .before .before .before .before .before .before .before .before .before .length-of in
     let write-cycle = c .before .before .write-cycle in
-    let u = before in
+    let u = c .before .before .before .before .before .before .before .before .before .before .before .before .before in
     witness-answers (u .pre .0) (u .args .p) (u .pre .1 .0 .0) (u .pre .1 .0 .1) (u .pre .1 .1) (ends-of .ensures .first)
     (write-stem .ensures) (length-of .ensures) (write-cycle .ensures)
 

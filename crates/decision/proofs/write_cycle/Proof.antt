@@ -28,8 +28,7 @@ turn : (c : tie.In-loop Inv-loop μ-loop) → let u = c .before .before .before 
     Turn (record-of (u .args .shelf) (u .args .area .now)) (u .args .from) (u .args .p) (l .at) (l .left) (u .args .letters .now)
     (l .letters)
 turn c =
-    let before = c .before .before .before .before in
-    let u = before in
+    let u = c .before .before .before .before in
     record {
       linked = u .pre .1 .0 .1;
       room = omega (arith, u .pre .1 .1 .0, u .pre .1 .1 .1);
@@ -46,8 +45,7 @@ sub-ends-of c = search needs
 
 ends-of-requires : tie.Need-ends-of-requires Inv-loop μ-loop
 ends-of-requires c κs =
-    let before = c .before .before .before .before in
-    let u = before in
+    let u = c .before .before .before .before in
     (u .pre .0, omega (arith, c .before .loop .inv .low, u .pre .1 .0 .0))
 
 narrow-requires : tie.Need-narrow-requires Inv-loop μ-loop

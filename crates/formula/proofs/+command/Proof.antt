@@ -85,18 +85,16 @@ command-inside-requires t c κs =
 
 command-command-requires : (t : ℕ) → command-lts.Need-command-requires (command-calls t) (command-at t) command.Post
 command-command-requires t c κs =
-    let before = c .before .before .before .before .before .before .before in
     let before2 = c .before .before .before in
-    let u = before in
+    let u = c .before .before .before .before .before .before .before in
     let o = command-opened t (before2) in
     (omega (arith, u .pre .0, o .inside, o .at), ready-inside o (u .pre .1) (c .inside .ensures))
 
 command-complete-requires : (t : ℕ) → command-lts.Need-complete-requires (command-calls t) (command-at t) command.Post
 command-complete-requires t c κs =
-    let before = c .before .before .before .before .before .before .before .before .before in
     let before2 = c .before .before .before .before .before in
     let inside = c .before .before .inside in
-    let u = before in (
+    let u = c .before .before .before .before .before .before .before .before .before in (
       may-enter (command-opened t (before2)) (u .pre .1) .0,
       omega arith,
       λ q. command-further (u .args .s .now) (u .args .rows)
@@ -118,8 +116,7 @@ command-enum-told-2 t c = c .match2 .keys2
 
 command-command-requires-2 : (t : ℕ) → command-lts.Need-command-requires-2 (command-calls t) (command-at t) command.Post
 command-command-requires-2 t c κs =
-    let before = c .before .before .before .before .before in
-    let one = before in
+    let one = c .before .before .before .before .before in
     let u = one .before .before .before .before .before .before .before .before in
     let o = command-opened t (one .before .before .before .before) in
     let f = command-further (u .args .s .now) (u .args .rows) (one .before .inside .result) (one .command .ensures)
@@ -128,8 +125,7 @@ command-command-requires-2 t c κs =
 
 command-complete-requires-2 : (t : ℕ) → command-lts.Need-complete-requires-2 (command-calls t) (command-at t) command.Post
 command-complete-requires-2 t c κs =
-    let before = c .before .before .before .before .before .before in
-    let one = before in
+    let one = c .before .before .before .before .before .before in
     let u = one .before .before .before .before .before .before .before .before in
     let inner = one .before .inside .result in (
       may-enter (command-opened t (one .before .before .before .before)) (u .pre .1) .0,
@@ -141,28 +137,25 @@ command-complete-requires-2 t c κs =
 
 command-returns-3 : (t : ℕ) → command-lts.Need-returns-3 (command-calls t) (command-at t) command.Post
 command-returns-3 t c =
-    let before = c .before .before .before .before .before .before in
     let opened = c .before .before .opened in
     let opcode-at = c .before .before .before .before .opcode-at in
-    let u = before in
+    let u = c .before .before .before .before .before .before in
     stopped-command (u .args .s .now) (u .args .h) (u .args .rows) (u .args .scope) (opened .given .1) (opcode-at .ensures)
     (c .stopped .ensures)
 
 command-returns-4 : (t : ℕ) → command-lts.Need-returns-4 (command-calls t) (command-at t) command.Post
 command-returns-4 t c =
-    let before = c .before .before .before .before .before in
     let if2 = c .before .before .before .before .if2 in
-    let one = before in
+    let one = c .before .before .before .before .before in
     refused-command (one .before .before .before .before .before .before .before .before .args .scope)
     (command-opened t (one .before .before .before .before)) (one .before .inside .ensures) (one .command .ensures) _
     (one .before .before .if1 .left) (if2 .left) (c .enum-told .given .1)
 
 command-returns-5 : (t : ℕ) → command-lts.Need-returns-5 (command-calls t) (command-at t) command.Post
 command-returns-5 t c =
-    let before = c .before .before .before .before .before .before .before in
     let if2 = c .before .before .before .before .before .before .if2 in
     let enum-told2 = c .before .before .enum-told2 in
-    let one = before in
+    let one = c .before .before .before .before .before .before .before in
     pair-command (one .before .before .before .before .before .before .before .before .args .scope)
     (command-opened t (one .before .before .before .before)) (one .before .inside .ensures) (one .command .ensures)
     (one .before .before .if1 .left) (if2 .left) (enum-told2 .given .1) (c .before .command2 .ensures) (c .complete2 .ensures)

@@ -28,10 +28,9 @@ add-t12 c = search needs
 
 returns : tie.Need-returns
 returns c =
-    let before = c .before .before .before .before .before .before .before in
     let one-if = c .before .before .before .before .before .one-if in
     let one-if2 = c .before .before .before .one-if2 in
-    let u = before in
+    let u = c .before .before .before .before .before .before .before in
     counted-head (u .args .op) (u .args .h) _ _ _ (u .pre) (one-if .ensures .0) (one-if2 .ensures .0) (c .before .one-if3 .ensures .0)
 
 pub counted-spec : {M : Type 1} → statement M

@@ -13,8 +13,7 @@ finished-requires c κs = search needs
 
 returns : tie.Need-returns
 returns c =
-    let before = c .before .before .before in
-    let u = before in
+    let u = c .before .before .before in
     λ self. constant-leaf self (enclosing (u .args .scope)) (u .pre .0) (c .before .if1 .taken) (u .pre .2 .limits) (u .pre .3)
     (c .finished .ensures)
 
@@ -37,18 +36,16 @@ finished-requires-2 c κs =
 
 returns-2 : tie.Need-returns-2
 returns-2 c =
-    let before = c .before .before .before .before .before .before .before in
     let argument = c .before .before .argument in
     let argument-at = c .before .before .before .before .argument-at in
-    λ self. let u = before in refused-leaf (u .args .op) (argument .given .1) (argument-at .ensures (u .args .me .0) self)
+    λ self. let u = c .before .before .before .before .before .before .before in refused-leaf (u .args .op) (argument .given .1) (argument-at .ensures (u .args .me .0) self)
     (c .stopped .ensures)
 
 returns-3 : tie.Need-returns-3
 returns-3 c =
-    let before = c .before .before .before .before .before .before .before in
     let argument2 = c .before .before .argument2 in
     let argument-at = c .before .before .before .before .argument-at in
-    λ self. let u = before in argued-leaf (u .pre .3)
+    λ self. let u = c .before .before .before .before .before .before .before in argued-leaf (u .pre .3)
     (byte-of (argument2 .given .1) (argument-at .ensures (u .args .me .0) self)) (c .finished2 .ensures)
 
 pub leaf-spec : {M : Type 1} → statement M

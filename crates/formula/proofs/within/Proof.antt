@@ -13,25 +13,22 @@ returns c =
 
 returns-2 : tie.Need-returns-2
 returns-2 c =
-    let before = c .before .before .before in
     let if1 = c .before .before .if1 in
-    λ s. let u = before in sym
+    λ s. let u = c .before .before .before in sym
     (limit (u .args .op) (u .pre) (point s (u .args .h)) ∙ simp (ne-eqb _ _ (if1 .left), eq-eqb _ _ (c .before .if2 .taken)))
 
 returns-3 : tie.Need-returns-3
 returns-3 c =
-    let before = c .before .before .before .before in
     let if1 = c .before .before .before .if1 in
     let if2 = c .before .before .if2 in
-    λ s. let u = before in sym
+    λ s. let u = c .before .before .before .before in sym
     (limit (u .args .op) (u .pre) (point s (u .args .h)) ∙ simp
     (ne-eqb _ _ (if1 .left), ne-eqb _ _ (if2 .left), lt-ltb _ _ (c .before .if3 .taken)))
 
 returns-4 : tie.Need-returns-4
 returns-4 c =
-    let before = c .before .before .before in
     let if1 = c .before .before .if1 in
-    λ s. let u = before in sym
+    λ s. let u = c .before .before .before in sym
     (limit (u .args .op) (u .pre) (point s (u .args .h)) ∙ simp
     (ne-eqb _ _ (if1 .left), ne-eqb _ _ (c .before .if2 .left), le-ltb _ _ (c .if3 .left)))
 

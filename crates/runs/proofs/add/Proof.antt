@@ -21,8 +21,7 @@ same-length c = search needs
 
 returns : tie.Need-returns
 returns c =
-    let before = c .before .before .before .before .before in
-    let s = before in
+    let s = c .before .before .before .before .before in
     grown-known (s .args .shelf) (s .args .count) (s .args .area .now) (s .pre .1 .0) (s .pre .1 .1 .1)
     (found-of (s .args .ends) (triples-in (s .args .shelf .n) (s .args .t .now))) (sym (c .if1 .taken) ∙ c .before .known .ensures)
 
@@ -31,11 +30,10 @@ write-requires c κs = search needs
 
 chain-requires : tie.Need-chain-requires
 chain-requires c κs =
-    let before = c .before .before .before .before .before .before .before .before .before .before .before .before in
     let write = c .before .before .before .write in
     let bucket = c .before .before .before .before .before .before .before .before .before .before .bucket in
     let if2 = c .before .before .before .before .before .if2 in
-    let s = before in
+    let s = c .before .before .before .before .before .before .before .before .before .before .before .before in
     let w = write .ensures in
     let k = bucket .ensures in (
       subst⁻¹ (Lent (s .args .shelf)) (w .1 .same-length) (s .pre .0),
@@ -79,10 +77,9 @@ same-length-3 c = search needs
 
 returns-3 : tie.Need-returns-3
 returns-3 c =
-    let before = c .before .before .before .before .before .before .before in
     let if1 = c .before .before .if1 in
     let known = c .before .before .before .known in
-    let s = before in
+    let s = c .before .before .before .before .before .before .before in
     grown-full (s .args .shelf) (s .args .count) (s .args .area .now) (s .pre .1 .0) (s .pre .1 .1 .1)
     (found-of (s .args .ends) (triples-in (s .args .shelf .n) (s .args .t .now))) (sym (if1 .left) ∙ known .ensures) (c .if2 .left)
 

@@ -37,9 +37,8 @@ loop-less c = search needs
 
 loop-again : tie.Need-loop-again Inv-loop μ-loop
 loop-again c =
-    let before = c .before .before .before .before .before in
     let loop = c .before .before .loop in
-    let s = before in
+    let s = c .before .before .before .before .before in
     let l = loop in (
       omega arith,
       (
@@ -54,9 +53,8 @@ rem-result c = search needs
 
 returns : tie.Need-returns Inv-loop μ-loop
 returns c =
-    let before = c .before .before .before .before .before in
     let loop = c .before .before .loop in
-    let s = before in
+    let s = c .before .before .before .before .before in
     let l = loop in (
       bucket-is (s .args .shelf) (s .args .ends) (s .args .t .now) (l .h)
           (l .inv .1 .1 ∙ ap (λ (k : ℕ). foldl mixed-row (s .args .ends .first .0 + s .args .ends .last .0 * 65536)

@@ -18,10 +18,9 @@ get2-requires-4 c κs = search needs
 
 returns : tie.Need-returns
 returns c =
-    let before = c .before .before .before .before .before in
     let get2 = c .before .before .before .get2 in
     let get22 = c .before .before .get22 in
-    let s = before in
+    let s = c .before .before .before .before .before in
     ends-are (s .args .shelf) (s .args .area .now) (s .args .p) (get2 .ensures) (get22 .ensures) (c .before .get23 .ensures)
     (c .get24 .ensures)
 

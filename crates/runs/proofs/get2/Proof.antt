@@ -26,9 +26,8 @@ wide2-requires c κs = search needs
 
 returns : tie.Need-returns
 returns c =
-    let before = c .before .before .before .before .before in
     let place = c .before .before .before .place in
-    let s = before in
+    let s = c .before .before .before .before .before in
     (c .wide2 .ensures .0 ∙ ap (λ (at : ℕ). two (s .args .area .now) (at + s .args .offset)) (place .ensures), c .wide2 .ensures .1)
 
 pub get2-spec : {M : Type 1} → statement M

@@ -11,15 +11,13 @@ get2-requires c κs = search needs
 
 returns : tie.Need-returns
 returns c =
-    let before = c .before .before .before in
-    let s = before in
+    let s = c .before .before .before in
     head-none (s .pre .1 .1) (s .args .k) (c .before .get2 .ensures .0) (λ l m e. omega arith)
 
 returns-2 : tie.Need-returns-2
 returns-2 c =
-    let before = c .before .before .before .before in
     let get2 = c .before .before .get2 in
-    let s = before in
+    let s = c .before .before .before .before in
     head-none (s .pre .1 .1) (s .args .k) (get2 .ensures .0) (λ l m e. omega arith)
 
 sub-get2 : tie.Need-sub-get2
@@ -30,16 +28,14 @@ get2-requires-2 c κs = search needs
 
 returns-3 : tie.Need-returns-3
 returns-3 c =
-    let before = c .before .before .before .before .before .before in
     let get2 = c .before .before .before .before .get2 in
-    let s = before in
+    let s = c .before .before .before .before .before .before in
     head-none (s .pre .1 .1) (s .args .k) (get2 .ensures .0) (λ l m e. c .if3 .taken (c .before .get22 .ensures .0 ∙ e))
 
 returns-4 : tie.Need-returns-4
 returns-4 c =
-    let before = c .before .before .before .before .before .before in
     let get2 = c .before .before .before .before .get2 in
-    let s = before in
+    let s = c .before .before .before .before .before .before in
     head-is (s .pre .1 .1) (s .args .k) (get2 .ensures .0) (omega arith) (omega arith)
     (sym (c .before .get22 .ensures .0) ∙ c .if3 .left)
 

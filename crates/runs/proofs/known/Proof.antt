@@ -31,9 +31,8 @@ same-profile-requires c κs = search needs
 
 returns : tie.Need-returns Inv-loop μ-loop
 returns c =
-    let before = c .before .before .before .before .before .before in
     let loop = c .before .before .before .loop in
-    let s = before in
+    let s = c .before .before .before .before .before .before in
     sym (seen-found (s .args .shelf) (s .args .area .now) _ (s .args .count) (loop .v - 1) (omega arith)
     (sym (c .before .same-profile .ensures) ∙ c .if1 .taken))
 

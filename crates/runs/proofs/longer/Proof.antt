@@ -16,10 +16,9 @@ same-length c = search needs
 
 returns : tie.Need-returns
 returns c =
-    let before = c .before .before .before .before .before .before .before .before in
     let ends-of = c .before .before .before .before .before .ends-of in
     let ends-of2 = c .before .before .before .ends-of2 in
-    let s = before in
+    let s = c .before .before .before .before .before .before .before .before in
     longer-none (s .args .shelf) (s .args .count) (s .args .area .now) (s .args .p) (s .args .q) (ends-of .ensures)
     (ends-of2 .ensures) (s .pre .1 .0 .1 .1) (s .pre .1 .1) (c .if1 .taken)
 
@@ -31,14 +30,12 @@ copied-requires c κs = search needs
 
 place-requires-2 : tie.Need-place-requires-2
 place-requires-2 c κs =
-    let before = c .before .before .before .before .before .before .before .before .before .before .before .before in
-    let s = before in
+    let s = c .before .before .before .before .before .before .before .before .before .before .before .before in
     (s .pre .0 .low, omega (arith, s .pre .0 .few, s .pre .1 .0 .1 .0, s .pre .1 .0 .1 .1))
 
 copied-requires-2 : tie.Need-copied-requires-2
 copied-requires-2 c κs =
-    let before = c .before .before .before .before .before .before .before .before .before .before .before .before .before in
-    let s = before in
+    let s = c .before .before .before .before .before .before .before .before .before .before .before .before .before in
     omega (arith, c .place2 .ensures, s .pre .0 .enough, s .pre .1 .0 .1 .0, s .pre .1 .0 .1 .1)
 
 joined-requires : tie.Need-joined-requires

@@ -40,9 +40,8 @@ loop-less c = search needs
 
 loop-again : tie.Need-loop-again Inv-loop μ-loop
 loop-again c =
-    let before = c .before .before .before .before in
     let loop = c .before .before .before .loop in
-    let s = before in
+    let s = c .before .before .before .before in
     let l = loop in (
       omega arith,
       (

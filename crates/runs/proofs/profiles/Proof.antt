@@ -26,9 +26,8 @@ returns c = λ fuel h. pending-stop (c .before .before .before .loop .inv .1 .1)
 
 extend-requires : tie.Need-extend-requires Inv-loop μ-loop
 extend-requires c κs =
-    let before = c .before .before .before .before .before .before in
     let loop = c .before .before .before .before .loop in
-    let s = before in
+    let s = c .before .before .before .before .before .before in
     let k = loop .inv .1 .1 .grown in (
       subst (Lent (s .args .shelf)) (sym (k .elsewhere .same-length)) (s .pre .0),
       (

@@ -13,18 +13,16 @@ ends-of-requires c κs = search needs
 
 returns : tie.Need-returns
 returns c =
-    let before = c .before .before .before .before .before in
     let ends-of = c .before .before .before .ends-of in
-    let s = before in
+    let s = c .before .before .before .before .before in
     other-first (record-of (s .args .shelf) (s .args .area .now) (s .args .p) .at) (s .args .ends) _
     (λ e. c .if1 .taken (ends-of .ensures .first ∙ e))
 
 returns-2 : tie.Need-returns-2
 returns-2 c =
-    let before = c .before .before .before .before .before .before .before .before in
     let ends-of = c .before .before .before .before .before .before .ends-of in
     let if1 = c .before .before .before .if1 in
-    let s = before in
+    let s = c .before .before .before .before .before .before .before .before in
     let r = ends-of .ensures in
     other-last (record-of (s .args .shelf) (s .args .area .now) (s .args .p) .at) (s .args .ends) _ (sym (r .first) ∙ if1 .left)
     (λ e. c .if2 .taken (r .last ∙ e))
@@ -37,11 +35,10 @@ same-triples-requires c κs = search needs
 
 returns-3 : tie.Need-returns-3
 returns-3 c =
-    let before = c .before .before .before .before .before .before .before .before .before .before in
     let ends-of = c .before .before .before .before .before .before .before .before .ends-of in
     let if1 = c .before .before .before .before .before .if1 in
     let if2 = c .before .before .if2 in
-    let s = before in
+    let s = c .before .before .before .before .before .before .before .before .before .before in
     let r = ends-of .ensures in
     c .same-triples .ensures ∙ ap (λ (y : Triples). same-triples y (triples-in (s .args .shelf .n) (s .args .t .now)))
     (carried-at (s .args .shelf) (s .args .area .now) (s .args .p) (c .before .place .ensures)) ∙ same-ends

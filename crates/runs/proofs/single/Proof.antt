@@ -28,11 +28,10 @@ triples-of-requires c κs = search needs
 
 add-requires : tie.Need-add-requires
 add-requires c κs =
-    let before = c .before .before .before .before .before .before .before .before .before .before .before in
     let to = c .before .before .before .before .before .before .before .to in
     let find = c .before .before .before .before .find in
     let by-word = c .before .before .before .before .before .before .before .before .before .by-word in
-    let s = before in
+    let s = c .before .before .before .before .before .before .before .before .before .before .before in
     let k = s .pre .0 in (
       k .lent,
       (
@@ -53,9 +52,8 @@ add-requires c κs =
 
 returns : tie.Need-returns
 returns c =
-    let before = c .before .before .before .before in
     let by-word = c .before .before .by-word in
-    let s = before in
+    let s = c .before .before .before .before in
     single-nowhere (s .pre .0) (s .args .number .0) (s .args .choice-word) (s .pre .1 .0 .0) (s .pre .1 .1 .0 .0)
     (s .pre .1 .0 .1) (s .pre .1 .1 .1) (step-nowhere (by-word .ensures) (c .enum-told .given .1))
 
@@ -64,14 +62,13 @@ same-length c = search needs
 
 returns-2 : tie.Need-returns-2
 returns-2 c =
-    let before = c .before .before .before .before .before .before .before .before .before .before .before .before .before .before in
     let triples-of = c .before .before .before .before .before .triples-of in
     let to = c .before .before .before .before .before .before .before .before .before .before .to in
     let by-word = c .before .before .before .before .before .before .before .before .before .before .before .before .by-word in
     let find = c .before .before .before .before .before .before .before .find in
     let choice-of = c .before .before .before .before .before .before .choice-of in
     let add = c .before .before .add in
-    let s = before in
+    let s = c .before .before .before .before .before .before .before .before .before .before .before .before .before .before in
     let t = triples-of in
     single-some (s .pre .0) (s .args .number .0) (s .args .choice-word) (s .pre .1 .0 .0) (s .pre .1 .1 .0 .0)
     (subst (Stepped-by _ _ _ _) (to .given .1) (by-word .ensures)) (t .result) refl (find .ensures) (choice-of .ensures)

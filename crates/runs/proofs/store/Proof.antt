@@ -35,9 +35,8 @@ loop-less c = search needs
 
 loop-again : tie.Need-loop-again Inv-loop μ-loop
 loop-again c =
-    let before = c .before .before .before in
     let loop = c .before .before .loop in
-    let s = before in
+    let s = c .before .before .before in
     let l = loop in (
       omega arith,
       (

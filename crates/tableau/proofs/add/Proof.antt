@@ -15,8 +15,7 @@ same-length c = search needs
 
 returns : tie.Need-returns
 returns c =
-    let before = c .before .before .before .before .before in
-    let s = before in
+    let s = c .before .before .before .before .before in
     (add-known _ _ (s .pre .0 .fits) (sym (c .before .is-known .ensures) ∙ c .if1 .taken), ((omega arith, omega arith), λ h. s .pre .1))
 
 mul-put8 : tie.Need-mul-put8
@@ -48,12 +47,11 @@ same-length-2 c = search needs
 
 returns-2 : tie.Need-returns-2
 returns-2 c =
-    let before = c .before .before .before .before .before .before .before .before .before .before .before in
     let is-known = c .before .before .before .before .before .before .before .is-known in
     let if1 = c .before .before .before .before .before .before .if1 in
     let if2 = c .before .before .before .before .before .if2 in
     let put8 = c .before .before .before .put8 in
-    let s = before in (
+    let s = c .before .before .before .before .before .before .before .before .before .before .before in (
       add-new _ _ (s .pre .0 .fits) (sym (is-known .ensures) ∙ if1 .left) (if2 .taken) (put8 .ensures),
       (
         (omega arith, omega arith),

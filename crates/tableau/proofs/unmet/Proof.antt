@@ -83,8 +83,7 @@ loop-less c = search needs
 
 loop-again : tie.Need-loop-again Inv-loop μ-loop
 loop-again c =
-    let before = c .before .before .before in
-    let s = before in
+    let s = c .before .before .before in
     let f = s .before .before .before .before in
     ⊎-elim (λ w. (
       omega arith,

@@ -46,11 +46,10 @@ without-requires c κs = search needs
 
 loop-less : tie.Need-loop-less Inv-loop μ-loop
 loop-less c =
-    let before = c .before .before .before .before .before .before .before in
     let loop = c .before .before .before .before .before .loop in
     let lowest = c .before .before .before .lowest in
     let moved = c .before .before .moved in
-    let k = before in
+    let k = c .before .before .before .before .before .before .before in
     widest-less (k .before .before .args .rows .now) (k .before .choice-of .result) (k .choice-of2 .result) (loop .inv)
     (lowest .ensures) (c .without .ensures) (moved .ensures) (c .before .moved2 .ensures) (2 ^ 64) (omega arith)
 

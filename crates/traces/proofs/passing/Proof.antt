@@ -45,9 +45,8 @@ mark-requires c κs =
 
 returns-2 : tie.Need-returns-2
 returns-2 c =
-    let before = c .before .before .before in
     let if2 = c .before .before .if2 in
-    let at-wide = before in
+    let at-wide = c .before .before .before in
     let start = at-wide .before .before .before .before .before in
     pass-5 _ _ (start .args .s .0) _ _ (start .args .marks .now) (c .mark .last .0) (at-wide .wide .result)
     (at-wide .wide .ensures) (if2 .taken) (c .mark .ensures)
@@ -57,8 +56,7 @@ has-requires c κs = search needs
 
 mark-requires-2 : tie.Need-mark-requires-2
 mark-requires-2 c κs =
-    let before = c .before .before .before in
-    let at-or = before in
+    let at-or = c .before .before .before in
     let at-wide = at-or .before .before in
     let start = at-wide .before .before .before .before .before in
     argument-in (start .pre .0 .row) (c .mark-arg2 .given .0 .1) (omega (arith, at-or .if3 .taken))
@@ -66,9 +64,8 @@ mark-requires-2 c κs =
 
 returns-3 : tie.Need-returns-3
 returns-3 c =
-    let before = c .before .before .before in
     let if4 = c .before .before .if4 in
-    let at-has = before in
+    let at-has = c .before .before .before in
     let at-wide = at-has .before .before .before in
     let start = at-wide .before .before .before .before .before in
     pass-6 _ _ (start .args .s .0) _ _ (start .args .marks .now) (c .mark2 .last .0) (at-wide .wide .result)
@@ -77,16 +74,14 @@ returns-3 c =
 
 mark-requires-3 : tie.Need-mark-requires-3
 mark-requires-3 c κs =
-    let before = c .before .before .before in
-    let at-or = before in
+    let at-or = c .before .before .before in
     let start = at-or .before .before .before .before .before .before .before in
     first-in (start .pre .0 .row) (c .mark-arg3 .given .0 .1) (omega (arith, at-or .if3 .taken))
 
 returns-4 : tie.Need-returns-4
 returns-4 c =
-    let before = c .before .before .before in
     let if4 = c .before .before .if4 in
-    let at-has = before in
+    let at-has = c .before .before .before in
     let at-wide = at-has .before .before .before in
     let start = at-wide .before .before .before .before .before in
     pass-6 _ _ (start .args .s .0) _ _ (start .args .marks .now) (c .mark3 .last .0) (at-wide .wide .result)
@@ -101,8 +96,7 @@ mark-requires-4 c κs =
 
 mark-requires-5 : tie.Need-mark-requires-5
 mark-requires-5 c κs =
-    let before = c .before .before .before in
-    let at-and = before in
+    let at-and = c .before .before .before in
     let at-wide = at-and .before .before .before in
     let start = at-wide .before .before .before .before .before in
     argument-in (start .pre .0 .row) (c .mark-arg5 .given .0 .1) (omega (arith, at-and .if5 .taken))
@@ -119,10 +113,9 @@ returns-5 c =
 
 returns-6 : tie.Need-returns-6
 returns-6 c =
-    let before = c .before .before .before .before .before .before .before .before .before in
     let if2 = c .before .before .before .if2 in
     let if3 = c .before .before .if3 in
-    let start = before in
+    let start = c .before .before .before .before .before .before .before .before .before in
     pass-none _ _ (start .args .s .0) _ _ (start .args .marks .now) (start .args .marks .now) (start .pre .0 .row .some)
     (c .if6 .taken) (if2 .left) (if3 .left) (c .before .if5 .left) (λ n l. refl)
 
@@ -143,8 +136,7 @@ minima-requires c κs = search needs
 
 mark-requires-6 : tie.Need-mark-requires-6
 mark-requires-6 c κs =
-    let before = c .before .before .before .before .before in
-    let at-fix = before in
+    let at-fix = c .before .before .before .before .before in
     let start = at-fix .before .before .before .before .before .before .before .before .before in
     first-in (start .pre .0 .row) (c .mark-arg6 .given .0 .1) (omega (arith, at-fix .if6 .left))
 

@@ -17,8 +17,7 @@ enum-known-outcome c = search needs
 
 number-requires : tie.Need-number-requires
 number-requires c κs =
-    let before = c .before .before .before .before in
-    let at-read = before in
+    let at-read = c .before .before .before .before in
     early-fits (reading-early _ (at-read .read .result) (at-read .read .ensures .0) _ (c .before .outcome .given .1))
 
 enum-told : tie.Need-enum-told
@@ -26,15 +25,13 @@ enum-told c = search needs
 
 entry-requires : tie.Need-entry-requires
 entry-requires c κs =
-    let before = c .before .before .before in
-    let at-read = before in
+    let at-read = c .before .before .before in
     accepted-commands _ (at-read .read .result) (at-read .read .ensures .0) (c .enum-told .given .1)
 
 returns : tie.Need-returns
 returns c =
-    let before = c .before .before .before .before .before in
     let outcome = c .before .before .outcome in
-    let at-read = before in
+    let at-read = c .before .before .before .before .before in
     let at-start = at-read .before .before in
     let e = at-start .args .e in
     c .number .ensures ∙ sym

@@ -17,8 +17,7 @@ enum-known-outcome c = search needs
 
 number-requires : tie.Need-number-requires
 number-requires c κs =
-    let before = c .before .before .before .before in
-    let at-read = before in
+    let at-read = c .before .before .before .before in
     early-fits (reading-early _ (at-read .read .result) (at-read .read .ensures .0) _ (c .before .outcome .given .1))
 
 enum-told : tie.Need-enum-told
@@ -26,8 +25,7 @@ enum-told c = search needs
 
 number-requires-2 : tie.Need-number-requires-2
 number-requires-2 c κs =
-    let before = c .before .before .before in
-    let at-read = before in
+    let at-read = c .before .before .before in
     let x = at-read .read .result in
     few-fits (accepted-commands _ x (at-read .read .ensures .0) (c .enum-told .given .1) .few)
   where
@@ -36,9 +34,8 @@ number-requires-2 c κs =
 
 returns : tie.Need-returns
 returns c =
-    let before = c .before .before .before .before .before in
     let outcome = c .before .before .outcome in
-    let at-read = before in
+    let at-read = c .before .before .before .before .before in
     let at-start = at-read .before .before in
     c .number .ensures ∙ sym
     (ap reading-number (reading-refused (at-start .args .rule .now) (at-read .read .result) (at-read .read .ensures .0) _

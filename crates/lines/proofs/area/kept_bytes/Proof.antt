@@ -1,4 +1,4 @@
--- vectors::area::kept_bytes is safe and ends: the index is within. Assumes nothing.
+-- `lines::area::kept_bytes` is safe and ends: the index is within. Assumes nothing.
 use borrow.Author.Needs.{needs}
 use Prim.Native.Nat.{_≤_}
 use lib.ListN.{length}

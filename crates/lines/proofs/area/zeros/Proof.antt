@@ -1,4 +1,4 @@
--- vectors::area::zeros is safe and ends: the index is within. Assumes nothing.
+-- `lines::area::zeros` is safe and ends: the index is within. Assumes nothing.
 use borrow.Author.Needs.{needs}
 use Prim.Native.Nat.{_-_, _≤_}
 use lib.ListN.{length}

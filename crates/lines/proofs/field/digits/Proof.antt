@@ -1,4 +1,4 @@
--- vectors::field::digits is safe and ends: the index is within. Assumes nothing.
+-- `lines::field::digits` is safe and ends: the index is within. Assumes nothing.
 use borrow.Author.Needs.{needs}
 use Prim.Native.Nat.{_≤_, _-_}
 use lib.ListN.{length}

@@ -1,4 +1,4 @@
--- vectors::field::pairs is safe and ends: the buffer keeps its length. Assumes nothing.
+-- `lines::field::pairs` is safe and ends: the buffer keeps its length. Assumes nothing.
 use borrow.Author.Needs.{needs}
 use Prim.Native.Nat.{_-_}
 use mathlib.Core.Path.{_≡_}

@@ -1,4 +1,4 @@
--- vectors::field::start is safe and ends: the parts left fall. Assumes nothing.
+-- `lines::field::start` is safe and ends: the parts left fall. Assumes nothing.
 use borrow.Author.Needs.{needs}
 use Prim.Native.Nat.{_≤_}
 use Rattle.lines.proofs.field.start.Statement.{statement}

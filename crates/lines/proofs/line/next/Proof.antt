@@ -1,4 +1,4 @@
--- vectors::line::next is safe and ends: the turns left fall, and the buffers keep their lengths. Assumes nothing.
+-- `lines::line::next` is safe and ends: the turns left fall, and the buffers keep their lengths. Assumes nothing.
 use borrow.Author.Needs.{needs}
 use mathlib.Core.Path.{_≡_}
 use lib.ListN.{length}
