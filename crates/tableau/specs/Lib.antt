@@ -4,3 +4,4 @@ pub mod Nodes
 pub mod Run
 pub mod Promise
 pub mod Area
+pub mod Origins
