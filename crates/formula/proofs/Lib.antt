@@ -11,7 +11,9 @@ pub mod Closed
 pub mod Guarded
 pub mod WellFormed
 pub mod RowLaws
+pub mod FitLaws
 pub mod CodeOpcodes
+pub mod AccessLaws
 pub mod CodeScope
 pub mod CodeRows
 pub mod CodeQuestions

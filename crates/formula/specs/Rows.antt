@@ -22,9 +22,13 @@ operator-of (Opcode.pair o) a e = Operator.pair o (e + 1) a
 operator-of Opcode.next a e = Operator.next (e + 1)
 operator-of (Opcode.fix g) a e = Operator.fix g (e + 1)
 
+-- the byte of its opcode: byte e of the rows
+abbrev pub opcode-at : List ℕ → ℕ → ℕ
+opcode-at rows e = getD rows e 0
+
 -- the operator of subformula e: byte e of the rows is its opcode, byte 48 + e its argument
 abbrev pub operator-at : List ℕ → ℕ → Operator
-operator-at rows e = operator-of (opcode (getD rows e 0)) (getD rows (48 + e) 0) e
+operator-at rows e = operator-of (opcode (opcode-at rows e)) (getD rows (48 + e) 0) e
 
 -- the number after the last subformula inside e: byte 96 + e
 abbrev pub end-at : List ℕ → ℕ → ℕ

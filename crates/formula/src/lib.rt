@@ -4,10 +4,12 @@ ghost use mathlib.Core.List.{List};
 ghost use Prim.Native.Nat.{ℕ, _+_, _≤_, _<_};
 ghost use lib.ListN.{length};
 ghost use Rattle.formula.specs.Reading.{opcode, reading, within as allowed};
-ghost use Rattle.formula.specs.Rows.{reading-of};
+ghost use Rattle.formula.specs.Table.{is-or, is-next, is-fix};
+ghost use Rattle.formula.specs.Rows.{operator-of, opcode-at, operator-at, end-at, reading-of};
+ghost use Rattle.formula.specs.Access.{decoded, Placed};
 ghost use Rattle.formula.specs.Holds.{Holds, no-table};
 ghost use Rattle.formula.specs.Promise.{point, behind, Limits, Room, Counted, Opening, Ready, Inside};
-ghost use Rattle.formula.specs.Promise.{Placed, Finished, Argues, Leaves, Completed, Command, Answered};
+ghost use Rattle.formula.specs.Promise.{Placed as Row-placed, Finished, Argues, Leaves, Completed, Command, Answered};
 
 // The number of a subformula (document 01: an entry), kept apart from positions on a lasso.
 pub struct Subformula(pub usize);
@@ -17,6 +19,26 @@ pub struct Subformula(pub usize);
 pub struct Table {
     pub count: usize,
     pub rows: [u8; 144],
+}
+
+// What a subformula is: its operator with the numbers of its operands, a signal's number, or the number of a variable's binder.
+pub enum Operator {
+    Constant(bool),
+    Signal {
+        present: bool,
+        signal: u8,
+    },
+    Variable(Subformula),
+    Pair {
+        either: bool,
+        left: Subformula,
+        right: Subformula,
+    },
+    Next(Subformula),
+    Fixpoint {
+        greatest: bool,
+        body: Subformula,
+    },
 }
 
 // Why reading stopped: the refusal's code, 1 to 9, and the byte's place.
@@ -187,7 +209,7 @@ fn inside(scope: Scope, me: Subformula, op: u8) -> Scope
 // The rows with subformula me, whose subformulas end before end.
 fn written(rows: [u8; 144], me: Subformula, op: u8, argument: u8, end: usize) -> [u8; 144]
     requires { ⌜ (me .0 < 48) × (end ≤ 48) ⌝ }
-    ensures { λ r. ⌜ Placed rows (me .0) op argument end r ⌝ }
+    ensures { λ r. ⌜ Row-placed rows (me .0) op argument end r ⌝ }
 {
     let e = me.0;
     let mut r = rows;
@@ -354,4 +376,97 @@ pub fn read(s: &[u8]) -> Reading
     ensures { λ r. ⌜ Holds (r .outcome) (r .table) ⌝ }
 {
     read_from(new(s))
+}
+
+fn opcode_of(rows: &[u8; 144], s: Subformula) -> u8
+    requires { ⌜ s .0 < 48 ⌝ }
+    ensures { λ r. ⌜ r ≡ opcode-at (now (rows .entry)) (s .0) ⌝ }
+{
+    let e = s.0;
+    rows[e]
+}
+
+// The number after the last subformula inside s.
+pub fn end(rows: &[u8; 144], s: Subformula) -> usize
+    requires { ⌜ s .0 < 48 ⌝ }
+    ensures { λ r. ⌜ r ≡ end-at (now (rows .entry)) (s .0) ⌝ }
+{
+    let e = s.0;
+    base::wide(rows[96 + e])
+}
+
+// Whether s is an or.
+pub fn is_or(rows: &[u8; 144], s: Subformula) -> bool
+    requires { ⌜ s .0 < 48 ⌝ }
+    ensures { λ r. ⌜ r ≡ is-or (operator-at (now (rows .entry)) (s .0)) ⌝ }
+{
+    opcode_of(rows, s) == 6
+}
+
+// Whether it is a next.
+pub fn is_next(rows: &[u8; 144], s: Subformula) -> bool
+    requires { ⌜ s .0 < 48 ⌝ }
+    ensures { λ r. ⌜ r ≡ is-next (operator-at (now (rows .entry)) (s .0)) ⌝ }
+{
+    opcode_of(rows, s) == 8
+}
+
+// Whether it is a fixpoint.
+pub fn is_fixpoint(rows: &[u8; 144], s: Subformula) -> bool
+    requires { ⌜ s .0 < 48 ⌝ }
+    ensures { λ r. ⌜ r ≡ is-fix (operator-at (now (rows .entry)) (s .0)) ⌝ }
+{
+    let op = opcode_of(rows, s);
+    (op == 9) | (op == 10)
+}
+
+// The operator by its opcode and its argument. A byte that is no opcode stands for a variable that is its own binder, which no table has.
+fn operator_by(op: u8, argument: u8, s: Subformula) -> Operator
+    requires { ⌜ s .0 < 48 ⌝ }
+    ensures { λ r. ⌜ operator-of (opcode op) argument (s .0) ≡ decoded r ⌝ }
+{
+    let first = Subformula(s.0 + 1);
+    let second = Subformula(base::wide(argument));
+    match op {
+        1 => Operator::Constant(true),
+        2 => Operator::Constant(false),
+        3 => Operator::Signal {
+            present: true,
+            signal: argument,
+        },
+        4 => Operator::Signal {
+            present: false,
+            signal: argument,
+        },
+        5 => Operator::Variable(second),
+        6 => Operator::Pair {
+            either: true,
+            left: first,
+            right: second,
+        },
+        7 => Operator::Pair {
+            either: false,
+            left: first,
+            right: second,
+        },
+        8 => Operator::Next(first),
+        9 => Operator::Fixpoint {
+            greatest: false,
+            body: first,
+        },
+        10 => Operator::Fixpoint {
+            greatest: true,
+            body: first,
+        },
+        _ => Operator::Variable(s),
+    }
+}
+
+// The operator of subformula s.
+pub fn operator_at(rows: &[u8; 144], s: Subformula) -> Operator
+    requires { ⌜ Placed (now rows) (s .0) ⌝ }
+    ensures { λ r. ⌜ operator-at (now (rows .entry)) (s .0) ≡ decoded r ⌝ }
+{
+    let e = s.0;
+    operator_by(rows[e], rows[48 + e], s)
 }
