@@ -1,4 +1,5 @@
 pub mod BitLaws
+pub mod BytesLaws
 pub mod BoolLaws
 pub mod ListLaws
 pub mod WordLaws

@@ -1,4 +1,5 @@
 pub mod Lists
 pub mod Bits
+pub mod Bytes
 pub mod Search
 pub mod Sets

@@ -1,9 +1,11 @@
 // Numbers and bits of words, shared by the layers above.
 ghost use mathlib.Core.Path.{_≡_};
 ghost use mathlib.Core.Bool.{cond};
-ghost use Prim.Native.Nat.{ℕ, _%_, _≤_, _<_, _^_};
+ghost use Prim.Native.Nat.{ℕ, _+_, _%_, _≤_, _<_, _^_};
+ghost use lib.ListN.{length};
 ghost use lib.Dec.{eqb};
 ghost use Rattle.base.specs.Bits.{bit, Lowest, Without};
+ghost use Rattle.base.specs.Bytes.{number-at, with-number};
 
 // A byte as a number that can be an index.
 pub fn wide(x: u8) -> usize
@@ -69,4 +71,39 @@ pub fn without(word: u64, e: usize) -> u64
     ensures { λ r. ⌜ Without word e r ⌝ }
 {
     word ^ power(e)
+}
+
+fn wide64(x: u8) -> u64
+    ensures { λ r. ⌜ (r ≡ x) × (r < 256) ⌝ }
+{
+    x as u64
+}
+
+// The number in `width` bytes from an index on, the lowest byte first.
+pub fn number_at(area: &[u8], at: usize, width: usize) -> u64
+    requires { ⌜ width ≤ 8 ⌝ }
+    requires { ⌜ at + width ≤ length (now area) ⌝ }
+    ensures { λ r. ⌜ (r ≡ number-at width (now (area .entry)) at) × (r < 256 ^ width) ⌝ }
+{
+    let mut x = 0u64;
+    let mut i = width;
+    while 0 < i {
+        i -= 1;
+        x = x * 256 + wide64(area[at + i]);
+    }
+    x
+}
+
+// Writes the `width` lowest bytes of a number from an index on, the lowest first.
+pub fn put_number(area: &mut [u8], at: usize, width: usize, x: u64)
+    requires { ⌜ at + width ≤ length (now area) ⌝ }
+    ensures { λ _. ⌜ now (area .exit) ≡ with-number width (now (area .entry)) at x ⌝ }
+{
+    let mut left = x;
+    let mut i = 0;
+    while i < width {
+        area[at + i] = (left % 256) as u8;
+        left = left / 256;
+        i += 1;
+    }
 }
