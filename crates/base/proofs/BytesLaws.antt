@@ -6,8 +6,8 @@ use mathlib.Core.List.{List, [], _∷_, _++_, append-nil, append-assoc}
 use Prim.Native.Nat.{ℕ, zero, suc, _+_, _-_, _*_, _/_, _%_, _^_, _≤_, _<_}
 use native.Mathlib.Nat.{add-zero, pow-le-pow-right, zero-lt-suc}
 use native.Mathlib.Omega.{arith}
-use lib.ListN.{length, getD, set, take, drop, length-append, length-set, length-take, take-append-drop}
-use lib.Seq.{getD-append-add, set-at, drop-cons}
+use lib.ListN.{length, getD, set, take, drop, length-append, length-set, length-take, take-append-drop, List·getD-append}
+use lib.Seq.{getD-append-add, getD-take, getD-drop, set-at, drop-cons}
 use Rattle.base.specs.Bytes.{number-at, bytes-of, with-number}
 
 pub length-bytes : (w x : ℕ) → length (bytes-of w x) ≡ w
@@ -37,17 +37,35 @@ number-behind w l r i =
 taken : (n : ℕ) (a : List ℕ) → n ≤ length a → length (take n a) ≡ n
 taken n a h = omega (arith, length-take n a)
 
-number-bytes : (w x : ℕ) (r : List ℕ) → x < 256 ^ w → number-at w (bytes-of w x ++ r) 0 ≡ x
+pub number-bytes : (w x : ℕ) (r : List ℕ) → x < 256 ^ w → number-at w (bytes-of w x ++ r) 0 ≡ x
 number-bytes zero x r h = omega arith
 number-bytes (suc w) x r h =
     let rest = number-behind w (x % 256 ∷ []) (bytes-of w (x / 256) ++ r) 0 in
     omega (arith, rest, number-bytes w (x / 256) r (omega arith))
 
-pub number-written : (w : ℕ) (a : List ℕ) (at x : ℕ) → at + w ≤ length a → x < 256 ^ w → number-at w (with-number w a at x) at ≡ x
+pub number-written : (w : ℕ) (a : List ℕ) (at x : ℕ) → at ≤ length a → x < 256 ^ w → number-at w (with-number w a at x) at ≡ x
 number-written w a at x h l =
     let before : length (take at a) ≡ at = taken at a (omega arith) in
     ap (number-at w (with-number w a at x)) {x = at} {y = length (take at a) + 0} (omega (arith, before))
     ∙ number-behind w (take at a) (bytes-of w x ++ drop (at + w) a) 0 ∙ number-bytes w x (drop (at + w) a) l
+
+-- what stands before it stays
+pub before-written : (w : ℕ) (a : List ℕ) (at x k : ℕ) → at ≤ length a → k < at → getD (with-number w a at x) k 0 ≡ getD a k 0
+before-written w a at x k h l =
+    List·getD-append (take at a) (bytes-of w x ++ drop (at + w) a) 0 k (omega (arith, taken at a h)) ∙ getD-take at a k 0 l
+
+-- so does what stands behind it
+pub behind-written : (w : ℕ) (a : List ℕ) (at x k : ℕ) → at + w ≤ length a → at + w ≤ k → getD (with-number w a at x) k 0 ≡ getD a k 0
+behind-written w a at x k h l =
+    let left = k - (at + w) in
+    let front = take at a in
+    let back = bytes-of w x ++ drop (at + w) a in
+    ap (λ (n : ℕ). getD (front ++ back) n 0) {x = k} {y = length front + (length (bytes-of w x) + left)}
+    (omega (arith, taken at a (omega arith), length-bytes w x))
+    ∙ getD-append-add front back (length (bytes-of w x) + left) 0
+    ∙ getD-append-add (bytes-of w x) (drop (at + w) a) left 0
+    ∙ getD-drop (at + w) a left 0
+    ∙ ap (λ (n : ℕ). getD a n 0) {x = at + w + left} {y = k} (omega arith)
 
 pub number-small : (w : ℕ) (a : List ℕ) (at : ℕ) → ((i : ℕ) → getD a i 0 < 256) → number-at w a at < 256 ^ w
 number-small zero a at f = omega arith

@@ -6,71 +6,27 @@ use mathlib.Core.Bool.{Bool, true, false, cond, _||_}
 use mathlib.Core.List.{List, [], _∷_, _++_, append-assoc, List·Memᴰ, List·Memᴰ·head, List·Memᴰ·tail}
 use Prim.Native.Nat.{ℕ, zero, suc, _+_, _-_, _*_, _/_, _%_, _^_, _≤_, _<_}
 use native.Mathlib.Omega.{arith}
-use native.Mathlib.Numerals.{add-one, add-two, add-three, add-four, add-five, add-six, add-seven}
+use native.Mathlib.Numerals.{add-one}
 use lib.Dec.{eqb, ltb, leb·suc-suc}
 use lib.ListN.{length, getD, set, take, drop, length-append, length-replicate, replicate-append-replicate}
-use lib.Seq.{sets-eq, take-at, drop-drop, take-all, drop-append-add, set-at, drop-cons}
+use lib.Seq.{take-at, drop-drop, take-all, drop-append-add, set-at, drop-cons}
 use borrow.Author.Tests.{lt-ltb, eq-eqb, ne-eqb}
 use Rattle.base.specs.Lists.{member, gather}
+use Rattle.base.specs.Bytes.{with-number}
 use Rattle.base.proofs.AppendLaws.{gather-append}
-use Rattle.tableau.specs.Area.{bytes8, eight, put, store, words-at, index, zeros, with-one, Added}
+use Rattle.base.proofs.BytesLaws.{number-bytes, number-behind}
+use Rattle.tableau.specs.Area.{bytes8, eight, store, words-at, index, zeros, with-one, Added}
 
 abbrev pub Small : List ℕ → Type 0
 Small ws = (x : ℕ) → List·Memᴰ x ws → x < 2 ^ 64
 
-pub eight-sets : (a : List ℕ) (at x : ℕ) → at + 8 ≤ length a
-    → set (set (set (set (set (set (set (set a at (x % 256)) (at + 1) (x / 0x100 % 256)) (at + 2) (x / 0x10000 % 256)) (at + 3)
-    (x / 0x1000000 % 256))
-    (at + 4) (x / 0x100000000 % 256)) (at + 5) (x / 0x10000000000 % 256)) (at + 6) (x / 0x1000000000000 % 256)) (at + 7)
-    (x / 0x100000000000000 % 256)
-    ≡ put a at x
-eight-sets a at x h =
-    simp (add-one, add-two, add-three, add-four, add-five, add-six, add-seven)
-    (sets-eq (bytes8 x) a at (omega arith) ∙ append-assoc (take at a) (bytes8 x) (drop (at + 8) a))
-
--- a number's low bytes, one byte more: the sum of all eight is the number
-module _ (x : ℕ) where
-  low1 : x % 256 + x / 0x100 % 256 * 0x100 ≡ x % 0x10000
-  low1 = omega arith
-
-  low2 : x % 0x10000 + x / 0x10000 % 256 * 0x10000 ≡ x % 0x1000000
-  low2 = omega arith
-
-  low3 : x % 0x1000000 + x / 0x1000000 % 256 * 0x1000000 ≡ x % 0x100000000
-  low3 = omega arith
-
-  low4 : x % 0x100000000 + x / 0x100000000 % 256 * 0x100000000 ≡ x % 0x10000000000
-  low4 = omega arith
-
-  low5 : x % 0x10000000000 + x / 0x10000000000 % 256 * 0x10000000000 ≡ x % 0x1000000000000
-  low5 = omega arith
-
-  low6 : x % 0x1000000000000 + x / 0x1000000000000 % 256 * 0x1000000000000 ≡ x % 0x100000000000000
-  low6 = omega arith
-
-  low7 : x < 2 ^ 64 → x % 0x100000000000000 + x / 0x100000000000000 % 256 * 0x100000000000000 ≡ x
-  low7 h = omega arith
-
+-- the eight bytes of a word, and what lies behind them
 pub eight-first : (x : ℕ) (a : List ℕ) → x < 2 ^ 64 → eight (bytes8 x ++ a) (8 * 0) ≡ x
-eight-first x a h = rw (low1 x, low2 x, low3 x, low4 x, low5 x, low6 x) (low7 x h)
+eight-first x a h = number-bytes 8 x a h
 
--- past the first eight bytes
-module _ (x : ℕ) (a : List ℕ) (i : ℕ) where
-  past : (j k : ℕ) → k ≡ 8 + j → getD (bytes8 x ++ a) k 0 ≡ getD a j 0
-  past j k q = ap (λ (n : ℕ). getD (bytes8 x ++ a) n 0) {x = k} {y = suc (suc (suc (suc (suc (suc (suc (suc j)))))))} (omega arith)
-
-  eight-past : eight (bytes8 x ++ a) (8 * suc i) ≡ eight a (8 * i)
-  eight-past =
-      rw (
-        past (8 * i) (8 * suc i) (omega arith),
-        past (8 * i + 1) (8 * suc i + 1) (omega arith),
-        past (8 * i + 2) (8 * suc i + 2) (omega arith),
-        past (8 * i + 3) (8 * suc i + 3) (omega arith),
-        past (8 * i + 4) (8 * suc i + 4) (omega arith),
-        past (8 * i + 5) (8 * suc i + 5) (omega arith),
-        past (8 * i + 6) (8 * suc i + 6) (omega arith),
-        past (8 * i + 7) (8 * suc i + 7) (omega arith),
-      )
+eight-past : (x : ℕ) (a : List ℕ) (i : ℕ) → eight (bytes8 x ++ a) (8 * suc i) ≡ eight a (8 * i)
+eight-past x a i =
+    ap (eight (bytes8 x ++ a)) {x = 8 * suc i} {y = length (bytes8 x) + 8 * i} (omega arith) ∙ number-behind 8 (bytes8 x) a (8 * i)
 
 pub eight-stored : (ws a : List ℕ) (i : ℕ) → Small ws → i < length ws → eight (gather bytes8 ws ++ a) (8 * i) ≡ getD ws i 0
 eight-stored [] a i h l = absurd (omega arith)
@@ -96,7 +52,7 @@ pub stored-length : (ws : List ℕ) → length (gather bytes8 ws) ≡ 8 * length
 stored-length [] = refl
 stored-length (x ∷ ws) = omega (arith, stored-length ws)
 
-put-store : (ws a : List ℕ) (x : ℕ) → put (store ws a) (8 * length ws) x ≡ store (ws ++ (x ∷ [])) a
+put-store : (ws a : List ℕ) (x : ℕ) → with-number 8 (store ws a) (8 * length ws) x ≡ store (ws ++ (x ∷ [])) a
 put-store ws a x =
     ap (λ (l : List ℕ). l ++ (bytes8 x ++ drop (8 * length ws + 8) (store ws a)))
     (take-at (gather bytes8 ws) (drop (8 * length ws) a) (8 * length ws) (stored-length ws))
@@ -162,7 +118,7 @@ module _ {area : List ℕ} {known : ℕ} (x capacity : ℕ) (fits : known ≤ ca
         (k, s ∙ ap (λ (l : List ℕ). store l a) (sym (take-all capacity ws (omega arith))));
   }
 
-  pub add-new : member x (words-at area 0 known) ≡ false → known < capacity → {area′ : List ℕ} → area′ ≡ put area (8 * known) x
+  pub add-new : member x (words-at area 0 known) ≡ false → known < capacity → {area′ : List ℕ} → area′ ≡ with-number 8 area (8 * known) x
       → Added known capacity x area area′ (known + 1)
   add-new h l {area′} e = record {
     is = λ ws a k small s.

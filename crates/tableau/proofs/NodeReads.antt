@@ -9,6 +9,7 @@ use lib.ListN.{length, getD, drop, length-map, List·getD-map}
 use Rattle.base.specs.Bits.{word}
 use Rattle.base.specs.Search.{Item}
 use Rattle.formula.specs.Table.{Table}
+use Rattle.base.proofs.BytesLaws.{number-same}
 use Rattle.tableau.specs.Saturation.{Subset}
 use Rattle.tableau.specs.Transition.{Transition}
 use Rattle.tableau.specs.Nodes.{nodes}
@@ -46,17 +47,7 @@ words-at-get a j (suc n) (suc i) h =
     words-at-get a (suc j) n i (omega arith) ∙ ap (λ (k : ℕ). eight a (8 * k)) {x = suc j + i} {y = j + suc i} (omega arith)
 
 pub eight-same : (a b : List ℕ) (at : ℕ) → ((k : ℕ) → k < at + 8 → getD b k 0 ≡ getD a k 0) → eight b at ≡ eight a at
-eight-same a b at f =
-    rw (
-      f at (omega arith),
-      f (at + 1) (omega arith),
-      f (at + 2) (omega arith),
-      f (at + 3) (omega arith),
-      f (at + 4) (omega arith),
-      f (at + 5) (omega arith),
-      f (at + 6) (omega arith),
-      f (at + 7) (omega arith),
-    )
+eight-same a b at f = number-same 8 b a at at (λ i h. f (at + i) (omega arith))
 
 pub words-same : (a b : List ℕ) (j n : ℕ) → ((k : ℕ) → k < 8 * (j + n) → getD b k 0 ≡ getD a k 0) → words-at b j n ≡ words-at a j n
 words-same a b j zero f = refl

@@ -13,9 +13,9 @@ use lib.ListN.{length, getD, set, take, drop, length-set, List·getD-append}
 use lib.Seq.{getD-append-add, getD-set-same, getD-set-other, getD-take, length-take-le}
 use borrow.Author.Tests.{eq-eqb, ne-eqb}
 use Rattle.base.specs.Lists.{member}
-use Rattle.tableau.specs.Area.{bytes8, eight, put, words-at, slot-of, Marked}
-use Rattle.tableau.proofs.AreaLaws.{eight-first}
-use Rattle.tableau.proofs.NodeReads.{eight-same}
+use Rattle.base.specs.Bytes.{with-number}
+use Rattle.base.proofs.BytesLaws.{number-same, number-written, before-written}
+use Rattle.tableau.specs.Area.{eight, words-at, slot-of, Marked}
 
 -- whether a word is among those of n places, by what stands there
 no-member : (x : ℕ) (a : List ℕ) (i n : ℕ) → ((j : ℕ) → i ≤ j → j < i + n → eight a (8 * j) ≡ x → ⊥) → member x (words-at a i n) ≡ false
@@ -46,31 +46,6 @@ unmarked {known} {area = area} {slots} x m p q e =
 pub stands : (known : ℕ) (area : List ℕ) (x i : ℕ) → i < known → eight area (8 * i) ≡ x → member x (words-at area 0 known) ≡ true
 stands known area x i h e = a-member x area 0 known i (omega arith) (omega arith) e
 
--- eight bytes put are read there, and leave those before them
-module _ (a : List ℕ) (at x : ℕ) (room : at ≤ length a) where
-  put-past : (k j : ℕ) → k ≡ at + j → getD (put a at x) k 0 ≡ getD (bytes8 x ++ drop (at + 8) a) j 0
-  put-past k j q =
-      ap (λ (n : ℕ). getD (put a at x) n 0) {x = k} {y = length (take at a) + j} (omega (arith, length-take-le at a room))
-      ∙ getD-append-add (take at a) (bytes8 x ++ drop (at + 8) a) j 0
-
-  put-before : (k : ℕ) → k < at → getD (put a at x) k 0 ≡ getD a k 0
-  put-before k h =
-      List·getD-append (take at a) (bytes8 x ++ drop (at + 8) a) 0 k (omega (arith, length-take-le at a room)) ∙ getD-take at a k 0 h
-
-  put-read : x < 2 ^ 64 → eight (put a at x) at ≡ x
-  put-read h =
-      rw (
-        put-past at 0 (omega arith),
-        put-past (at + 1) 1 refl,
-        put-past (at + 2) 2 refl,
-        put-past (at + 3) 3 refl,
-        put-past (at + 4) 4 refl,
-        put-past (at + 5) 5 refl,
-        put-past (at + 6) 6 refl,
-        put-past (at + 7) 7 refl,
-      )
-      (eight-first x (drop (at + 8) a) h)
-
 -- a mark more keeps the others
 set-mark : (slots : List ℕ) (k j m : ℕ) → k < length slots → 0 < m → (j ≡ k) ⊎ (0 < getD slots j 0) → 0 < getD (set slots k m) j 0
 set-mark slots k j m l p h =
@@ -83,22 +58,24 @@ pub marked-none : (area slots : List ℕ) → 2048 ≤ length slots → Marked 0
 marked-none area slots h = record { long = h; is = λ i h. absurd (omega arith) }
 
 pub marked-more : {known k : ℕ} {area area′ slots : List ℕ} (x m : ℕ) → Marked known area slots → 8 * known ≤ length area → x < 2 ^ 64
-    → k ≡ slot-of x → 0 < m → area′ ≡ put area (8 * known) x → Marked (known + 1) area′ (set slots k m)
+    → k ≡ slot-of x → 0 < m → area′ ≡ with-number 8 area (8 * known) x → Marked (known + 1) area′ (set slots k m)
 marked-more {known} {k} {area} {area′} {slots} x m ms room small q p e = record {
   long = omega (arith, length-set slots k m, ms .long);
   is = λ i h.
       subst⁻¹ (λ (b : List ℕ). 0 < getD (set slots k m) (slot-of (eight b (8 * i))) 0) e
-      (set-mark slots k (slot-of (eight (put area (8 * known) x) (8 * i))) m (omega (arith, ms .long)) p (by i h));
+      (set-mark slots k (slot-of (eight (with-number 8 area (8 * known) x) (8 * i))) m (omega (arith, ms .long)) p (by i h));
 }
   where
     by : (i : ℕ) → i < known + 1
-        → (slot-of (eight (put area (8 * known) x) (8 * i)) ≡ k) ⊎ (0 < getD slots (slot-of (eight (put area (8 * known) x) (8 * i))) 0)
+        → (slot-of (eight (with-number 8 area (8 * known) x) (8 * i)) ≡ k)
+        ⊎ (0 < getD slots (slot-of (eight (with-number 8 area (8 * known) x) (8 * i))) 0)
     by i h =
         elim (decLt i known) [
           | yes n ↦
-              let kept = eight-same area (put area (8 * known) x) (8 * i) (λ j o. put-before area (8 * known) x room j (omega arith)) in
+              let kept = number-same 8 (with-number 8 area (8 * known) x) area (8 * i) (8 * i)
+              (λ j o. before-written 8 area (8 * known) x (8 * i + j) room (omega arith)) in
               inr (subst⁻¹ (λ (y : ℕ). 0 < getD slots (slot-of y) 0) kept (ms .is i n))
           | no n ↦
-              let here = ap (λ (j : ℕ). eight (put area (8 * known) x) (8 * j)) {x = i} {y = known} (omega arith) in
-              inl (ap slot-of (here ∙ put-read area (8 * known) x room small) ∙ sym q)
+              let here = ap (λ (j : ℕ). eight (with-number 8 area (8 * known) x) (8 * j)) {x = i} {y = known} (omega arith) in
+              inl (ap slot-of (here ∙ number-written 8 area (8 * known) x room small) ∙ sym q)
         ]

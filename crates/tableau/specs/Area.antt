@@ -3,11 +3,12 @@
 use mathlib.Core.Path.{_≡_}
 use mathlib.Core.Bool.{Bool, cond}
 use mathlib.Core.List.{List, [], _∷_, _++_, map, List·Memᴰ}
-use Prim.Native.Nat.{ℕ, zero, suc, _+_, _*_, _/_, _%_, _^_, _≤_, _<_, min}
+use Prim.Native.Nat.{ℕ, zero, suc, _+_, _*_, _%_, _^_, _≤_, _<_, min}
 use lib.Dec.{eqb}
 use lib.ListN.{length, getD, take, drop, replicate}
 use Rattle.base.specs.Lists.{gather, any}
 use Rattle.base.specs.Bits.{word}
+use Rattle.base.specs.Bytes.{number-at, bytes-of}
 use Rattle.base.specs.Search.{Item}
 use Rattle.formula.specs.Table.{Table}
 use Rattle.tableau.specs.Saturation.{Subset, same-subset}
@@ -17,19 +18,11 @@ use Rattle.tableau.specs.Promise.{table-of}
 
 -- the eight bytes of a number
 abbrev pub bytes8 : ℕ → List ℕ
-bytes8 x =
-    x % 256 ∷ x / 0x100 % 256 ∷ x / 0x10000 % 256 ∷ x / 0x1000000 % 256 ∷ x / 0x100000000 % 256 ∷ x / 0x10000000000 % 256
-    ∷ x / 0x1000000000000 % 256 ∷ x / 0x100000000000000 % 256 ∷ []
+bytes8 x = bytes-of 8 x
 
--- the number in the eight bytes from a place on
+-- the number in the eight bytes from an index on
 abbrev pub eight : List ℕ → ℕ → ℕ
-eight a at =
-    getD a at 0 + getD a (at + 1) 0 * 0x100 + getD a (at + 2) 0 * 0x10000 + getD a (at + 3) 0 * 0x1000000 + getD a (at + 4) 0 * 0x100000000
-    + getD a (at + 5) 0 * 0x10000000000 + getD a (at + 6) 0 * 0x1000000000000 + getD a (at + 7) 0 * 0x100000000000000
-
--- an area with eight bytes written
-abbrev pub put : List ℕ → (at x : ℕ) → List ℕ
-put a at x = take at a ++ (bytes8 x ++ drop (at + 8) a)
+eight a at = number-at 8 a at
 
 -- an area whose first bytes are these words, and past them what it had
 abbrev pub store : (words area : List ℕ) → List ℕ

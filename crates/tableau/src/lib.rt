@@ -11,7 +11,7 @@ ghost use Rattle.tableau.specs.Saturation.{moves};
 ghost use Rattle.tableau.specs.Transition.{ors, choice-of};
 ghost use Rattle.tableau.specs.Promise.{table-of, Formed, Placed, with-bits, Saturated, Requires-more, Required-by, Stepped};
 ghost use Rattle.tableau.specs.Promise.{Stepped-by, Widest, Unmet-between, is-unmet, Unmet};
-ghost use Rattle.tableau.specs.Area.{eight, put, words-at, index, zeros, Room, Holds, reachable, slot-of, Marked, Added};
+ghost use Rattle.tableau.specs.Area.{eight, words-at, index, zeros, Room, Holds, reachable, slot-of, Marked, Added};
 ghost use Rattle.tableau.specs.Area.{Followed, Expanded};
 
 // The number of a node, kept apart from subformulas and positions.
@@ -279,47 +279,12 @@ pub fn by_word(
     transition(rows, count, choice, node)
 }
 
-// Eight bytes, the lowest first.
-fn get8(area: &[u8], at: usize) -> u64
-    requires { ⌜ at + 8 ≤ length (now area) ⌝ }
-    ensures { λ r. ⌜ r ≡ eight (now (area .entry)) at ⌝ }
-{
-    wide64(area[at])
-        + wide64(area[at + 1]) * 0x100
-        + wide64(area[at + 2]) * 0x1_0000
-        + wide64(area[at + 3]) * 0x100_0000
-        + wide64(area[at + 4]) * 0x1_0000_0000
-        + wide64(area[at + 5]) * 0x100_0000_0000
-        + wide64(area[at + 6]) * 0x1_0000_0000_0000
-        + wide64(area[at + 7]) * 0x100_0000_0000_0000
-}
-
-fn wide64(x: u8) -> u64
-    ensures { λ r. ⌜ (r ≡ x) × (r < 256) ⌝ }
-{
-    x as u64
-}
-
-fn put8(area: &mut [u8], at: usize, x: u64)
-    requires { ⌜ at + 8 ≤ length (now area) ⌝ }
-    ensures { λ _. ⌜ now (area .exit) ≡ put (now (area .entry)) at x ⌝ }
-{
-    area[at] = (x % 256) as u8;
-    area[at + 1] = (x / 0x100 % 256) as u8;
-    area[at + 2] = (x / 0x1_0000 % 256) as u8;
-    area[at + 3] = (x / 0x100_0000 % 256) as u8;
-    area[at + 4] = (x / 0x1_0000_0000 % 256) as u8;
-    area[at + 5] = (x / 0x100_0000_0000 % 256) as u8;
-    area[at + 6] = (x / 0x1_0000_0000_0000 % 256) as u8;
-    area[at + 7] = (x / 0x100_0000_0000_0000 % 256) as u8;
-}
-
 pub fn node(area: &[u8], number: NodeNumber) -> u64
     requires { ⌜ (number .0 < 1024) × (8 * number .0 + 8 ≤ length (now area)) ⌝ }
     ensures { λ r. ⌜ r ≡ eight (now (area .entry)) (8 * number .0) ⌝ }
 {
     let i = number.0;
-    get8(area, 8 * i)
+    base::number_at(area, 8 * i, 8)
 }
 
 // The number of a node among the first `known`, or `known`.
@@ -383,7 +348,7 @@ fn add(area: &mut [u8], slots: &mut [u16; 2048], known: usize, capacity: usize, 
         return known;
     }
     if known < capacity {
-        put8(area, 8 * known, set);
+        base::put_number(area, 8 * known, 8, set);
         let k = slot(set);
         slots[k] = (known + 1) as u16;
         return known + 1;

@@ -18,11 +18,11 @@ returns c =
     let s = c .before .before .before .before .before in
     (add-known _ _ (s .pre .0 .fits) (sym (c .before .is-known .ensures) ∙ c .if1 .taken), ((omega arith, omega arith), λ h. s .pre .1))
 
-mul-put8 : tie.Need-mul-put8
-mul-put8 c = search needs
+mul-put-number : tie.Need-mul-put-number
+mul-put-number c = search needs
 
-put8-requires : tie.Need-put8-requires
-put8-requires c κs = search needs
+put-number-requires : tie.Need-put-number-requires
+put-number-requires c κs = search needs
 
 slot-requires : tie.Need-slot-requires
 slot-requires c κs = search needs
@@ -50,13 +50,13 @@ returns-2 c =
     let is-known = c .before .before .before .before .before .before .before .is-known in
     let if1 = c .before .before .before .before .before .before .if1 in
     let if2 = c .before .before .before .before .before .if2 in
-    let put8 = c .before .before .before .put8 in
+    let put-number = c .before .before .before .put-number in
     let s = c .before .before .before .before .before .before .before .before .before .before .before in (
-      add-new _ _ (s .pre .0 .fits) (sym (is-known .ensures) ∙ if1 .left) (if2 .taken) (put8 .ensures),
+      add-new _ _ (s .pre .0 .fits) (sym (is-known .ensures) ∙ if1 .left) (if2 .taken) (put-number .ensures),
       (
         (omega arith, omega arith),
         λ h. marked-more (s .args .set) _ (s .pre .1) (omega arith) (omega arith) (c .slot .ensures)
-            (omega arith) (put8 .ensures),
+            (omega arith) (put-number .ensures),
       ),
     )
 
@@ -81,8 +81,8 @@ add-spec =
     is-known-requires
     same-length
     returns
-    mul-put8
-    put8-requires
+    mul-put-number
+    put-number-requires
     slot-requires
     add-slots
     cast-slots
