@@ -6,7 +6,7 @@ use mathlib.Core.List.{List, [], _∷_, _++_, append-nil, append-assoc}
 use Prim.Native.Nat.{ℕ, zero, suc, _+_, _-_, _*_, _/_, _%_, _^_, _≤_, _<_}
 use native.Mathlib.Nat.{add-zero, pow-le-pow-right, zero-lt-suc}
 use native.Mathlib.Omega.{arith}
-use lib.ListN.{length, getD, set, take, drop, length-append, length-set, length-take, take-append-drop, List·getD-append}
+use lib.ListN.{length, getD, set, take, drop, length-append, length-set, length-take, length-drop, take-append-drop, List·getD-append}
 use lib.Seq.{getD-append-add, getD-take, getD-drop, set-at, drop-cons}
 use Rattle.base.specs.Bytes.{number-at, bytes-of, with-number}
 
@@ -66,6 +66,17 @@ behind-written w a at x k h l =
     ∙ getD-append-add (bytes-of w x) (drop (at + w) a) left 0
     ∙ getD-drop (at + w) a left 0
     ∙ ap (λ (n : ℕ). getD a n 0) {x = at + w + left} {y = k} (omega arith)
+
+pub length-written : (w : ℕ) (a : List ℕ) (at x : ℕ) → at + w ≤ length a → length (with-number w a at x) ≡ length a
+length-written w a at x h =
+    length-append (take at a) (bytes-of w x ++ drop (at + w) a)
+    ∙ omega (
+      arith,
+      taken at a (omega arith),
+      length-append (bytes-of w x) (drop (at + w) a),
+      length-bytes w x,
+      length-drop (at + w) a,
+    )
 
 pub number-small : (w : ℕ) (a : List ℕ) (at : ℕ) → ((i : ℕ) → getD a i 0 < 256) → number-at w a at < 256 ^ w
 number-small zero a at f = omega arith

@@ -4,7 +4,7 @@
 use mathlib.Core.Path.{_≡_, refl, sym, ap, subst⁻¹, _∙_}
 use mathlib.Core.Bool.{Bool, false, _&&_}
 use mathlib.Core.List.{List}
-use Prim.Native.Nat.{ℕ, _+_, _*_, _/_, _%_, _≤_, _<_}
+use Prim.Native.Nat.{ℕ, _+_, _*_, _≤_, _<_}
 use native.Mathlib.Omega.{arith}
 use native.Mathlib.Decide.{decLt, ℕ-discrete}
 use borrow.Author.Tests.{ne-eqb, eq-eqb}
@@ -12,6 +12,8 @@ use lib.Dec.{eqb}
 use lib.ListN.{length, getD, set, length-set}
 use lib.Seq.{getD-set-same, getD-set-other}
 use Rattle.base.specs.Bits.{bit}
+use Rattle.base.specs.Bytes.{with-number}
+use Rattle.base.proofs.BytesLaws.{number-same, number-written, before-written, behind-written, length-written}
 use Rattle.coded.specs.Triples.{Triples, same-triples}
 use Rattle.coded.specs.Runs.{Profile, same-profile}
 use Rattle.coded.proofs.TriplesLaws.{those-same}
@@ -54,7 +56,7 @@ module _ {from to : ℕ} {a b : List ℕ} (c : Changed from to a b) where
       go (no l) (no m) = c .beyond i (omega arith)
 
   pub two-kept : (j : ℕ) → (from < j + 2 → j < to → ⊥) → two b j ≡ two a j
-  two-kept j h = omega (arith, byte-kept j (λ l m. h (omega arith) (omega arith)), byte-kept (j + 1) (λ l m. h (omega arith) (omega arith)))
+  two-kept j h = number-same 2 b a j j (λ i k. byte-kept (j + i) (λ l m. h (omega arith) (omega arith)))
 
   pub record-kept : (n at : ℕ) → n ≤ 12 → (from < at + 152 → at < to → ⊥) → found-at n b at ≡ found-at n a at
   unfolding found-at
@@ -70,20 +72,15 @@ module _ {from to : ℕ} {a b : List ℕ} (c : Changed from to a b) where
 
 -- two bytes are put
 module _ (a : List ℕ) {at to : ℕ} (x : ℕ) (e : at ≡ to) (h : to + 2 ≤ length a) where
-  abbrev put : List ℕ
-  put = set (set a at (x % 256)) (at + 1) (x / 256 % 256)
+  pub put-two : x < 65536 → two (with-number 2 a at x) to ≡ x
+  put-two l = ap (two (with-number 2 a at x)) (sym e) ∙ number-written 2 a at x (omega arith) l
 
-  pub put-two : x < 65536 → two put to ≡ x
-  put-two l =
-      let low : getD put at 0 ≡ x % 256 =
-      getD-set-other (set a at (x % 256)) (at + 1) at (x / 256 % 256) 0 (λ e. omega arith) ∙ getD-set-same a at (x % 256) 0 (omega arith) in
-      let high : getD put (at + 1) 0 ≡ x / 256 % 256 =
-      getD-set-same (set a at (x % 256)) (at + 1) (x / 256 % 256) 0 (omega (arith, length-set a at (x % 256))) in
-      ap (λ (i : ℕ). two put i) (sym e) ∙ omega arith
-
-  pub put-changed : Changed to (to + 2) a put
-  put-changed = changed-set (changed-set (changed-none to (to + 2) a) at (x % 256) (omega arith) (omega arith)) (at + 1) (x / 256 % 256)
-      (omega arith) (omega arith)
+  pub put-changed : Changed to (to + 2) a (with-number 2 a at x)
+  put-changed = record {
+    same-length = length-written 2 a at x (omega arith);
+    below = λ i l. before-written 2 a at x i (omega arith) (omega arith);
+    beyond = λ i l. behind-written 2 a at x i (omega arith) (omega arith);
+  }
 
 -- one byte of the triples more
 pub store-more : (a t : List ℕ) (at i : ℕ) → at + i < length a → ((j : ℕ) → j < i → getD a (at + j) 0 ≡ getD t j 0)

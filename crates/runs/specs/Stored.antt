@@ -9,6 +9,7 @@ use mathlib.Core.List.{List, map, foldl}
 use Prim.Native.Nat.{ℕ, _+_, _-_, _*_, _/_, _%_, _≤_, _<_, min}
 use lib.ListN.{length, getD}
 use Rattle.base.specs.Bits.{bit, word}
+use Rattle.base.specs.Bytes.{number-at}
 use Rattle.base.specs.Lists.{numbers}
 use Rattle.coded.specs.Triples.{Triples}
 use Rattle.coded.specs.Spread.{adds}
@@ -19,7 +20,7 @@ use Rattle.runs.specs.declared.Shelf.{Shelf}
 
 -- two bytes, the low one first
 abbrev pub two : List ℕ → (at : ℕ) → ℕ
-two b at = getD b at 0 + getD b (at + 1) 0 * 256
+two b at = number-at 2 b at
 
 -- the profile with these ends and triples
 abbrev pub profile-of : Ends → Triples → Profile

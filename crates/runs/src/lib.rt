@@ -31,12 +31,6 @@ pub struct Shelf {
     pub n: usize,
 }
 
-fn wide2(low: u8, high: u8) -> usize
-    ensures { λ r. ⌜ (r ≡ low + high * 256) × (r < 65536) ⌝ }
-{
-    base::wide(low) + base::wide(high) * 256
-}
-
 // Where record p begins.
 pub fn place(shelf: Shelf, p: usize) -> usize
     requires { ⌜ (shelf .base ≤ 8192) × (p ≤ 4096) ⌝ }
@@ -50,8 +44,7 @@ fn get2(area: &[u8], shelf: Shelf, p: usize, offset: usize) -> usize
     requires { ⌜ (shelf .base ≤ 8192) × ((p ≤ 4096) × (place shelf p + offset + 2 ≤ length (now area))) ⌝ }
     ensures { λ r. ⌜ (r ≡ two (now (area .entry)) (place shelf p + offset)) × (r < 65536) ⌝ }
 {
-    let at = place(shelf, p) + offset;
-    wide2(area[at], area[at + 1])
+    base::number_at(area, place(shelf, p) + offset, 2) as usize
 }
 
 // The ends of record p.
@@ -75,9 +68,7 @@ fn put2(area: &mut [u8], shelf: Shelf, p: usize, offset: usize, x: usize)
     ensures { λ r. ⌜ two (now (area .exit)) (place shelf p + offset) ≡ x ⌝ }
     ensures { λ r. ⌜ Changed (place shelf p + offset) (place shelf p + offset + 2) (now (area .entry)) (now (area .exit)) ⌝ }
 {
-    let at = place(shelf, p) + offset;
-    area[at] = (x % 256) as u8;
-    area[at + 1] = (x / 256 % 256) as u8;
+    base::put_number(area, place(shelf, p) + offset, 2, x as u64);
 }
 
 fn store(area: &mut [u8], at: usize, t: &[u8; 144])

@@ -9,35 +9,17 @@ use Rattle.runs.proofs.get2.Tie as tie
 place-requires : tie.Need-place-requires
 place-requires c κs = search needs
 
-add-at : tie.Need-add-at
-add-at c = search needs
+add-number-at : tie.Need-add-number-at
+add-number-at c = search needs
 
-shared-slice-read-wide2 : tie.Need-shared-slice-read-wide2
-shared-slice-read-wide2 c = search needs
-
-add-wide2 : tie.Need-add-wide2
-add-wide2 c = search needs
-
-shared-slice-read-wide2-2 : tie.Need-shared-slice-read-wide2-2
-shared-slice-read-wide2-2 c = search needs
-
-wide2-requires : tie.Need-wide2-requires
-wide2-requires c κs = search needs
+number-at-requires : tie.Need-number-at-requires
+number-at-requires c κs = search needs
 
 returns : tie.Need-returns
 returns c =
-    let place = c .before .before .before .place in
-    let s = c .before .before .before .before .before in
-    (c .wide2 .ensures .0 ∙ ap (λ (at : ℕ). two (s .args .area .now) (at + s .args .offset)) (place .ensures), c .wide2 .ensures .1)
+    let s = c .before .before .before in
+    let place = c .before .place in
+    (c .number-at .ensures .0 ∙ ap (λ (at : ℕ). two (s .args .area .now) (at + s .args .offset)) (place .ensures), c .number-at .ensures .1)
 
 pub get2-spec : {M : Type 1} → statement M
-get2-spec =
-    tie.close
-    (tie.spec
-    place-requires
-    add-at
-    shared-slice-read-wide2
-    add-wide2
-    shared-slice-read-wide2-2
-    wide2-requires
-    returns)
+get2-spec = tie.close (tie.spec place-requires add-number-at number-at-requires returns)
