@@ -16,3 +16,4 @@ pub mod At
 pub mod Pairs
 pub mod AppendLaws
 pub mod ShiftLaws
+pub mod AskLaws

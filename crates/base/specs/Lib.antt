@@ -3,3 +3,4 @@ pub mod Bits
 pub mod Bytes
 pub mod Search
 pub mod Sets
+pub mod Ask

@@ -56,7 +56,7 @@ rise-adds f e xs (s ∷ ss) r = rise-adds f e (add same-profile xs (f s)) ss (ri
 
 rise-from : (t : Table) (ns : List Subset) (i : ℕ) (vs : List Subset) (xs : List Found) → Rise i xs
     → (k : ℕ) × Rise k (adds same-profile xs (ones-from t ns i vs))
-unfolding triples transitions
+unfolding triples
 rise-from t ns i [] xs r = (i, r)
 rise-from t ns i (v ∷ vs) xs r =
     let here = rise-adds (single-of t ns i v) (λ s. refl) xs (transitions t v) r in

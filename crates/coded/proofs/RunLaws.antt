@@ -170,7 +170,7 @@ module _ (t : Table) where
         → ((j : ℕ) (v : Subset) (s : Transition) → At (node-sets t) j v → List·Memᴰ s (transitions t v) → P (one j v s) (h v s))
         → Pairs P (ones-from t (node-sets t) i (sets xs))
         (gather (λ (x : Item Transition Subset). map (h (x .at)) (transitions t (x .at))) xs)
-    unfolding triples transitions
+    unfolding triples
     ones-pairs P h [] i f g = Pairs.none
     ones-pairs P h (x ∷ xs) i f g =
         let a : At (node-sets t) i (x .at) = subst (λ (n : ℕ). At (node-sets t) n (x .at)) {x = i + 0} {y = i} (omega arith)
@@ -184,7 +184,7 @@ module _ (t : Table) where
     all-ones = ones-from t (node-sets t) 1 (sets (tail (nodes t)))
 
     ones-are : ones t (node-sets t) ≡ adds same-profile [] all-ones
-    unfolding ones triples transitions
+    unfolding ones triples
     ones-are = ap (λ (l : List Subset). adds same-profile [] (ones-from t (node-sets t) 1 l)) (tail-sets (nodes t))
 
     abbrev starts : List Listed
@@ -272,7 +272,7 @@ module _ (t : Table) where
             )
 
         expands : Thins letter Codes all [] (longer n (ones t (node-sets t)) p x) (onwards literal.same-profile (literal.profile-edges t) y)
-        unfolding join literal-triples.triples literal-triples.join transitions
+        unfolding join literal-triples.triples literal-triples.join
         expands =
             let (kept, e, thin) = adds-thin same-profile same-sound [] [] all-ones (λ z m. m) in
             subst⁻¹ (λ (l : List Found). Thins letter Codes all [] (gather (follow n p x) l)
@@ -290,7 +290,7 @@ module _ (t : Table) where
     -- Theorem: with fuel enough the profiles match.
     pub profiles-match : (fuel : ℕ) → length (literal.profiles t (nodes t)) ≤ fuel
         → Matches letter Codes (profiles fuel t (node-sets t)) (literal.profiles t (nodes t))
-    unfolding profiles profiles-from join literal.profiles literal-triples.triples literal-triples.join transitions
+    unfolding profiles profiles-from join literal.profiles literal-triples.triples literal-triples.join
     profiles-match fuel h =
         subst⁻¹ (λ (l : List Found). Matches letter Codes
         (spread same-profile (longer (length (operands t)) (ones t (node-sets t))) fuel 0 l) (literal.profiles t (nodes t))) ones-are

@@ -66,12 +66,12 @@ single-of t ns i v s = record {
 
 -- the runs of one transition from node i
 abbrev pub ones-of : Table → List Subset → ℕ → Subset → List Found
-unfolding triples transitions
+unfolding triples
 ones-of t ns i v = map (single-of t ns i v) (transitions t v)
 
 -- the runs of one transition from node i on
 abbrev pub ones-from : Table → List Subset → ℕ → List Subset → List Found
-unfolding triples transitions
+unfolding triples
 ones-from t ns i [] = []
 ones-from t ns i (v ∷ vs) = ones-of t ns i v ++ ones-from t ns (suc i) vs
 

@@ -5,7 +5,8 @@ use mathlib.Core.Path.{_≡_, refl, subst, subst⁻¹}
 use mathlib.Core.Logic.{_↔_}
 use mathlib.Core.Bool.{true}
 use mathlib.Core.List.{List}
-use Prim.Native.Nat.{ℕ, _+_, _*_, _≤_}
+use Prim.Native.Nat.{ℕ, _≤_}
+use Rattle.base.proofs.AskLaws.{Asked, passed, every-outcome}
 use Rattle.formula.specs.Formula.{Formula}
 use Rattle.formula.specs.Table.{Table, table}
 use Rattle.formula.specs.Reading.{Reading, parse}
@@ -18,28 +19,24 @@ use Rattle.theory.proofs.CoreTheorem.{cycle-meets, meets-cycle}
 use Rattle.decision.specs.Verdict.{Verdict, verdict}
 use Rattle.profile.specs.Cycle.{AcceptingCycle}
 use Rattle.decision.specs.Promise.{node-count, profile-count, Witness, Met, Unmet}
-use Rattle.decision.proofs.VerdictLaws.{Asked, Concluded, Capacity, Decided, Answered, verdict-answered}
+use Rattle.decision.specs.Lends.{Lends}
+use Rattle.decision.proofs.VerdictLaws.{Concluded, From11, Decided, Answered, verdict-answered}
 
 abbrev pub lasso : List ℕ → ℕ → Lasso
 lasso letters stem = record { letters = letters; stem = stem }
 
 abbrev pub Says : (bytes : List ℕ) → Verdict → Type 0
-Says bytes (Verdict.unread code place) = parse bytes ≡ Reading.refused code place
+Says bytes (Verdict.unread why) = parse bytes ≡ Reading.refused why
 Says bytes (Verdict.refused code) = Unit {0}
 Says bytes (Verdict.satisfiable stem cycle K P letters) = Met bytes stem cycle K P letters
 Says bytes (Verdict.unsatisfiable K P) = Unmet bytes K P
 
 -- the verdict is MET
 abbrev pub IsMet : Verdict → Type 0
-IsMet (Verdict.unread code place) = ⊥
+IsMet (Verdict.unread why) = ⊥
 IsMet (Verdict.refused code) = ⊥
 IsMet (Verdict.satisfiable stem cycle K P letters) = Unit {0}
 IsMet (Verdict.unsatisfiable K P) = ⊥
-
--- after a question that is answered by yes
-pub after : {Question : Type 0} {code : ℕ} {After : Verdict → Type 0} {o : Verdict} → Asked Question code After o → Question → After o
-after (Asked.passed q a) r = a
-after (Asked.failed n) r = absurd (n r)
 
 pub read-of : {N M workspace buffer : ℕ} {f : Formula} {o : Verdict} → Answered N M workspace buffer (Reading.accepted f) o
     → Decided N M workspace buffer (table f) o
@@ -47,15 +44,18 @@ read-of (Answered.read d) = d
 
 -- nothing is refused
 pub record Unrefused (N M workspace buffer : ℕ) (t : Table) : Type 0 where
-  pub capacity : Capacity N M
-  pub workspace-fits : 8 * N + 192 * M ≤ workspace
-  pub buffer-fits : N + M ≤ buffer
+  pub lends : Lends N M workspace buffer
   pub nodes-fit : node-count t ≤ N
   pub profiles-fit : profile-count t ≤ M
 
+-- past the questions 11 to 13
+pub past-13 : {N M workspace buffer : ℕ} {After : Verdict → Type 0} {o : Verdict} → From11 N M workspace buffer After o
+    → Lends N M workspace buffer → After o
+past-13 d l = passed (passed (passed d (l .capacity)) (l .workspace-fits)) (l .buffer-fits)
+
 fitting : {N M workspace buffer : ℕ} {t : Table} {o : Verdict} → Decided N M workspace buffer t o → Unrefused N M workspace buffer t
     → Concluded t o
-fitting d f = after (after (after (after (after d (f .capacity)) (f .workspace-fits)) (f .buffer-fits)) (f .nodes-fit)) (f .profiles-fit)
+fitting d f = passed (passed (past-13 d (f .lends)) (f .nodes-fit)) (f .profiles-fit)
 
 module _ (bytes : List ℕ) (f : Formula) (reads : parse bytes ≡ Reading.accepted f) where
   pub witness-holds : {stem cycle : ℕ} {letters : List ℕ} → Witness (table f) stem cycle letters → meets (lasso letters stem) f ≡ true
@@ -86,9 +86,8 @@ module _ (bytes : List ℕ) (f : Formula) (reads : parse bytes ≡ Reading.accep
       }
 
   asked-says : {Question : Type 0} {code : ℕ} {After : Verdict → Type 0} → ((o : Verdict) → After o → Says bytes o)
-      → (o : Verdict) → Asked Question code After o → Says bytes o
-  asked-says s o (Asked.passed q a) = s o a
-  asked-says s o (Asked.failed n) = tt
+      → (o : Verdict) → Asked Question (Verdict.refused code) After o → Says bytes o
+  asked-says s = every-outcome (Says bytes) tt (λ q. s)
 
   decided-says : {N M workspace buffer : ℕ} {o : Verdict} → Decided N M workspace buffer (table f) o → Says bytes o
   decided-says {o} d = asked-says (asked-says (asked-says (asked-says (asked-says (λ o c. concluded-says c))))) o d

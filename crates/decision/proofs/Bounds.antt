@@ -8,13 +8,16 @@ use mathlib.Core.List.{List·Memᴰ·append-cases}
 use Prim.Native.Nat.{ℕ, _≤_, _<_}
 use native.Mathlib.Omega.{arith}
 use lib.ListN.{length, length-map}
+use Rattle.base.proofs.AskLaws.{Asked, every-outcome}
 use Rattle.formula.specs.Formula.{Formula}
 use Rattle.formula.specs.Table.{Table}
+use Rattle.formula.specs.Refusal.{code-of, place-of}
 use Rattle.formula.specs.Reading.{Reading, parse}
 use Rattle.formula.proofs.Fuel.{parse-stopped}
 use Rattle.formula.proofs.Early.{parse-early}
 use Rattle.tableau.specs.Saturation.{Subset}
 use Rattle.tableau.specs.Transition.{Transition}
+use Rattle.tableau.proofs.TransitionLaws.{letter-bound}
 use Rattle.tableau.specs.Run.{Along}
 use Rattle.profile.specs.Profiles.{Profile}
 use Rattle.profile.specs.Cycle.{Run}
@@ -22,8 +25,8 @@ use Rattle.decision.specs.Verdict.{Verdict, verdict}
 use Rattle.decision.specs.Promise.{says, node-count, profile-count, Witness, Decided}
 use Rattle.decision.specs.declared.Verdict as code
 use Rattle.decision.specs.declared.Verdict.the-variants.{Satisfiable, Unsatisfiable, Refused, Unread}
-use Rattle.decision.proofs.VerdictLaws.{Asked, Concluded, Capacity, Answered, verdict-answered}
-use Rattle.decision.proofs.StemLaws.{letter-small}
+use Rattle.decision.specs.Lends.{Capacity}
+use Rattle.decision.proofs.VerdictLaws.{Concluded, Answered, verdict-answered}
 
 pub record Sized (N M stem cycle K P : ℕ) : Type 0 where
   pub capacity : Capacity N M
@@ -36,14 +39,13 @@ abbrev pub Bounded : (N M : ℕ) → code.Verdict → Type 0
 Bounded N M (Satisfiable stem cycle K P) = Sized N M stem cycle K P
 Bounded N M (Unsatisfiable K P) = Sized N M 0 0 K P
 Bounded N M (Refused code) = code ≤ 15
-Bounded N M (Unread why) = (why .code ≤ 9) × (why .at ≤ 97)
+Bounded N M (Unread why) = (code-of why ≤ 9) × (place-of why ≤ 97)
 
 module _ {N M : ℕ} where
   asked-bounded : {Question : Type 0} {code : ℕ} {After : Verdict → Type 0} → code ≤ 15
       → (Question → (o : Verdict) → After o → Bounded N M (says o))
-      → (o : Verdict) → Asked Question code After o → Bounded N M (says o)
-  asked-bounded h s o (Asked.passed q a) = s q o a
-  asked-bounded h s o (Asked.failed n) = h
+      → (o : Verdict) → Asked Question (Verdict.refused code) After o → Bounded N M (says o)
+  asked-bounded h s = every-outcome (λ o. Bounded N M (says o)) h s
 
   concluded-bounded : (t : Table) → Capacity N M → node-count t ≤ N → profile-count t ≤ M → (o : Verdict) → Concluded t o
       → Bounded N M (says o)
@@ -61,7 +63,7 @@ module _ {N M : ℕ} where
   answered-bounded : {workspace buffer : ℕ} (bytes : List ℕ) {r : Reading Formula} → parse bytes ≡ r → (o : Verdict)
       → Answered N M workspace buffer r o
       → Bounded N M (says o)
-  answered-bounded bytes e o (Answered.unread {code} {place}) = (parse-stopped bytes code place e .known, parse-early bytes code place e)
+  answered-bounded bytes e o Answered.unread = (parse-stopped bytes e .known, parse-early bytes e)
   answered-bounded bytes e o (Answered.read d) =
       asked-bounded (omega arith)
       (λ c. asked-bounded (omega arith)
@@ -98,11 +100,11 @@ step-small ss s k h = subst⁻¹ Small (map-append letter ss (s ∷ [])) (more-s
 module _ (t : Table) where
   along-small : {v u : Subset} {ss : List Transition} → Along t v ss u → Small (map letter ss)
   along-small Along.stay = λ x i. absurd (List·Memᴰ·not-nil i)
-  along-small (Along.on {u} {ss} {s} a m) = step-small ss s (along-small a) (letter-small t u m)
+  along-small (Along.on {u} {ss} {s} a m) = step-small ss s (along-small a) (letter-bound t u m)
 
   run-small : {p : Profile} {ss : List Transition} → Run t p ss → Small (map letter ss)
-  run-small (Run.one {v} m) = one-small (letter-small t v m)
-  run-small (Run.more {p} {ss} {s} r m) = step-small ss s (run-small r) (letter-small t (p .last) m)
+  run-small (Run.one {v} m) = one-small (letter-bound t v m)
+  run-small (Run.more {p} {ss} {s} r m) = step-small ss s (run-small r) (letter-bound t (p .last) m)
 
 -- the letters of a witness: those before the cycle, and its own
 pub record Parted (stem cycle : ℕ) (letters : List ℕ) : Type 0 where

@@ -7,34 +7,36 @@ use mathlib.Core.Path.{_≡_, refl, subst, subst⁻¹}
 use mathlib.Core.Logic.{_↔_}
 use mathlib.Core.Bool.{true}
 use mathlib.Core.List.{List}
-use Prim.Native.Nat.{ℕ, _+_, _*_, _≤_, _<_}
+use Prim.Native.Nat.{ℕ, _≤_, _<_}
 use native.Mathlib.Omega.{arith}
+use Rattle.base.proofs.AskLaws.{Asked, first-refusal, passed, settled}
 use Rattle.formula.specs.Formula.{Formula}
 use Rattle.formula.specs.Table.{Table, table}
 use Rattle.formula.specs.Reading.{Reading, parse}
 use Rattle.lasso.specs.Lasso.{Lasso, meets}
 use Rattle.decision.specs.Verdict.{Verdict, verdict}
 use Rattle.decision.specs.Promise.{node-count, profile-count, Witness}
-use Rattle.decision.proofs.VerdictLaws.{Asked, Concluded, Capacity, Answered, verdict-answered}
-use Rattle.decision.proofs.Answer.{lasso, after, read-of, witness-holds, no-lasso}
+use Rattle.decision.specs.Lends.{Lends}
+use Rattle.decision.proofs.VerdictLaws.{Concluded, From14, Answered, verdict-answered}
+use Rattle.decision.proofs.Answer.{lasso, past-13, read-of, witness-holds, no-lasso}
 
 -- the verdict is no refusal
 abbrev pub IsAnswer : Verdict → Type 0
-IsAnswer (Verdict.unread code place) = ⊥
+IsAnswer (Verdict.unread why) = ⊥
 IsAnswer (Verdict.refused code) = ⊥
 IsAnswer (Verdict.satisfiable stem cycle K P letters) = Unit {0}
 IsAnswer (Verdict.unsatisfiable K P) = Unit {0}
 
 -- the verdict is NOT
 abbrev pub IsNot : Verdict → Type 0
-IsNot (Verdict.unread code place) = ⊥
+IsNot (Verdict.unread why) = ⊥
 IsNot (Verdict.refused code) = ⊥
 IsNot (Verdict.satisfiable stem cycle K P letters) = ⊥
 IsNot (Verdict.unsatisfiable K P) = Unit {0}
 
 -- the verdict is no refusal from 1 to 13
 abbrev pub Past13 : Verdict → Type 0
-Past13 (Verdict.unread code place) = ⊥
+Past13 (Verdict.unread why) = ⊥
 Past13 (Verdict.refused code) = 14 ≤ code
 Past13 (Verdict.satisfiable stem cycle K P letters) = Unit {0}
 Past13 (Verdict.unsatisfiable K P) = Unit {0}
@@ -42,9 +44,7 @@ Past13 (Verdict.unsatisfiable K P) = Unit {0}
 -- The questions 1 to 13 are answered by yes: the bytes are a formula, the capacities are in range, both areas are large enough.
 pub record Granted (N M workspace buffer : ℕ) (bytes : List ℕ) (f : Formula) : Type 0 where
   pub reads : parse bytes ≡ Reading.accepted f
-  pub capacity : Capacity N M
-  pub workspace-fits : 8 * N + 192 * M ≤ workspace
-  pub buffer-fits : N + M ≤ buffer
+  pub lends : Lends N M workspace buffer
 
 -- no lasso meets a formula, of whatever length
 abbrev pub NoLasso : Formula → Type 0
@@ -61,20 +61,16 @@ pub record Short (f : Formula) (o : Verdict) : Type 0 where
   pub witness : Witness (table f) stem cycle letters
 
 -- the questions from 14 on
-abbrev From14 : (N M : ℕ) → Table → Verdict → Type 0
-From14 N M t = Asked (node-count t ≤ N) 14 (Asked (profile-count t ≤ M) 15 (Concluded t))
+abbrev Searched : (N M : ℕ) → Table → Verdict → Type 0
+Searched N M t = From14 N M t (Concluded t)
 
 -- a question before 14 was answered by yes
-yes-before : {Question : Type 0} {code : ℕ} {After : Verdict → Type 0} {o : Verdict} → Asked Question code After o → code < 14 → Past13 o
-    → Question × After o
-yes-before (Asked.passed q a) l p = (q, a)
-yes-before (Asked.failed n) l p = absurd (omega arith)
-
--- a question that is answered by no ends in its refusal
-stopped : {Question : Type 0} {code : ℕ} {After : Verdict → Type 0} {o : Verdict} → Asked Question code After o → (Question → ⊥)
-    → o ≡ Verdict.refused code
-stopped (Asked.passed q a) n = absurd (n q)
-stopped (Asked.failed m) n = refl
+yes-before : {Question : Type 0} {code : ℕ} {After : Verdict → Type 0} {o : Verdict} → Asked Question (Verdict.refused code) After o
+    → code < 14 → Past13 o → Question × After o
+yes-before a l p = settled a (λ e. before l (subst Past13 e p))
+  where
+    before : {code : ℕ} → code < 14 → 14 ≤ code → ⊥
+    before l k = omega arith
 
 not-refused : {t : Table} {o : Verdict} (code : ℕ) → Concluded t o → o ≡ Verdict.refused code → ⊥
 not-refused code (Concluded.met w) e = let z : _≡_ {A = ℕ} 0 1 = cc in omega arith
@@ -83,32 +79,32 @@ not-refused code (Concluded.unmet n) e = let z : _≡_ {A = ℕ} 0 1 = cc in ome
 same-code : {a b : ℕ} → Verdict.refused a ≡ Verdict.refused b → a ≡ b
 same-code e = cc
 
-only-14 : {N M : ℕ} {t : Table} {o : Verdict} → From14 N M t o → o ≡ Verdict.refused 14 → N < node-count t
-only-14 (Asked.failed n) e = omega arith
-only-14 (Asked.passed q (Asked.failed n)) e = absurd (omega (arith, same-code e))
-only-14 (Asked.passed q (Asked.passed r c)) e = absurd (not-refused 14 c e)
+only-14 : {N M : ℕ} {t : Table} {o : Verdict} → Searched N M t o → o ≡ Verdict.refused 14 → N < node-count t
+only-14 (Asked.answered-no n) e = omega arith
+only-14 (Asked.answered-yes q (Asked.answered-no n)) e = absurd (omega (arith, same-code e))
+only-14 (Asked.answered-yes q (Asked.answered-yes r c)) e = absurd (not-refused 14 c e)
 
-only-15 : {N M : ℕ} {t : Table} {o : Verdict} → From14 N M t o → o ≡ Verdict.refused 15 → (node-count t ≤ N) × (M < profile-count t)
-only-15 (Asked.failed n) e = absurd (omega (arith, same-code e))
-only-15 (Asked.passed q (Asked.failed n)) e = (q, omega arith)
-only-15 (Asked.passed q (Asked.passed r c)) e = absurd (not-refused 15 c e)
+only-15 : {N M : ℕ} {t : Table} {o : Verdict} → Searched N M t o → o ≡ Verdict.refused 15 → (node-count t ≤ N) × (M < profile-count t)
+only-15 (Asked.answered-no n) e = absurd (omega (arith, same-code e))
+only-15 (Asked.answered-yes q (Asked.answered-no n)) e = (q, omega arith)
+only-15 (Asked.answered-yes q (Asked.answered-yes r c)) e = absurd (not-refused 15 c e)
 
-past-14 : {N M : ℕ} {t : Table} {o : Verdict} → From14 N M t o → Past13 o
-past-14 (Asked.failed n) = omega arith
-past-14 (Asked.passed q (Asked.failed n)) = omega arith
-past-14 (Asked.passed q (Asked.passed r (Concluded.met w))) = tt
-past-14 (Asked.passed q (Asked.passed r (Concluded.unmet n))) = tt
+past-14 : {N M : ℕ} {t : Table} {o : Verdict} → Searched N M t o → Past13 o
+past-14 (Asked.answered-no n) = omega arith
+past-14 (Asked.answered-yes q (Asked.answered-no n)) = omega arith
+past-14 (Asked.answered-yes q (Asked.answered-yes r (Concluded.met w))) = tt
+past-14 (Asked.answered-yes q (Asked.answered-yes r (Concluded.unmet n))) = tt
 
 answer-past : (o : Verdict) → IsAnswer o → Past13 o
-answer-past (Verdict.unread code place) h = h
+answer-past (Verdict.unread why) h = h
 answer-past (Verdict.refused code) h = absurd h
 answer-past (Verdict.satisfiable stem cycle K P letters) h = tt
 answer-past (Verdict.unsatisfiable K P) h = tt
 
-answer-concluded : {N M : ℕ} {t : Table} {o : Verdict} → From14 N M t o → IsAnswer o → Concluded t o
-answer-concluded (Asked.failed n) h = absurd h
-answer-concluded (Asked.passed q (Asked.failed n)) h = absurd h
-answer-concluded (Asked.passed q (Asked.passed r c)) h = c
+answer-concluded : {N M : ℕ} {t : Table} {o : Verdict} → Searched N M t o → IsAnswer o → Concluded t o
+answer-concluded (Asked.answered-no n) h = absurd h
+answer-concluded (Asked.answered-yes q (Asked.answered-no n)) h = absurd h
+answer-concluded (Asked.answered-yes q (Asked.answered-yes r c)) h = c
 
 module _ (N M workspace buffer : ℕ) (bytes : List ℕ) where
   abbrev given : Verdict
@@ -120,13 +116,14 @@ module _ (N M workspace buffer : ℕ) (bytes : List ℕ) where
   answered-granted e (Answered.read {f} d) p =
       let (c, d12) = yes-before d (omega arith) p in
       let (w, d13) = yes-before d12 (omega arith) p in
-      (f, record { reads = e; capacity = c; workspace-fits = w; buffer-fits = yes-before d13 (omega arith) p .0 })
+      let (b, d14) = yes-before d13 (omega arith) p in
+      (f, record { reads = e; lends = record { capacity = c; workspace-fits = w; buffer-fits = b } })
 
-  from-14 : {f : Formula} → Granted N M workspace buffer bytes f → From14 N M (table f) given
+  from-14 : {f : Formula} → Granted N M workspace buffer bytes f → Searched N M (table f) given
   from-14 {f} g =
       let a = verdict-answered N M workspace buffer bytes in
       let d = read-of (subst (λ (r : Reading Formula). Answered N M workspace buffer r given) (g .reads) a) in
-      after (after (after d (g .capacity)) (g .workspace-fits)) (g .buffer-fits)
+      past-13 d (g .lends)
 
   -- Theorem: nothing of 1 to 13 refuses exactly if the bytes are a formula and the capacities and the areas are as asked.
   pub granted-exactly : Past13 (verdict N M workspace buffer bytes) ↔ ((f : Formula) × Granted N M workspace buffer bytes f)
@@ -149,7 +146,7 @@ module _ (N M workspace buffer : ℕ) (bytes : List ℕ) where
       ↔ ((f : Formula) × Granted N M workspace buffer bytes f × (N < node-count (table f)))
   refused-14-exactly = (
     λ e. let (f, g) = granted-exactly .0 (subst⁻¹ Past13 e (omega arith)) in (f, g, only-14 (from-14 g) e),
-    λ h. stopped (from-14 (h .1)) (λ k. omega (arith, h .2)),
+    λ h. first-refusal (from-14 (h .1)) (λ k. omega (arith, h .2)),
   )
 
   -- Theorem: the verdict is 15 exactly if nothing of 1 to 13 refuses, K is at most N, and P is above M.
@@ -160,14 +157,14 @@ module _ (N M workspace buffer : ℕ) (bytes : List ℕ) where
         let (f, g) = granted-exactly .0 (subst⁻¹ Past13 e (omega arith)) in
         let (k, p) = only-15 (from-14 g) e in
         (f, g, k, p),
-    λ h. stopped (after (from-14 (h .1)) (h .2)) (λ k. omega (arith, h .3)),
+    λ h. first-refusal (passed (from-14 (h .1)) (h .2)) (λ k. omega (arith, h .3)),
   )
 
   -- Theorem: where nothing of 1 to 13 refuses, K is at most N, P at most M, and some lasso meets the formula, the verdict is MET, and the
   -- witness is short.
   pub met-short : (f : Formula) → Granted N M workspace buffer bytes f → node-count (table f) ≤ N → profile-count (table f) ≤ M
       → (c : Lasso) → meets c f ≡ true → Short f (verdict N M workspace buffer bytes)
-  met-short f g k p c m = by (after (after (from-14 g) k) p)
+  met-short f g k p c m = by (passed (passed (from-14 g) k) p)
     where
       by : {o : Verdict} → Concluded (table f) o → Short f o
       by (Concluded.met {stem} {cycle} {letters} w) =

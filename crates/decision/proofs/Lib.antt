@@ -1,5 +1,6 @@
 pub mod Cases
 pub mod WitnessLaws
+pub mod LendsLaws
 pub mod VerdictLaws
 pub mod Answer
 pub mod ChainLaws

@@ -32,8 +32,10 @@ use Rattle.runs.specs.declared.Shelf.{Shelf}
 use Rattle.coded.proofs.SpreadLaws.{spread-length}
 use Rattle.runs.proofs.GrowLaws.{grown-longer, grown-on}
 use Rattle.runs.proofs.SingleLaws.{nodes-in-are, node-sets}
+use Rattle.decision.specs.Verdict.{workspace-size}
+use Rattle.decision.specs.Lends.{Lends}
 use Rattle.decision.specs.Promise.{node-count, profile-count}
-use Rattle.decision.specs.Searched.{Decoded, Profiled, Answers, concluded, Within, Searched, Lends}
+use Rattle.decision.specs.Searched.{Decoded, Profiled, Answers, concluded, Within, Searched}
 use Rattle.decision.specs.declared.Verdict as code
 use Rattle.decision.specs.declared.Verdict.the-variants.{Refused}
 use Rattle.decision.proofs.SettleLaws.{searched-14, searched-15, searched-on}
@@ -148,9 +150,9 @@ module _ {rows : List ℕ} {count N M buffer : ℕ} {a area : List ℕ} {known :
   on-shelf x e =
       record {
         next = omega (arith, b .nexts-are, b .ranks .nexts-are, limited .few-nexts);
-        low = omega (arith, b .base-is, b .lends .few-nodes);
-        some = omega (arith, b .capacity-is, b .lends .some-profiles);
-        few = omega (arith, b .capacity-is, b .lends .few-profiles);
+        low = omega (arith, b .base-is, b .lends .capacity .few-nodes);
+        some = omega (arith, b .capacity-is, b .lends .capacity .some-profiles);
+        few = omega (arith, b .capacity-is, b .lends .capacity .few-profiles);
         enough = omega (arith, b .base-is, ap (λ (k : ℕ). 192 * k) (b .capacity-is), b .lends .workspace-fits, e);
       }
 
@@ -162,7 +164,7 @@ module _ {rows : List ℕ} {count N M buffer : ℕ} {a area : List ℕ} {known :
         lent = on-shelf area same-length;
         nexts = b .nexts-are;
         some = omega (arith, known-is, ap length (nodes-first table′));
-        few = omega (arith, b .fits, b .lends .few-nodes);
+        few = omega (arith, b .fits, b .lends .capacity .few-nodes);
         behind = omega (arith, b .fits, b .base-is);
         sets = λ i h. node-sets sized kept i (omega (arith, known-length));
       }
@@ -184,7 +186,7 @@ module _ {rows : List ℕ} {count N M buffer : ℕ} {a area : List ℕ} {known :
         → Agrees u (profiles fuel u (sets (nodes u))) (literal.profiles u (nodes u)))
         (b .decoded .is) (agrees (b .decoded .bytes) (b .decoded .formula) (b .decoded .parsed) fuel) (omega arith) .count
 
-    all-within : Within (8 * N + 192 * M) a after
+    all-within : Within (workspace-size N M) a after
     all-within =
         within-of (grown .elsewhere .same-length ∙ same-length)
         (λ i h.
@@ -209,7 +211,7 @@ module _ {rows : List ℕ} {count N M buffer : ℕ} {a area : List ℕ} {known :
             standing =
                 record {
                   formed = limited .formed;
-                  few = omega (arith, known-is, b .fits, b .lends .few-nodes);
+                  few = omega (arith, known-is, b .fits, b .lends .capacity .few-nodes);
                   room = omega (arith, known-is, b .fits, b .lends .workspace-fits, grown .elsewhere .same-length, same-length);
                   words = λ i l.
                       kept-at (kept-same kept after

@@ -3,25 +3,22 @@
 -- earlier number, and the first node that leads to j is not farther than that one. The letters of a stem to it and then the
 -- transition's are the letters of a stem to j. Assumes nothing.
 use mathlib.Core.Path.{_≡_, refl, sym, ap, subst, subst⁻¹, _∙_}
-use mathlib.Core.Bool.{true}
 use mathlib.Core.List.{List, [], _∷_, _++_, map, map-append, List·Memᴰ}
 use Prim.Native.Nat.{ℕ, suc, _+_, _%_, _≤_, _<_}
 use native.Mathlib.Omega.{arith}
 use native.Mathlib.Nat.{mod-eq-of-lt}
 use native.Mathlib.Decide.{decLt}
 use lib.ListN.{length, length-append, length-map, set}
-use Rattle.base.specs.Lists.{gather, member, numbers}
 use Rattle.base.specs.Search.{Item}
 use Rattle.base.proofs.At.{At, at-get, at-in, in-at, at-of, at-one, at-map}
-use Rattle.base.proofs.WordLaws.{word-lt}
 use Rattle.base.proofs.SearchLaws.{Distinct}
 use Rattle.base.proofs.SearchOrder.{Sorted}
 use Rattle.formula.specs.Table.{Table}
-use Rattle.tableau.specs.Saturation.{Subset, saturate}
-use Rattle.tableau.specs.Transition.{operators-in, requires, letter-of, Transition, transitions}
+use Rattle.tableau.specs.Saturation.{Subset}
+use Rattle.tableau.specs.Transition.{Transition, transitions}
 use Rattle.tableau.specs.Nodes.{root, nodes}
 use Rattle.tableau.specs.Run.{Along}
-use Rattle.tableau.proofs.TransitionLaws.{transition-is}
+use Rattle.tableau.proofs.TransitionLaws.{letter-bound}
 use Rattle.tableau.proofs.NodeLaws.{way-length, reachable-length, nodes-along, nodes-distinct, nodes-sorted, nodes-near, nodes-short}
 use Rattle.tableau.proofs.NodeLaws.{nodes-first}
 use Rattle.decision.specs.Verdict.{stem-to}
@@ -53,14 +50,6 @@ last-step : {t : Table} {v : Subset} {ss : List Transition} → Along t (root t)
     (length ss ≡ length rs + 1)
 last-step Along.stay n = absurd (n refl)
 last-step (Along.on {u} {ss} {s} a m) n = (u, ss, s, a, m, refl, length-append ss (s ∷ []))
-
--- a letter has sixteen bits
-pub letter-small : (t : Table) (v : Subset) {s : Transition} → List·Memᴰ s (transitions t v) → s .letter < 65536
-unfolding letter-of
-letter-small t v {s} m =
-    let os = operators-in t (saturate t (s .choice) v) in
-    subst⁻¹ (λ (x : Transition). x .letter < 65536) (transition-is t v s m)
-    (word-lt (map (λ (j : ℕ). member j (gather (requires true) os)) (numbers 0 16)))
 
 module _ (t : Table) where
   -- the item of a node's number
@@ -136,7 +125,7 @@ module _ (t : Table) where
           step = m;
           leads = e;
           letter-is = refl;
-          small = letter-small t (node-at t i) m;
+          small = letter-bound t (node-at t i) m;
           closer = omega (arith, distance-of a, distance-of b);
         }
 

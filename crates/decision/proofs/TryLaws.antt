@@ -2,55 +2,30 @@
 -- choice words one after another give all transitions of a node (`tries-some`, `tries-end`); and the nodes one after another the first
 -- that leads to node j (`comes-none`, `comes-next`, `comes-found`). Assumes nothing.
 use mathlib.Core.Path.{_≡_, refl, sym, ap, subst, subst⁻¹, _∙_}
-use mathlib.Core.Bool.{Bool, true, false, cond, _&&_}
-use mathlib.Core.List.{List, [], _∷_, List·Memᴰ, List·Memᴰ·head, List·Memᴰ·not-nil, List·Memᴰ·cases-cons, List·Memᴰ·eq-of-singleton}
-use mathlib.Core.List.{Memᴰ·map, Memᴰ·of-map}
-use mathlib.Core.Logic.{inl, inr}
-use Prim.Native.Nat.{ℕ, zero, suc, _+_, _*_, _^_, _≤_, _<_}
+use mathlib.Core.List.{List, List·Memᴰ, List·Memᴰ·head, List·Memᴰ·not-nil, List·Memᴰ·eq-of-singleton}
+use Prim.Native.Nat.{ℕ, _+_, _*_, _^_, _≤_, _<_}
 use native.Mathlib.Omega.{arith}
 use native.Mathlib.Decide.{decLt}
-use lib.ListN.{length, length-map}
-use Rattle.base.specs.Lists.{gather, numbers}
+use lib.ListN.{length}
 use Rattle.base.specs.Bits.{word}
-use Rattle.base.proofs.MemberLaws.{gather-of, gather-in, numbers-in}
-use Rattle.base.proofs.Inside.{inside-length}
 use Rattle.base.proofs.WordLaws.{word-inj}
-use Rattle.formula.specs.Table.{Operator, Table}
-use Rattle.tableau.specs.Saturation.{Subset, nothing, saturate}
-use Rattle.tableau.specs.Transition.{operators-in, within, possible, letter-of, next-of, ors, choice-of, choices, Transition}
-use Rattle.tableau.specs.Transition.{transition-of, by-word, transitions}
-use Rattle.tableau.specs.Promise.{table-of, step, Stepped-by}
+use Rattle.formula.specs.Table.{Table}
+use Rattle.tableau.specs.Saturation.{Subset, saturate}
+use Rattle.tableau.specs.Transition.{ors, choice-of, Transition}
+use Rattle.tableau.specs.Transition.{by-word, transitions}
+use Rattle.tableau.specs.Promise.{table-of, Stepped-by}
 use Rattle.tableau.specs.Area.{eight}
 use Rattle.tableau.specs.declared.NodeNumber.{NodeNumber}
 use Rattle.tableau.specs.declared.Step.{Step}
 use Rattle.tableau.specs.declared.Step.the-variants.{Leads, Nothing}
-use Rattle.tableau.proofs.SaturationLaws.{add-inside}
-use Rattle.tableau.proofs.TransitionLaws.{transition-with}
-use Rattle.tableau.proofs.StepLaws.{step-nowhere}
+use Rattle.tableau.proofs.TransitionLaws.{transition-with, to-length, word-of, word-in}
+use Rattle.tableau.proofs.StepLaws.{step-nowhere, Found, a-step}
 use Rattle.tableau.proofs.LoopLaws.{table-length}
 use Rattle.decision.specs.Promise.{node-count}
 use Rattle.decision.specs.Stem.{node-at, Standing, Tried, Tries, Nearer, Comes}
 use Rattle.decision.specs.declared.Came.{Came}
 use Rattle.decision.specs.declared.Came.the-variants.{From, Nowhere}
 use Rattle.decision.proofs.StemLaws.{None-to, some-before, first-nearer, node-length}
-
--- one transition, if a test holds
-one-found : (b : Bool) (x : Transition) (from : NodeNumber) (u : Subset) (to p : ℕ) → to ≡ word u → length (x .to) ≡ length u
-    → Leads to p ≡ step (cond b (x ∷ []) [])
-    → Tried (cond b (x ∷ []) []) from u (From from p)
-one-found true x from u to p h l e =
-    let a : to ≡ word (x .to) = cc in
-    let q : p ≡ x .letter = cc in
-    subst⁻¹ (λ (n : ℕ). Tried (x ∷ []) from u (From from n)) q (Tried.found (List·Memᴰ·head refl) (word-inj (x .to) u l (sym a ∙ h)))
-one-found false x from u to p h l e = absurd (let z : _≡_ {A = ℕ} 0 1 = cc in omega arith)
-
-one-other : (b : Bool) (x : Transition) (from : NodeNumber) (u : Subset) (to p : ℕ) → (to ≡ word u → ⊥)
-    → Leads to p ≡ step (cond b (x ∷ []) [])
-    → Tried (cond b (x ∷ []) []) from u Nowhere
-one-other true x from u to p n e =
-    let a : to ≡ word (x .to) = cc in
-    Tried.none (λ s m q. n (a ∙ ap (λ (y : Transition). word (y .to)) (sym (List·Memᴰ·eq-of-singleton m)) ∙ ap word q))
-one-other false x from u to p n e = Tried.none (λ s m q. List·Memᴰ·not-nil m)
 
 -- the answer under the choice word x
 module _ {rows : List ℕ} {count x from : ℕ} (number : NodeNumber) (set : ℕ) {r : Step} (st : Stepped-by rows count x from r) where
@@ -60,38 +35,36 @@ module _ {rows : List ℕ} {count x from : ℕ} (number : NodeNumber) (set : ℕ
   abbrev w : Subset
   w = choice-of t x
 
-  abbrev os : Subset → List Operator
-  os v = operators-in t (saturate t w v)
-
   pub tries-nowhere : r ≡ Nothing → Tries (by-word t x) count number from set Nowhere
   tries-nowhere e = record {
     is = λ v u l k p q. Tried.none (λ s m d. List·Memᴰ·not-nil (subst (List·Memᴰ s) (step-nowhere st e .is v l p) m));
   }
 
+  -- the transition that the step has found from node v
+  module _ {to letter : ℕ} (e : r ≡ Leads to letter) (v : Subset) (l : length v ≡ count) (p : from ≡ word v) where
+    abbrev y : Transition
+    y = transition-with t w (saturate t w v)
+
+    one : Found t w (saturate t w v) to letter
+    one = a-step t w (saturate t w v) (sym e ∙ st .is v l p)
+
+    found-one : (u : Subset) → length u ≡ count → to ≡ word u → Tried (by-word t x v) number u (From number letter)
+    found-one u k h =
+        subst⁻¹ (λ (n : ℕ). Tried (by-word t x v) number u (From number n)) (one .letter-is)
+        (Tried.found (subst⁻¹ (List·Memᴰ y) (one .exists) (List·Memᴰ·head refl))
+        (word-inj (y .to) u (to-length t w (saturate t w v) ∙ table-length rows count ∙ sym k) (sym (one .to-is) ∙ h)))
+
+    other-one : (u : Subset) → (to ≡ word u → ⊥) → Tried (by-word t x v) number u Nowhere
+    other-one u n =
+        Tried.none
+        (λ s m q. n (one .to-is
+        ∙ ap (λ (z : Transition). word (z .to)) (sym (List·Memᴰ·eq-of-singleton (subst (List·Memᴰ s) (one .exists) m))) ∙ ap word q))
+
   pub tries-found : {to letter : ℕ} → r ≡ Leads to letter → to ≡ set → Tries (by-word t x) count number from set (From number letter)
-  unfolding possible letter-of
-  tries-found {to} {letter} e h =
-      record {
-        is = λ v u l k p q.
-            one-found (within w (saturate t w v) && possible (os v)) (transition-with t w (saturate t w v)) number u to letter (h ∙ q)
-            (sym (inside-length (add-inside (gather next-of (os v)) (nothing t))) ∙ length-map t (λ _. false) ∙ table-length rows count
-            ∙ sym k)
-            (sym e ∙ st .is v l p);
-      }
+  tries-found e h = record { is = λ v u l k p q. found-one e v l p u k (h ∙ q) }
 
   pub tries-other : {to letter : ℕ} → r ≡ Leads to letter → (to ≡ set → ⊥) → Tries (by-word t x) count number from set Nowhere
-  unfolding possible letter-of
-  tries-other {to} {letter} e n =
-      record {
-        is = λ v u l k p q.
-            one-other (within w (saturate t w v) && possible (os v)) (transition-with t w (saturate t w v)) number u to letter
-            (λ h. n (h ∙ sym q))
-            (sym e ∙ st .is v l p);
-      }
-
-numbers-lt : (k n : ℕ) {x : ℕ} → List·Memᴰ x (numbers k n) → x < k + n
-numbers-lt k zero m = absurd (List·Memᴰ·not-nil m)
-numbers-lt k (suc n) m = elim (List·Memᴰ·cases-cons m) [ inl e ↦ omega arith | inr r ↦ omega (arith, numbers-lt (suc k) n r) ]
+  tries-other e n = record { is = λ v u l k p q. other-one e v l p u (λ h. n (h ∙ sym q)) }
 
 untried : {ss : List Transition} {from : NodeNumber} {u : Subset} → Tried ss from u Nowhere → (s : Transition) → List·Memᴰ s ss
     → s .to ≡ u → ⊥
@@ -123,29 +96,20 @@ module _ (t : Table) (count : ℕ) (number : NodeNumber) (from set : ℕ) where
     -- Theorem: what one choice word finds is found.
     pub tries-some : (n : ℕ) → n < end → {r : Came} (a : NodeNumber) (p : ℕ) → r ≡ From a p → Tries (by-word t n) count number from set r
         → Tries (transitions t) count number from set r
-    unfolding transitions
     tries-some n h a p e f =
         record {
-          is = λ v u l k b c.
-              tried-more a p e
-              (λ s m.
-              gather-in (λ (w : Subset). transition-of t w (saturate t w v))
-              (Memᴰ·map (choice-of t) (numbers-in 0 (2 ^ ors t) n (omega arith) (omega (arith, all-words)))) m)
-              (f .is v u l k b c);
+          is = λ v u l k b c. tried-more a p e (λ s m. word-in t v n (omega (arith, all-words)) m) (f .is v u l k b c);
         }
 
     -- Theorem: where no choice word finds anything, nothing is to be found.
     pub tries-end : (n : ℕ) → end ≤ n → None-by n → Tries (transitions t) count number from set Nowhere
-    unfolding transitions
     tries-end n h f =
         record {
           is = λ v u l k b c.
               Tried.none
               (λ s m q.
-              let (w, o, d) = gather-of (λ (w : Subset). transition-of t w (saturate t w v)) (choices t) m in
-              let (x, i, e) = Memᴰ·of-map (choice-of t) (numbers 0 (2 ^ ors t)) o in
-              untried (f x (omega (arith, all-words, numbers-lt 0 (2 ^ ors t) i)) .is v u l k b c) s
-              (subst⁻¹ (λ (w : Subset). List·Memᴰ s (transition-of t w (saturate t w v))) e d) q);
+              let (x, i, d) = word-of t v m in
+              untried (f x (omega (arith, all-words)) .is v u l k b c) s d q);
         }
 
 -- The nodes one after another.

@@ -2,34 +2,32 @@
 -- witness, or NOT where there is no accepting cycle, with K and P. `Answered` is the list of questions as a relation, without search and
 -- fuel. The verdict's definition meets it (`verdict-answered`), and it leaves nothing open but the witness's letters
 -- (`answered-settled`). Assumes nothing.
-use mathlib.Core.Path.{_≡_, refl, sym, _∙_}
-use mathlib.Core.Bool.{Bool, cond, _&&_}
+use mathlib.Core.Path.{_≡_, refl, sym, ap, _∙_}
 use mathlib.Core.Option.{Option, none, some}
 use mathlib.Core.List.{List, []}
-use Prim.Native.Nat.{ℕ, _+_, _*_, _≤_}
+use Prim.Native.Nat.{ℕ, _≤_}
 use native.Mathlib.Omega.{arith}
-use lib.Dec.{T, leb, leb→le, le→leb}
 use lib.ListN.{length}
 use Rattle.base.specs.Lists.{first}
 use Rattle.base.specs.Search.{Item}
-use Rattle.base.proofs.BoolLaws.{by-test, and-left, and-right, and-both}
+use Rattle.base.proofs.AskLaws.{Asked, asked, asked-le, first-refusal, passed}
 use Rattle.formula.specs.Formula.{Formula}
 use Rattle.formula.specs.Table.{Table, table}
 use Rattle.formula.specs.Reading.{Reading, parse}
+use Rattle.formula.specs.declared.Refusal.{Refusal}
 use Rattle.tableau.specs.Saturation.{Subset}
 use Rattle.tableau.specs.Transition.{Transition}
 use Rattle.tableau.specs.Nodes.{nodes}
 use Rattle.profile.specs.Profiles.{Profile, profiles, accepting}
 use Rattle.profile.proofs.RootLaws.{root-apart}
-use Rattle.decision.specs.Verdict.{Verdict, conclude, decide, between, after-reading, verdict}
+use Rattle.decision.specs.Verdict.{Verdict, conclude, decide, within-capacity, workspace-size, witness-size}
+use Rattle.decision.specs.Verdict.{lent, after-reading, verdict}
+use Rattle.decision.specs.Lends.{Capacity}
 use Rattle.profile.specs.Cycle.{AcceptingCycle}
 use Rattle.decision.specs.Promise.{node-count, profile-count, Witness}
+use Rattle.decision.specs.Searched.{concluded}
+use Rattle.decision.proofs.LendsLaws.{capacity-of, capacity-in}
 use Rattle.decision.proofs.WitnessLaws.{no-cycle, first-witness}
-
--- a question: if it is answered by no, the refusal, else what comes after it
-pub data Asked (Question : Type 0) (code : ℕ) (After : Verdict → Type 0) : Verdict → Type 0 where
-  passed : {o : Verdict} → Question → After o → Asked Question code After o
-  failed : (Question → ⊥) → Asked Question code After (Verdict.refused code)
 
 -- MEANING 5.3
 pub data Concluded (t : Table) : Verdict → Type 0 where
@@ -38,73 +36,58 @@ pub data Concluded (t : Table) : Verdict → Type 0 where
   unmet : ((v : Subset) (ss : List Transition) → AcceptingCycle t v ss → ⊥)
       → Concluded t (Verdict.unsatisfiable (node-count t) (profile-count t))
 
--- question 11
-pub record Capacity (N M : ℕ) : Type 0 where
-  pub some-nodes : 1 ≤ N
-  pub nodes-fit : N ≤ 1024
-  pub some-profiles : 1 ≤ M
-  pub profiles-fit : M ≤ 4096
+-- the questions 11 to 13 in their order, and then what comes after
+abbrev pub From11 : (N M workspace buffer : ℕ) → (Verdict → Type 0) → Verdict → Type 0
+From11 N M workspace buffer After =
+    Asked (Capacity N M) (Verdict.refused 11)
+    (Asked (workspace-size N M ≤ workspace) (Verdict.refused 12)
+    (Asked (witness-size N M ≤ buffer) (Verdict.refused 13)
+    After))
 
--- the questions 11 to 15 in their order
+-- the questions 14 and 15, and then what comes after
+abbrev pub From14 : (N M : ℕ) → Table → (Verdict → Type 0) → Verdict → Type 0
+From14 N M t After =
+    Asked (node-count t ≤ N) (Verdict.refused 14)
+    (Asked (profile-count t ≤ M) (Verdict.refused 15)
+    After)
+
+-- all of them
 abbrev pub Decided : (N M workspace buffer : ℕ) → Table → Verdict → Type 0
-Decided N M workspace buffer t =
-    Asked (Capacity N M) 11
-    (Asked (8 * N + 192 * M ≤ workspace) 12
-    (Asked (N + M ≤ buffer) 13
-    (Asked (node-count t ≤ N) 14
-    (Asked (profile-count t ≤ M) 15
-    (Concluded t)))))
+Decided N M workspace buffer t = From11 N M workspace buffer (From14 N M t (Concluded t))
 
 -- a refusal of reading is passed on
 pub data Answered (N M workspace buffer : ℕ) : Reading Formula → Verdict → Type 0 where
-  unread : {code place : ℕ} → Answered N M workspace buffer (Reading.refused code place) (Verdict.unread code place)
+  unread : {why : Refusal} → Answered N M workspace buffer (Reading.refused why) (Verdict.unread why)
   read : {f : Formula} {o : Verdict} → Decided N M workspace buffer (table f) o → Answered N M workspace buffer (Reading.accepted f) o
 
--- A test that answers the question.
-module _ {Question : Type 0} (code : ℕ) (After : Verdict → Type 0) (o : Verdict) where
-  asked : (b : Bool) → (T b → Question) → (Question → T b) → After o → Asked Question code After (cond b o (Verdict.refused code))
-  asked b f g a = by-test b (λ b. Asked Question code After (cond b o (Verdict.refused code))) (λ h. passed (f h) a)
-      (λ h. failed (λ q. h (g q)))
+-- the definitions ask these questions
+pub lent-asked : (N M workspace buffer : ℕ) (t : Table) {After : Verdict → Type 0} → After (decide N M t)
+    → From11 N M workspace buffer After (lent N M workspace buffer t)
+unfolding decide
+lent-asked N M workspace buffer t a =
+    asked _ (within-capacity N M) (capacity-of N M) (capacity-in N M)
+    (asked-le (workspace-size N M) workspace _
+    (asked-le (witness-size N M) buffer (decide N M t)
+    a))
 
-asked-le : (m n code : ℕ) (After : Verdict → Type 0) (o : Verdict) → After o
-    → Asked (m ≤ n) code After (cond (leb m n) o (Verdict.refused code))
-asked-le m n code After o = asked code After o (leb m n) (leb→le m n) (le→leb m n)
+pub decide-asked : (N M : ℕ) (t : Table) {After : Verdict → Type 0} → After (concluded t) → From14 N M t After (decide N M t)
+unfolding decide
+decide-asked N M t a =
+    asked-le (node-count t) N _
+    (asked-le (profile-count t) M (concluded t)
+    a)
 
-pub capacity-of : (N M : ℕ) → T (between 1 1024 N && between 1 4096 M) → Capacity N M
-capacity-of N M h =
-    let p = and-left (between 1 1024 N) (between 1 4096 M) h in
-    let q = and-right (between 1 1024 N) (between 1 4096 M) h in
-    record {
-      some-nodes = leb→le 1 N (and-left (leb 1 N) (leb N 1024) p);
-      nodes-fit = leb→le N 1024 (and-right (leb 1 N) (leb N 1024) p);
-      some-profiles = leb→le 1 M (and-left (leb 1 M) (leb M 4096) q);
-      profiles-fit = leb→le M 4096 (and-right (leb 1 M) (leb M 4096) q);
-    }
-
-pub capacity-in : (N M : ℕ) → Capacity N M → T (between 1 1024 N && between 1 4096 M)
-capacity-in N M c =
-    and-both (between 1 1024 N) (between 1 4096 M)
-    (and-both (leb 1 N) (leb N 1024) (le→leb 1 N (c .some-nodes)) (le→leb N 1024 (c .nodes-fit)))
-    (and-both (leb 1 M) (leb M 4096) (le→leb 1 M (c .some-profiles)) (le→leb M 4096 (c .profiles-fit)))
-
-concluded : (f : Formula) (o : Option (Item Transition Profile)) → first (accepting (table f)) (profiles (table f) (nodes (table f))) ≡ o
+concludes : (f : Formula) (o : Option (Item Transition Profile)) → first (accepting (table f)) (profiles (table f) (nodes (table f))) ≡ o
     → Concluded (table f) (conclude (nodes (table f)) (profiles (table f) (nodes (table f))) o)
-concluded f none e = unmet (no-cycle (table f) (root-apart f) e)
-concluded f (some x) e = met (first-witness (table f) (root-apart f) e)
+concludes f none e = unmet (no-cycle (table f) (root-apart f) e)
+concludes f (some x) e = met (first-witness (table f) (root-apart f) e)
 
 read-answered : (N M workspace buffer : ℕ) (r : Reading Formula) → Answered N M workspace buffer r (after-reading N M workspace buffer r)
 unfolding table decide
-read-answered N M workspace buffer (Reading.refused code place) = unread
+read-answered N M workspace buffer (Reading.refused why) = unread
 read-answered N M workspace buffer (Reading.accepted f) =
     let t = table f in
-    let ps = profiles t (nodes t) in
-    read
-    (asked 11 _ _ (between 1 1024 N && between 1 4096 M) (capacity-of N M) (capacity-in N M)
-    (asked-le (8 * N + 192 * M) workspace 12 _ _
-    (asked-le (N + M) buffer 13 _ _
-    (asked-le (length (nodes t)) N 14 _ _
-    (asked-le (length ps) M 15 _ _
-    (concluded f (first (accepting t) ps) refl))))))
+    read (lent-asked N M workspace buffer t (decide-asked N M t (concludes f (first (accepting t) (profiles t (nodes t))) refl)))
 
 -- Theorem: the verdict answers the questions.
 pub verdict-answered : (N M workspace buffer : ℕ) (bytes : List ℕ)
@@ -114,7 +97,7 @@ verdict-answered N M workspace buffer bytes = read-answered N M workspace buffer
 
 -- A verdict without its letters.
 abbrev pub settled : Verdict → Verdict
-settled (Verdict.unread code place) = Verdict.unread code place
+settled (Verdict.unread why) = Verdict.unread why
 settled (Verdict.refused code) = Verdict.refused code
 settled (Verdict.satisfiable stem cycle K P letters) = Verdict.satisfiable stem cycle K P []
 settled (Verdict.unsatisfiable K P) = Verdict.unsatisfiable K P
@@ -122,11 +105,10 @@ settled (Verdict.unsatisfiable K P) = Verdict.unsatisfiable K P
 abbrev Settles : (Verdict → Type 0) → Type 0
 Settles Is = (o p : Verdict) → Is o → Is p → settled o ≡ settled p
 
-asked-settled : (Question : Type 0) (code : ℕ) (After : Verdict → Type 0) → Settles After → Settles (Asked Question code After)
-asked-settled Question code After s o p (passed q a) (passed r b) = s o p a b
-asked-settled Question code After s o p (passed q a) (failed n) = absurd (n q)
-asked-settled Question code After s o p (failed n) (passed r b) = absurd (n r)
-asked-settled Question code After s o p (failed n) (failed m) = refl
+asked-settled : (Question : Type 0) (refusal : Verdict) {After : Verdict → Type 0} → Settles After
+    → Settles (Asked Question refusal After)
+asked-settled Question refusal s o p (Asked.answered-yes q a) b = s o p a (passed b q)
+asked-settled Question refusal s o p (Asked.answered-no n) b = ap settled (sym (first-refusal b n))
 
 witness-settled : {t : Table} {a b c d : ℕ} {xs ys : List ℕ} → Witness t a b xs → Witness t c d ys → (a ≡ c) × (b ≡ d)
 witness-settled w u =
@@ -149,5 +131,4 @@ concluded-settled t o p (unmet n) (unmet m) = refl
 pub answered-settled : (N M workspace buffer : ℕ) (r : Reading Formula) → Settles (Answered N M workspace buffer r)
 answered-settled N M workspace buffer r o p unread unread = refl
 answered-settled N M workspace buffer r o p (read {f} a) (read b) =
-    asked-settled _ 11 _ (asked-settled _ 12 _
-    (asked-settled _ 13 _ (asked-settled _ 14 _ (asked-settled _ 15 _ (concluded-settled (table f)))))) o p a b
+    asked-settled _ _ (asked-settled _ _ (asked-settled _ _ (asked-settled _ _ (asked-settled _ _ (concluded-settled (table f)))))) o p a b

@@ -1,4 +1,5 @@
 pub mod Verdict
+pub mod Lends
 pub mod Promise
 pub mod Stem
 pub mod Chain

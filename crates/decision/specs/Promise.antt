@@ -3,7 +3,7 @@
 use mathlib.Core.Path.{_≡_}
 use mathlib.Core.Bool.{true, cond}
 use mathlib.Core.List.{List, _++_, map}
-use Prim.Native.Nat.{ℕ, _+_, _*_, _≤_, _<_}
+use Prim.Native.Nat.{ℕ, _+_, _≤_, _<_}
 use lib.Dec.{leb}
 use lib.ListN.{length, drop, replicate}
 use Rattle.formula.specs.Formula.{Formula}
@@ -16,13 +16,13 @@ use Rattle.tableau.specs.Nodes.{root, nodes}
 use Rattle.tableau.specs.Run.{Along}
 use Rattle.profile.specs.Profiles.{profiles}
 use Rattle.profile.specs.Cycle.{AcceptingCycle}
-use Rattle.decision.specs.Verdict.{Verdict, verdict}
+use Rattle.decision.specs.Verdict.{Verdict, workspace-size, verdict}
 use Rattle.decision.specs.declared.Verdict as code
 use Rattle.decision.specs.declared.Verdict.the-variants.{Satisfiable, Unsatisfiable, Refused, Unread}
 
 -- the answer for each verdict, with the numbers of MEANING 5.2 and 5.3
 abbrev pub says : Verdict → code.Verdict
-says (Verdict.unread c p) = Unread (record { code = c; at = p })
+says (Verdict.unread why) = Unread why
 says (Verdict.refused c) = Refused c
 says (Verdict.satisfiable stem cycle K P letters) = Satisfiable stem cycle K P
 says (Verdict.unsatisfiable K P) = Unsatisfiable K P
@@ -77,18 +77,18 @@ pub record Filled (bytes : List ℕ) (stem cycle K P : ℕ) (before after : List
 
 -- the witness buffer for each verdict (MEANING 5.5), with what MET and NOT say
 abbrev pub Buffered : List ℕ → Verdict → (before after : List ℕ) → Type 0
-Buffered bytes (Verdict.unread c p) before after = after ≡ before
+Buffered bytes (Verdict.unread why) before after = after ≡ before
 Buffered bytes (Verdict.refused c) before after = after ≡ before
 Buffered bytes (Verdict.satisfiable stem cycle K P _) before after = Filled bytes stem cycle K P before after
 Buffered bytes (Verdict.unsatisfiable K P) before after = Unmet bytes K P × (after ≡ before)
 
 -- a workspace with the bytes that question 12 asks for 0, and the others as they were
 abbrev pub zeroed : (N M : ℕ) → List ℕ → List ℕ
-zeroed N M w = replicate (8 * N + 192 * M) 0 ++ drop (8 * N + 192 * M) w
+zeroed N M w = replicate (workspace-size N M) 0 ++ drop (workspace-size N M) w
 
 -- the workspace after each verdict: MEANING 5.5
 abbrev pub cleared : (N M : ℕ) → Verdict → List ℕ → List ℕ
-cleared N M (Verdict.unread c p) w = w
+cleared N M (Verdict.unread why) w = w
 cleared N M (Verdict.refused c) w = cond (leb 14 c) (zeroed N M w) w
 cleared N M (Verdict.satisfiable stem cycle K P letters) w = zeroed N M w
 cleared N M (Verdict.unsatisfiable K P) w = zeroed N M w

@@ -2,7 +2,7 @@
 -- it. Assumes nothing.
 use mathlib.Core.Path.{_≡_}
 use mathlib.Core.List.{List, _++_}
-use Prim.Native.Nat.{ℕ, _+_, _*_, _≤_}
+use Prim.Native.Nat.{ℕ, _+_, _≤_}
 use lib.ListN.{length, drop}
 use Rattle.base.specs.Lists.{first}
 use Rattle.formula.specs.Formula.{Formula}
@@ -16,7 +16,7 @@ use Rattle.coded.specs.Runs.{profiles}
 use Rattle.traces.specs.Promise.{Limited}
 use Rattle.runs.specs.Stored.{stored, Lent}
 use Rattle.runs.specs.declared.Shelf.{Shelf}
-use Rattle.decision.specs.Verdict.{Verdict, conclude, decide, lent}
+use Rattle.decision.specs.Verdict.{Verdict, conclude, decide, workspace-size, lent}
 use Rattle.decision.specs.Promise.{says, node-count, profile-count, Witness, cleared}
 use Rattle.decision.specs.declared.Verdict as code
 use Rattle.decision.specs.Stem.{Standing}
@@ -42,7 +42,7 @@ pub record Profiled (rows : List ℕ) (count : ℕ) (area : List ℕ) (s : Shelf
 
 -- What the answer leaves in the witness buffer: for MET the letters of a witness, which need not be the definition's.
 abbrev pub Leaves : Table → Verdict → (before after : List ℕ) → Type 0
-Leaves t (Verdict.unread c p) before after = after ≡ before
+Leaves t (Verdict.unread why) before after = after ≡ before
 Leaves t (Verdict.refused c) before after = after ≡ before
 Leaves t (Verdict.satisfiable stem cycle K P _) before after =
     (letters : List ℕ) × Witness t stem cycle letters × (after ≡ letters ++ drop (stem + cycle) before)
@@ -65,16 +65,7 @@ pub record Within (n : ℕ) (before after : List ℕ) : Type 0 where
 -- The answer to the questions 14 and 15 and what comes after them.
 pub record Searched (t : Table) (N M : ℕ) (area area′ before after : List ℕ) (r : code.Verdict) : Type 0 where
   pub answers : Answers t (decide N M t) before after r
-  pub within : Within (8 * N + 192 * M) area area′
-
--- What 11 to 13 ask is so.
-pub record Lends (N M workspace buffer : ℕ) : Type 0 where
-  pub some-nodes : 1 ≤ N
-  pub few-nodes : N ≤ 1024
-  pub some-profiles : 1 ≤ M
-  pub few-profiles : M ≤ 4096
-  pub workspace-fits : 8 * N + 192 * M ≤ workspace
-  pub buffer-fits : N + M ≤ buffer
+  pub within : Within (workspace-size N M) area area′
 
 -- The answer to all questions after reading, and what it leaves.
 pub record Settled (t : Table) (N M : ℕ) (workspace workspace′ buffer buffer′ : List ℕ) (r : code.Verdict) : Type 0 where

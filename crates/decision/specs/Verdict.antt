@@ -6,11 +6,13 @@ use mathlib.Core.Option.{Option, none, some}
 use Prim.Native.Nat.{ℕ, _+_, _*_}
 use lib.Dec.{leb}
 use lib.ListN.{length}
+use Rattle.base.specs.Ask.{ask}
 use Rattle.base.specs.Lists.{first}
 use Rattle.base.specs.Search.{Item}
 use Rattle.formula.specs.Formula.{Formula}
 use Rattle.formula.specs.Table.{Table, table}
 use Rattle.formula.specs.Reading.{Reading, parse}
+use Rattle.formula.specs.declared.Refusal.{Refusal}
 use Rattle.tableau.specs.Saturation.{Subset, same-subset}
 use Rattle.tableau.specs.Transition.{Transition}
 use Rattle.tableau.specs.Nodes.{nodes}
@@ -18,7 +20,7 @@ use Rattle.profile.specs.Profiles.{Profile, profiles, rejecting, accepting}
 
 -- A refusal of reading; 11 to 15; MET with the lengths of stem and cycle, K, P and the letters; NOT with K and P.
 pub data Verdict : Type 0 where
-  unread : (code place : ℕ) → Verdict
+  unread : Refusal → Verdict
   refused : (code : ℕ) → Verdict
   satisfiable : (stem cycle K P : ℕ) (letters : List ℕ) → Verdict
   unsatisfiable : (K P : ℕ) → Verdict
@@ -41,27 +43,46 @@ unfolding nodes profiles rejecting
 decide N M t =
     let ns = nodes t in
     let ps = profiles t ns in
-    let found = conclude ns ps (first (accepting t) ps) in
-    let few = cond (leb (length ps) M) found (Verdict.refused 15) in
-    cond (leb (length ns) N) few (Verdict.refused 14)
+    ask (leb (length ns) N) (Verdict.refused 14)
+    (ask (leb (length ps) M) (Verdict.refused 15)
+    (conclude ns ps (first (accepting t) ps)))
 
 -- whether a number is in a range, its ends included
 abbrev pub between : ℕ → ℕ → ℕ → Bool
 between low high n = leb low n && leb n high
 
+-- the most nodes and the most profiles that there may be room for
+abbrev pub max-nodes : ℕ
+max-nodes = 1024
+
+abbrev pub max-profiles : ℕ
+max-profiles = 4096
+
+-- whether capacities of N nodes and M profiles are in range: question 11
+abbrev pub within-capacity : (N M : ℕ) → Bool
+within-capacity N M = between 1 max-nodes N && between 1 max-profiles M
+
+-- how many bytes of workspace they ask for: question 12
+abbrev pub workspace-size : (N M : ℕ) → ℕ
+workspace-size N M = 8 * N + 192 * M
+
+-- how many letters of a witness buffer they ask for: question 13
+abbrev pub witness-size : (N M : ℕ) → ℕ
+witness-size N M = N + M
+
 -- The questions 11 to 13 (MEANING 5.2), and what comes after them.
 abbrev pub lent : (N M workspace buffer : ℕ) → Table → Verdict
 unfolding decide
 lent N M workspace buffer t =
-    let decided = decide N M t in
-    let third = cond (leb (N + M) buffer) decided (Verdict.refused 13) in
-    let second = cond (leb (8 * N + 192 * M) workspace) third (Verdict.refused 12) in
-    cond (between 1 1024 N && between 1 4096 M) second (Verdict.refused 11)
+    ask (within-capacity N M) (Verdict.refused 11)
+    (ask (leb (workspace-size N M) workspace) (Verdict.refused 12)
+    (ask (leb (witness-size N M) buffer) (Verdict.refused 13)
+    (decide N M t)))
 
 -- A refusal of reading is handed on; a formula is decided.
 abbrev pub after-reading : (N M workspace buffer : ℕ) → Reading Formula → Verdict
 unfolding table decide
-after-reading N M workspace buffer (Reading.refused code place) = Verdict.unread code place
+after-reading N M workspace buffer (Reading.refused why) = Verdict.unread why
 after-reading N M workspace buffer (Reading.accepted f) = lent N M workspace buffer (table f)
 
 -- The whole: the capacities, the lengths of the lent workspace and witness buffer, a formula's bytes.

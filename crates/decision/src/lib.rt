@@ -16,10 +16,12 @@ ghost use Rattle.coded.specs.Runs.{accepting, profiles};
 ghost use Rattle.traces.specs.Promise.{fix-rank, Ranked};
 ghost use Rattle.runs.specs.Stored.{record-of, Lent, Grown};
 ghost use Rattle.runs.specs.Singles.{Given, nodes-in};
+ghost use Rattle.decision.specs.Verdict.{between, within-capacity, workspace-size, witness-size};
+ghost use Rattle.decision.specs.Lends.{Lends, ToLend};
 ghost use Rattle.decision.specs.Promise.{node-count, Decided};
 ghost use Rattle.decision.specs.Stem.{Standing, Tries, Comes, Written, Stemmed};
 ghost use Rattle.decision.specs.Chain.{letters-to, Linked, accepts, First};
-ghost use Rattle.decision.specs.Searched.{Decoded, Profiled, Answers, concluded, Searched, Lends, Settled};
+ghost use Rattle.decision.specs.Searched.{Decoded, Profiled, Answers, concluded, Searched, Settled};
 
 pub enum Verdict {
     Satisfiable {
@@ -34,6 +36,55 @@ pub enum Verdict {
     },
     Refused(u8),
     Unread(Refusal),
+}
+
+// What question 11 grants at most.
+pub const MAX_NODES: usize = 1024;
+
+pub const MAX_PROFILES: usize = 4096;
+
+// The bytes of workspace that question 12 asks for each node and for each profile.
+pub const NODE_BYTES: usize = 8;
+
+pub const PROFILE_BYTES: usize = 192;
+
+fn between(low: usize, high: usize, n: usize) -> bool
+    ensures { λ r. ⌜ r ≡ between low high n ⌝ }
+{
+    if n < low {
+        return false;
+    }
+    n <= high
+}
+
+// Question 11: whether the capacities are in range.
+pub fn within_capacity(n: usize, m: usize) -> bool
+    ensures { λ r. ⌜ r ≡ within-capacity n m ⌝ }
+{
+    if between(1, MAX_NODES, n) {
+        return between(1, MAX_PROFILES, m);
+    }
+    false
+}
+
+// Question 12: how many bytes of workspace are to be lent; 0 where 11 refuses.
+pub fn workspace_size(n: usize, m: usize) -> usize
+    ensures { λ r. ⌜ ToLend n m (workspace-size n m) r ⌝ }
+{
+    if within_capacity(n, m) {
+        return NODE_BYTES * n + PROFILE_BYTES * m;
+    }
+    0
+}
+
+// Question 13: how many letters of a witness buffer are to be lent; 0 where 11 refuses.
+pub fn witness_size(n: usize, m: usize) -> usize
+    ensures { λ r. ⌜ ToLend n m (witness-size n m) r ⌝ }
+{
+    if within_capacity(n, m) {
+        return n + m;
+    }
+    0
 }
 
 // The node that a transition comes from, and its letter.
@@ -300,7 +351,7 @@ fn searched(
     }
     let r = traces::ranked(rows, count);
     let shelf = Shelf {
-        base: 8 * node_capacity,
+        base: NODE_BYTES * node_capacity,
         capacity: profile_capacity,
         n: r.nexts,
     };
@@ -318,27 +369,20 @@ fn lent(t: Table, n: usize, m: usize, workspace: &mut [u8], letters: &mut [u16])
     ensures { λ r. ⌜ Settled (table-of (t .rows) (t .count)) n m (now (workspace .entry)) (now (workspace .exit))
         (now (letters .entry)) (now (letters .exit)) r ⌝ }
 {
-    if n < 1 {
+    if !within_capacity(n, m) {
         return Verdict::Refused(11);
     }
-    if 1024 < n {
-        return Verdict::Refused(11);
-    }
-    if m < 1 {
-        return Verdict::Refused(11);
-    }
-    if 4096 < m {
-        return Verdict::Refused(11);
-    }
-    if workspace.len() < 8 * n + 192 * m {
+    let bytes = workspace_size(n, m);
+    if workspace.len() < bytes {
         return Verdict::Refused(12);
     }
-    if letters.len() < n + m {
+    let places = witness_size(n, m);
+    if letters.len() < places {
         return Verdict::Refused(13);
     }
     let rows = t.rows;
     let v = searched(&rows, t.count, n, m, workspace, letters);
-    tableau::clear(workspace, 8 * n + 192 * m);
+    tableau::clear(workspace, bytes);
     v
 }
 

@@ -11,6 +11,8 @@ use native.Mathlib.Omega.{arith}
 use lib.Dec.{T, ltb, leb, ltb→lt}
 use lib.ListN.{length, getD}
 use Rattle.formula.specs.Formula.{Formula}
+use Rattle.formula.specs.Refusal.{at-byte, moved-to}
+use Rattle.formula.specs.declared.Refusal.{Refusal}
 use Rattle.formula.specs.Reading.{Opcode, opcode, Head, Read, Reader, and-then, byte-from, byte, answered, known, within}
 use Rattle.formula.specs.Reading.{one-more, counted, Scope, operands, questions, formula}
 use Rattle.formula.proofs.Commands.{or-command, next-command, fix-command, one-if, counted-is, behind}
@@ -58,15 +60,15 @@ pub record Near (R : ℕ → Head → List ℕ → Type 0) (n m s : ℕ) (h : He
   pub second : length l ≤ m
 
 -- with no byte left the bound on the nesting does not matter
-no-byte : (d : ℕ) (scope : Scope) (h : Head) → formula d scope (over h []) ≡ Read.refused 1 (h .at)
+no-byte : (d : ℕ) (scope : Scope) (h : Head) → formula d scope (over h []) ≡ Read.refused (at-byte 1 (h .at))
 no-byte zero scope h = refl
 no-byte (suc d) scope h = refl
 
 -- P: what is shown of a refusal.
-module _ (P : ℕ → ℕ → Type 0) where
+module _ (P : Refusal → Type 0) where
   -- a look at the first byte of the two
   pub data Look (R : Head → List ℕ → Type 0) (h : Head) : List ℕ → List ℕ → Type 0 where
-    none : ((code : ℕ) → AtEnd code → P code (h .at)) → Look R h [] []
+    none : ((code : ℕ) → AtEnd code → P (at-byte code (h .at))) → Look R h [] []
     some : {b : ℕ} {x y : List ℕ} → R (behind h x) y → Look R h (b ∷ x) (b ∷ y)
 
   -- What is asked of a relation. Its number says how many more bytes may be looked at before the next command counts: one before
@@ -75,11 +77,11 @@ module _ (P : ℕ → ℕ → Type 0) where
     pub look : (s : ℕ) (h : Head) (l : List ℕ) → R (suc s) h l → Look (R s) h (h .left) l
     pub count : (o n f : ℕ) (h : Head) (l : List ℕ) → h .commands < 48 → R 0 h l → R 2 (one-more o n f h) l
     pub fewer : (h : Head) (l : List ℕ) → R 2 h l → R 1 h l
-    pub refuse : (s : ℕ) (h : Head) (x y : List ℕ) (code : ℕ) → AtByte code → R s (behind h x) y → P code (behind h x .at - 1)
+    pub refuse : (s : ℕ) (h : Head) (x y : List ℕ) (code : ℕ) → AtByte code → R s (behind h x) y → P (at-byte code (behind h x .at - 1))
 
   -- two readings came to the same
   pub data Alike {A : Type 0} (place : ℕ → ℕ) (R : Head → List ℕ → Type 0) : Read A → Read A → Type 0 where
-    refused : {code at : ℕ} → P code at → Alike place R (Read.refused code at) (Read.refused code (place at))
+    refused : {why : Refusal} → P why → Alike place R (Read.refused why) (Read.refused (moved-to place why))
     got : {a : A} {h : Head} {l : List ℕ} → R h l → Alike place R (Read.got a h) (Read.got a (moved place h l))
 
   then-alike : {A B : Type 0} {place : ℕ → ℕ} {R S : Head → List ℕ → Type 0} {x y : Read A} (f g : A → Reader B) → Alike place R x y

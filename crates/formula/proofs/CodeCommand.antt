@@ -1,7 +1,7 @@
 -- A command with its operands. Where its opcode is read, the rest is what its operands read; the two kinds that have operands follow
 -- from the answers for these, which hold at every number that reaches the end of the bytes, so that no fuel is compared.
 -- Assumes nothing.
-use mathlib.Core.Path.{_≡_, refl, ap, subst}
+use mathlib.Core.Path.{_≡_, refl, sym, ap, subst}
 use mathlib.Core.List.{List}
 use Prim.Native.Nat.{ℕ, zero, suc, _+_, _≤_, _<_}
 use native.Mathlib.Omega.{arith}
@@ -9,6 +9,7 @@ use native.Mathlib.Decide.{decLt}
 use lib.Dec.{eqb}
 use lib.ListN.{length}
 use Rattle.formula.specs.Formula.{Formula}
+use Rattle.formula.specs.Table.{Operator}
 use Rattle.formula.specs.Reading.{Opcode, opcode, Read, Scope as Enclosing, and-then, done, operands, formula}
 use Rattle.formula.specs.declared.Head.{Head}
 use Rattle.formula.specs.declared.Scope.{Scope}
@@ -18,8 +19,8 @@ use Rattle.formula.specs.declared.Taken.{Taken}
 use Rattle.formula.specs.declared.Taken.the-variants as taken
 use Rattle.formula.specs.declared.Outcome.the-variants.{Accepted, Refused}
 use Rattle.formula.specs.Promise.{point, enclosing, binders, Further, Ready, Agrees, Command, Opening, Opened, Completed, Around}
-use Rattle.formula.specs.Promise.{Inside}
-use Rattle.formula.proofs.CodeOpcodes.{pair-opcode, fix-opcode}
+use Rattle.formula.specs.Promise.{Inside, Inside-ready, Behind}
+use Rattle.formula.proofs.CodeOpcodes.{pair-opcode, fix-opcode, pair-byte, fix-byte}
 use Rattle.formula.proofs.CodeFormula.{clash, refuses, accepted, refused-first, unary, second}
 
 -- the opcode, by what the code found
@@ -31,12 +32,12 @@ pub ready-on : {h x : Head} {scope : Scope} → Further h x → Ready h scope �
 ready-on f w = record { limits = f .limits; depth = omega (arith, f .more, w .depth); guarded = w .guarded }
 
 module _ {s : List ℕ} {h x : Head} {scope : Scope} {op : ℕ} (o : Opened s h op x) (w : Ready h scope) where
-  pub may-enter : (h .count < 48) × (scope .guarded ≤ scope .depth) × (8 < op → scope .depth < 7)
-  may-enter = (
-    omega (arith, o .count, o .further .limits .commands),
-    w .guarded,
-    λ l. omega (arith, w .depth, o .deeper l, o .further .limits .fixpoints),
-  )
+  pub may-enter : Inside-ready scope (h .count) op
+  may-enter = record {
+    place = omega (arith, o .count, o .further .limits .commands);
+    guarded = w .guarded;
+    room = λ l. omega (arith, w .depth, o .deeper l, o .further .limits .fixpoints);
+  }
 
   pub ready-inside : {e : ℕ} {inner : Scope} → Inside scope e op inner → Ready x inner
   ready-inside a = record {
@@ -44,6 +45,10 @@ module _ {s : List ℕ} {h x : Head} {scope : Scope} {op : ℕ} (o : Opened s h 
     depth = a .depth (x .fixpoints) (omega (arith, w .depth, o .further .more)) (λ l. omega (arith, w .depth, o .deeper l));
     guarded = a .guarded;
   }
+
+-- behind an operand of the command at h
+pub is-behind : {s : List ℕ} {h x y : Head} {op : ℕ} → Opened s h op x → Further x y → Behind (h .count) y
+is-behind o f = record { after = omega (arith, o .count, f .grown); few = f .limits .commands }
 
 -- where a command was read, reading went on
 pub command-further : (s rows : List ℕ) (scope : Scope) {h : Head} {r : Parsed} → Command s h rows scope r → r .outcome ≡ Accepted →
@@ -70,18 +75,35 @@ module _ {s : List ℕ} {h : Head} {rows : List ℕ} (scope : Scope) {op : ℕ} 
     operand fixpoints bs a k l =
         rw (← a .fixpoints, ← a .named, ← o .count) (first k l)
 
-    pub unary-command : {r : Parsed} → 7 < op → Completed p (h .count) op 0 r → Command s h rows scope r
+    pub unary-command : {r : Parsed} → 7 < op → Completed p (h .count) op r → Command s h rows scope r
     unary-command {r} l c = opened-command (λ k m. by k m (decLt 8 op))
       where
         by : (k : ℕ) → length s ≤ x .at + k → Dec (8 < op) →
             Agrees s (h .count) h (binders scope) rows r (operands (formula k) (enclosing scope) (opcode op) (point s x))
         by k m (yes q) =
             let is = fix-opcode op q (o .known) in
-            rw is (unary (Formula.fix (eqb op 10)) (λ a. record { rows = refl; operators = rw is; ends = refl })
+            rw is (unary (Formula.fix (eqb op 10))
+            (λ a. record {
+              rows = refl;
+              operator = Operator.fix (eqb op 10) (h .count + 1);
+              command = fix-byte op q (o .known);
+              operand = refl;
+              operators = refl;
+              lengths = refl;
+            })
             (o .further) (operand _ _ (around .fix q) k m) c)
         by k m (no q) =
-            let is : opcode op ≡ Opcode.next = ap opcode {x = op} {y = 8} (omega arith) in
-            rw is (unary Formula.next (λ a. record { rows = refl; operators = rw is; ends = refl })
+            let eight : op ≡ 8 = omega arith in
+            let is : opcode op ≡ Opcode.next = ap opcode eight in
+            rw is (unary Formula.next
+            (λ a. record {
+              rows = refl;
+              operator = Operator.next (h .count + 1);
+              command = sym eight;
+              operand = refl;
+              operators = refl;
+              lengths = refl;
+            })
             (o .further) (operand _ _ (around .next (omega arith)) k m) c)
 
     -- a refusal of the first operand
@@ -91,7 +113,7 @@ module _ {s : List ℕ} {h : Head} {rows : List ℕ} (scope : Scope) {op : ℕ} 
         rw is (refused-first _ why q (operand _ _ (around .pair (omega arith)) k m)))
 
     pub pair-command : {q r : Parsed} → 5 < op → op ≤ 7 → p .outcome ≡ Accepted → Command s (p .head) (p .rows) inner q →
-        Completed q (h .count) op (p .head .count) r → Command s h rows scope r
+        Completed q (h .count) op r → Command s h rows scope r
     pair-command {q} {r} l n acc next c = opened-command (λ k m.
         rw (pair-opcode op l n) (by k (operand _ _ (around .pair (omega arith)) k m) m))
       where
@@ -103,5 +125,5 @@ module _ {s : List ℕ} {h : Head} {rows : List ℕ} (scope : Scope) {op : ℕ} 
             let a = around .pair (omega arith) in
             let there : Agrees s (p .head .count) (p .head) (binders inner) (p .rows) q (formula k (enclosing inner) (point s (p .head))) =
             next k (omega (arith, g .further .later)) in
-            second (pair-opcode op l n) (o .further) g c {x = formula k (enclosing scope) z}
+            second (eqb op 6) (pair-byte op l n) (o .further) g c {x = formula k (enclosing scope) z}
             (rw (← g .stands, ← a .fixpoints, ← a .named) there)

@@ -1,10 +1,9 @@
--- The table of opcodes beside the code's tests on an opcode's number. What holds of each of 0 to 10 holds of every known opcode; so
--- the limits and the counts of the definition are those that the code picks by its tests, and a test settles the kind of the opcode.
--- Assumes nothing.
+-- The table of opcodes beside the code's tests on an opcode's number: by the list of the opcodes (AccessLaws) the limits and the counts of
+-- the definition are those that the code picks by its tests, and a test settles the kind of the opcode. Assumes nothing.
 use mathlib.Core.Path.{_≡_, refl, sym, ap, subst, _∙_}
 use mathlib.Core.Bool.{Bool, true, false, cond}
 use mathlib.Core.List.{[]}
-use Prim.Native.Nat.{ℕ, zero, suc, _+_, _-_, _≤_, _<_}
+use Prim.Native.Nat.{ℕ, _+_, _≤_, _<_}
 use native.Mathlib.Omega.{arith}
 use native.Mathlib.Decide.{decLt}
 use lib.Dec.{eqb, ltb}
@@ -12,49 +11,44 @@ use borrow.Author.Tests.{ltb-true, eqb-true, lt-ltb}
 use Rattle.formula.specs.Reading.{Opcode, opcode, known, within, one-more, counted, Head as Point}
 use Rattle.formula.specs.declared.Head.{Head}
 use Rattle.formula.specs.Promise.{point, Room, Counted}
-
--- a fact of the numbers 0 to 10
-each : (P : ℕ → Type 0) → P 0 → P 1 → P 2 → P 3 → P 4 → P 5 → P 6 → P 7 → P 8 → P 9 → P 10 → (op : ℕ) → op ≤ 10 → P op
-each P a b c d e f g h i j k zero l = a
-each P a b c d e f g h i j k (suc zero) l = b
-each P a b c d e f g h i j k (suc (suc zero)) l = c
-each P a b c d e f g h i j k (suc (suc (suc zero))) l = d
-each P a b c d e f g h i j k (suc (suc (suc (suc zero)))) l = e
-each P a b c d e f g h i j k (suc (suc (suc (suc (suc zero))))) l = f
-each P a b c d e f g h i j k (suc (suc (suc (suc (suc (suc zero)))))) l = g
-each P a b c d e f g h i j k (suc (suc (suc (suc (suc (suc (suc zero))))))) l = h
-each P a b c d e f g h i j k (suc (suc (suc (suc (suc (suc (suc (suc zero)))))))) l = i
-each P a b c d e f g h i j k (suc (suc (suc (suc (suc (suc (suc (suc (suc zero))))))))) l = j
-each P a b c d e f g h i j k (suc (suc (suc (suc (suc (suc (suc (suc (suc (suc zero)))))))))) l = k
-each P a b c d e f g h i j k (suc (suc (suc (suc (suc (suc (suc (suc (suc (suc (suc n))))))))))) l = absurd (omega arith)
+use Rattle.formula.proofs.AccessLaws.{by-opcode}
 
 -- question 4 by the code's tests
-abbrev Limited : ℕ → Type 0
-Limited op = (x : Point) → within (opcode op) x
+abbrev Limited : ℕ → Opcode → Type 0
+Limited op k = op ≤ 10 → (x : Point) → within k x
     ≡ cond (eqb op 6) (ltb (x .ors) 12) (cond (eqb op 8) (ltb (x .nexts) 12) (cond (ltb 8 op) (ltb (x .fixpoints) 7) true))
 
-pub limit : (op : ℕ) → op ≤ 10 → Limited op
-limit = each Limited
-    (λ x. refl) (λ x. refl) (λ x. refl) (λ x. refl) (λ x. refl) (λ x. refl) (λ x. refl) (λ x. refl) (λ x. refl) (λ x. refl) (λ x. refl)
+pub limit : (op : ℕ) → Limited op (opcode op)
+limit =
+    by-opcode Limited (λ l x. refl) (λ l x. refl) (λ l x. refl) (λ l x. refl) (λ l x. refl) (λ l x. refl) (λ l x. refl) (λ l x. refl)
+    (λ l x. refl) (λ l x. refl) (λ l x. refl) (λ op h l. absurd (omega arith))
 
 -- the counts by the code's tests
-abbrev Counting : ℕ → Type 0
-Counting op = (x : Point) → counted (opcode op) x ≡ one-more (cond (eqb op 6) 1 0) (cond (eqb op 8) 1 0) (cond (ltb 8 op) 1 0) x
+abbrev Counting : ℕ → Opcode → Type 0
+Counting op k = op ≤ 10 → (x : Point) → counted k x ≡ one-more (cond (eqb op 6) 1 0) (cond (eqb op 8) 1 0) (cond (ltb 8 op) 1 0) x
 
-counts : (op : ℕ) → op ≤ 10 → Counting op
-counts = each Counting
-    (λ x. refl) (λ x. refl) (λ x. refl) (λ x. refl) (λ x. refl) (λ x. refl) (λ x. refl) (λ x. refl) (λ x. refl) (λ x. refl) (λ x. refl)
+counts : (op : ℕ) → Counting op (opcode op)
+counts =
+    by-opcode Counting (λ l x. refl) (λ l x. refl) (λ l x. refl) (λ l x. refl) (λ l x. refl) (λ l x. refl) (λ l x. refl) (λ l x. refl)
+    (λ l x. refl) (λ l x. refl) (λ l x. refl) (λ op h l. absurd (omega arith))
 
 -- the opcodes are 1 to 10
-pub known-opcode : (op : ℕ) → 0 < op → op ≤ 10 → known (opcode op) ≡ true
-known-opcode op h l = each (λ op. 0 < op → known (opcode op) ≡ true)
-    (λ h. absurd (omega arith)) (λ h. refl) (λ h. refl) (λ h. refl) (λ h. refl) (λ h. refl)
-    (λ h. refl) (λ h. refl) (λ h. refl) (λ h. refl) (λ h. refl) op l h
+abbrev Known : ℕ → Opcode → Type 0
+Known op k = 0 < op → op ≤ 10 → known k ≡ true
 
-pub unknown-opcode : (op : ℕ) → 10 < op → opcode op ≡ Opcode.unknown
-unknown-opcode op h =
-    subst (λ (n : ℕ). opcode n ≡ Opcode.unknown)
-    {x = suc (suc (suc (suc (suc (suc (suc (suc (suc (suc (suc (op - 11)))))))))))} {y = op} (omega arith) refl
+pub known-opcode : (op : ℕ) → Known op (opcode op)
+known-opcode =
+    by-opcode Known (λ h. absurd (omega arith)) (λ h l. refl) (λ h l. refl) (λ h l. refl) (λ h l. refl) (λ h l. refl) (λ h l. refl)
+    (λ h l. refl) (λ h l. refl) (λ h l. refl) (λ h l. refl) (λ op m h l. absurd (omega arith))
+
+abbrev Unknown : ℕ → Opcode → Type 0
+Unknown op k = 10 < op → k ≡ Opcode.unknown
+
+pub unknown-opcode : (op : ℕ) → Unknown op (opcode op)
+unknown-opcode =
+    by-opcode Unknown (λ h. refl) (λ h. absurd (omega arith)) (λ h. absurd (omega arith)) (λ h. absurd (omega arith))
+    (λ h. absurd (omega arith)) (λ h. absurd (omega arith)) (λ h. absurd (omega arith)) (λ h. absurd (omega arith))
+    (λ h. absurd (omega arith)) (λ h. absurd (omega arith)) (λ h. absurd (omega arith)) (λ op m h. refl)
 
 pub zero-opcode : (op : ℕ) → op < 1 → opcode op ≡ Opcode.unknown
 zero-opcode op h = ap opcode {x = op} {y = 0} (omega arith)
@@ -79,6 +73,19 @@ pair-opcode op h l = one-of-two (λ (n : ℕ). opcode n ≡ Opcode.pair (eqb n 6
 pub fix-opcode : (op : ℕ) → 9 ≤ op → op ≤ 10 → opcode op ≡ Opcode.fix (eqb op 10)
 fix-opcode op h l = one-of-two (λ (n : ℕ). opcode n ≡ Opcode.fix (eqb n 10)) 9 op h l refl refl
 
+-- the bytes of the same opcodes
+pub constant-byte : (op : ℕ) → 1 ≤ op → op ≤ 2 → cond (eqb op 1) 1 2 ≡ op
+constant-byte op h l = one-of-two (λ (n : ℕ). cond (eqb n 1) 1 2 ≡ n) 1 op h l refl refl
+
+pub signal-byte : (op : ℕ) → 3 ≤ op → op ≤ 4 → cond (eqb op 3) 3 4 ≡ op
+signal-byte op h l = one-of-two (λ (n : ℕ). cond (eqb n 3) 3 4 ≡ n) 3 op h l refl refl
+
+pub pair-byte : (op : ℕ) → 6 ≤ op → op ≤ 7 → cond (eqb op 6) 6 7 ≡ op
+pair-byte op h l = one-of-two (λ (n : ℕ). cond (eqb n 6) 6 7 ≡ n) 6 op h l refl refl
+
+pub fix-byte : (op : ℕ) → 9 ≤ op → op ≤ 10 → cond (eqb op 10) 10 9 ≡ op
+fix-byte op h l = one-of-two (λ (n : ℕ). cond (eqb n 10) 10 9 ≡ n) 9 op h l refl refl
+
 -- one more of a kind, where there was room
 stays : (t : Bool) (n most : ℕ) → n ≤ most → (t ≡ true → n < most) → n + cond t 1 0 ≤ most
 stays true n most l h = omega (arith, h refl)
@@ -100,6 +107,7 @@ counted-head op h o n f room a b c =
       deeper = λ l. omega (arith, c ∙ ap (λ (t : Bool). cond t 1 0) (lt-ltb 8 op l));
       further = record {
         later = omega arith;
+        grown = omega arith;
         more = omega arith;
         limits = record {
           commands = omega (arith, room .few);

@@ -12,12 +12,15 @@ use lib.ListN.{length, getD, drop, drop-of-length-le}
 use lib.Seq.{drop-cons}
 use borrow.Author.Tests.{lt-ltb, le-ltb, le-leb, lt-leb}
 use Rattle.formula.specs.Formula.{Leaf, Formula}
+use Rattle.formula.specs.Table.{Operator}
+use Rattle.formula.specs.Refusal.{at-byte}
 use Rattle.formula.specs.Reading.{Opcode, opcode, known, within, counted, Read, Reader, Scope as Enclosing, operands, formula}
 use Rattle.formula.specs.declared.Head.{Head}
 use Rattle.formula.specs.declared.Scope.{Scope}
 use Rattle.formula.specs.Promise.{point, behind, enclosing, binders, Limits, Further, Room, Counted, Refuses, Opened, Argued}
-use Rattle.formula.proofs.CodeOpcodes.{known-opcode, signal-opcode}
+use Rattle.formula.proofs.CodeOpcodes.{known-opcode, signal-opcode, signal-byte}
 use Rattle.formula.proofs.CodeScope.{inward-length, inward-at}
+use Rattle.formula.proofs.CodeFormula.{further-trans}
 
 -- the place of the byte read last
 place : (n : ℕ) → n + 1 - 1 ≡ n
@@ -27,6 +30,7 @@ place n = omega arith
 pub passing : (h p : Head) → p ≡ behind h → Limits h → Further h p
 passing h p e l = subst (λ (q : Head). Further h q) (sym e) (record {
   later = omega arith;
+  grown = omega arith;
   more = omega arith;
   limits = record { commands = l .commands; ors = l .ors; nexts = l .nexts; fixpoints = l .fixpoints };
 })
@@ -46,7 +50,7 @@ module _ (s : List ℕ) (h : Head) where
   next-byte = getD s (h .at) 0
 
   abbrev refused-here : ℕ → Type 0
-  refused-here n = Refuses s h (record { code = n; at = h .at })
+  refused-here n = Refuses s h (at-byte n (h .at))
 
   -- question 1
   pub none-left : length s ≤ h .at → refused-here 1
@@ -57,7 +61,8 @@ module _ (s : List ℕ) (h : Head) where
     here : drop (h .at) s ≡ next-byte ∷ drop (h .at + 1) s
     here = rw (add-one, drop-cons s (h .at) 0)
 
-    refusing : (n : ℕ) → ((k : ℕ) (scope : Enclosing) → formula (suc k) scope (point s h) ≡ Read.refused n (h .at)) → refused-here n
+    refusing : (n : ℕ) → ((k : ℕ) (scope : Enclosing) → formula (suc k) scope (point s h) ≡ Read.refused (at-byte n (h .at)))
+        → refused-here n
     refusing n q zero scope l = absurd (omega arith)
     refusing n q (suc k) scope l = q k scope
 
@@ -93,7 +98,7 @@ module _ (s : List ℕ) (h : Head) where
             at = c .at ∙ ap (λ (q : Head). q .at) e;
             count = c .count ∙ ap (λ (q : Head). q .count + 1) e;
             deeper = λ d. omega (arith, c .deeper d, f .more);
-            further = record { later = omega (arith, f .later, g .later); more = omega (arith, f .more, g .more); limits = g .limits };
+            further = further-trans f g;
             left = λ k scope.
                 rw (here, known-opcode next-byte some small, lt-ltb (h .count) 48 n, is-within)
                 (ap (operands (formula k) scope (opcode next-byte))
@@ -106,16 +111,16 @@ module _ (s : List ℕ) (h : Head) (op : ℕ) (scope : Scope) (self : Enclosing 
   answer = operands self (enclosing scope) (opcode op) (point s h)
 
   -- question 5
-  pub no-argument : 2 < op → op ≤ 5 → length s ≤ h .at → answer ≡ Read.refused 5 (h .at)
+  pub no-argument : 2 < op → op ≤ 5 → length s ≤ h .at → answer ≡ Read.refused (at-byte 5 (h .at))
   no-argument m n l = by (decLt op 5)
     where
-      by : Dec (op < 5) → answer ≡ Read.refused 5 (h .at)
+      by : Dec (op < 5) → answer ≡ Read.refused (at-byte 5 (h .at))
       by (yes q) = rw (signal-opcode op m (omega arith), drop-of-length-le s l)
       by (no q) = let e : op ≡ 5 = omega arith in rw (e, drop-of-length-le s l)
 
   module _ (inside : h .at < length s) where
     -- question 6
-    pub no-signal : 2 < op → op < 5 → 15 < next-byte s h → answer ≡ Read.refused 6 (h .at)
+    pub no-signal : 2 < op → op < 5 → 15 < next-byte s h → answer ≡ Read.refused (at-byte 6 (h .at))
     no-signal m n l = rw (signal-opcode op m (omega arith), here s h inside, lt-leb (next-byte s h) 15 l, place)
 
     pub signal-argued : (e : ℕ) (bs : List ℕ) (p : Head) → 2 < op → op < 5 → next-byte s h ≤ 15 → p ≡ behind h → Limits h →
@@ -123,19 +128,26 @@ module _ (s : List ℕ) (h : Head) (op : ℕ) (scope : Scope) (self : Enclosing 
     signal-argued e bs p m n l q w = record {
       got = Formula.leaf (Leaf.signal (eqb op 3) (next-byte s h));
       is = rw (signal-opcode op m (omega arith), here s h inside, le-leb (next-byte s h) 15 l, q);
-      single = record { one = refl; operators = rw (signal-opcode op m (omega arith)); ends = refl };
+      alone = record {
+        rows = refl;
+        operator = Operator.leaf (Leaf.signal (eqb op 3) (next-byte s h));
+        command = signal-byte op m (omega arith);
+        operand = refl;
+        operators = refl;
+        lengths = refl;
+      };
       count = ap (λ (x : Head). x .count) q;
       further = passing h p q w;
     }
 
     module _ (variable : op ≡ 5) where
       -- question 7
-      pub no-binder : scope .depth ≤ next-byte s h → answer ≡ Read.refused 7 (h .at)
+      pub no-binder : scope .depth ≤ next-byte s h → answer ≡ Read.refused (at-byte 7 (h .at))
       no-binder l = rw (variable, here s h inside, inward-length, le-ltb (next-byte s h) (scope .depth) l, place)
 
       module _ (bound : next-byte s h < scope .depth) where
         -- question 8
-        pub not-guarded : scope .guarded ≤ scope .depth - 1 - next-byte s h → answer ≡ Read.refused 8 (h .at)
+        pub not-guarded : scope .guarded ≤ scope .depth - 1 - next-byte s h → answer ≡ Read.refused (at-byte 8 (h .at))
         not-guarded l =
             rw (
               variable,
@@ -161,10 +173,13 @@ module _ (s : List ℕ) (h : Head) (op : ℕ) (scope : Scope) (self : Enclosing 
             lt-ltb (scope .depth - 1 - next-byte s h) (scope .guarded) (omega arith),
             q,
           );
-          single = record {
-            one = refl;
-            operators = rw (same, variable, inward-at (λ d. getD (scope .binders) d 0) (scope .depth) (next-byte s h) 0 bound);
-            ends = refl;
+          alone = record {
+            rows = refl;
+            operator = Operator.variable (getD (binders scope) (next-byte s h) 0);
+            command = sym variable;
+            operand = rw (same, inward-at (λ d. getD (scope .binders) d 0) (scope .depth) (next-byte s h) 0 bound);
+            operators = refl;
+            lengths = refl;
           };
           count = ap (λ (x : Head). x .count) q;
           further = passing h p q w;

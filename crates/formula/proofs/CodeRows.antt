@@ -1,23 +1,19 @@
 -- Writing a subformula into the rows, and listing subformulas from them. A subformula is written into three cells that no other one
 -- has; a list of subformulas is the first one and the rest, or two lists end to end; and it depends on its own rows alone.
 -- Assumes nothing.
-use mathlib.Core.Path.{_≡_, refl, _∙_}
-use mathlib.Core.List.{List, [], _∷_, _++_}
+use mathlib.Core.Path.{_≡_, refl, sym, _∙_}
+use mathlib.Core.List.{List, [], _∷_, _++_, map, map-append}
 use Prim.Native.Nat.{ℕ, _+_, _%_, _≤_, _<_}
 use native.Mathlib.Omega.{arith}
 use lib.ListN.{length, getD, set, length-set}
 use lib.Seq.{getD-set-same, getD-set-other}
-use Rattle.base.proofs.NumberLaws.{values-add, values-same, values-cons}
+use Rattle.base.specs.Lists.{numbers}
+use Rattle.base.proofs.NumberLaws.{values-join, values-same, values-cons}
 use Rattle.formula.specs.Table.{Operator, Table as Operators}
-use Rattle.formula.specs.Reading.{opcode}
-use Rattle.formula.specs.Rows.{operator-of, operator-at, end-at}
-use Rattle.formula.specs.Promise.{Alike, Placed, Listed}
+use Rattle.formula.specs.Rows.{opcode-at, operand-at, length-at, command-of, operand-of}
+use Rattle.formula.specs.Promise.{Alike, Placed, Listed, Wrote}
 
--- an operator by its two cells
-operator-by : (q : List ℕ) (e op a : ℕ) → getD q e 0 ≡ op → getD q (48 + e) 0 ≡ a → operator-at q e ≡ operator-of (opcode op) a e
-operator-by q e op a h k = rw (h, k)
-
-module _ (p : List ℕ) (e op a end : ℕ) (long : length p ≡ 144) (small : e < 48) (few : end ≤ 48) where
+module _ (p : List ℕ) (e op a n : ℕ) (long : length p ≡ 144) (small : e < 48) (few : n ≤ 48) where
   abbrev first : List ℕ
   first = set p e op
 
@@ -25,51 +21,88 @@ module _ (p : List ℕ) (e op a end : ℕ) (long : length p ≡ 144) (small : e 
   second = set first (48 + e) a
 
   abbrev third : List ℕ
-  third = set second (96 + e) (end % 256)
+  third = set second (96 + e) (n % 256)
 
   cell : (i : ℕ) → (i ≡ e → ⊥) → (i ≡ 48 + e → ⊥) → (i ≡ 96 + e → ⊥) → getD third i 0 ≡ getD p i 0
   cell i u v w =
-      getD-set-other second (96 + e) i (end % 256) 0 w ∙ getD-set-other first (48 + e) i a 0 v ∙ getD-set-other p e i op 0 u
+      getD-set-other second (96 + e) i (n % 256) 0 w ∙ getD-set-other first (48 + e) i a 0 v ∙ getD-set-other p e i op 0 u
 
   -- the three stores write subformula e and no other
-  pub placed : Placed p e op a end third
+  pub placed : Placed p e op a n third
   placed = record {
-    operator = operator-by third e op a
-        (getD-set-other second (96 + e) e (end % 256) 0 (λ q. omega arith) ∙ getD-set-other first (48 + e) e a 0 (λ q. omega arith)
-        ∙ getD-set-same p e op 0 (omega arith))
-        (getD-set-other second (96 + e) (48 + e) (end % 256) 0 (λ q. omega arith)
-        ∙ getD-set-same first (48 + e) a 0 (simp length-set (omega arith)));
-    ends = getD-set-same second (96 + e) (end % 256) 0 (simp length-set (omega arith)) ∙ omega arith;
-    others = λ k l n. record {
-      operator = operator-by third k (getD p k 0) (getD p (48 + k) 0)
-          (cell k n (λ q. omega arith) (λ q. omega arith)) (cell (48 + k) (λ q. omega arith) (λ q. n (omega arith)) (λ q. omega arith));
-      end = cell (96 + k) (λ q. omega arith) (λ q. omega arith) (λ q. n (omega arith));
+    command = getD-set-other second (96 + e) e (n % 256) 0 (λ q. omega arith)
+        ∙ getD-set-other first (48 + e) e a 0 (λ q. omega arith)
+        ∙ getD-set-same p e op 0 (omega arith);
+    operand = getD-set-other second (96 + e) (48 + e) (n % 256) 0 (λ q. omega arith)
+        ∙ getD-set-same first (48 + e) a 0 (simp length-set (omega arith));
+    sized = getD-set-same second (96 + e) (n % 256) 0 (simp length-set (omega arith)) ∙ omega arith;
+    others = λ k l u. record {
+      command = cell k u (λ q. omega arith) (λ q. omega arith);
+      operand = cell (48 + k) (λ q. omega arith) (λ q. u (omega arith)) (λ q. omega arith);
+      sized = cell (96 + k) (λ q. omega arith) (λ q. omega arith) (λ q. u (omega arith));
     };
+    long = simp length-set;
   }
 
-pub listed-none : (e : ℕ) (rows : List ℕ) → Listed e 0 [] [] rows
-listed-none e rows = record { operators = refl; ends = refl }
+alike-same : {p : List ℕ} {e : ℕ} → Alike p p e
+alike-same = record { command = refl; operand = refl; sized = refl }
 
-pub listed-both : {e n m : ℕ} {xs us : Operators} {ys vs rows : List ℕ} →
-    Listed e n xs ys rows → Listed (e + n) m us vs rows → Listed e (n + m) (xs ++ us) (ys ++ vs) rows
-listed-both {e} {n} {m} {rows = rows} a b = record {
-  operators = values-add (operator-at rows) e n m ∙ rw (a .operators, b .operators);
-  ends = values-add (end-at rows) e n m ∙ rw (a .ends, b .ends);
-}
+alike-trans : {p q r : List ℕ} {e : ℕ} → Alike p q e → Alike q r e → Alike p r e
+alike-trans a b = record { command = b .command ∙ a .command; operand = b .operand ∙ a .operand; sized = b .sized ∙ a .sized }
 
-pub listed-same : {e n : ℕ} {xs : Operators} {ys p q : List ℕ} →
+-- the same subformulas from other rows
+listed-same : {e n : ℕ} {xs : Operators} {ys p q : List ℕ} →
     ((k : ℕ) → e ≤ k → k < e + n → Alike p q k) → Listed e n xs ys p → Listed e n xs ys q
 listed-same {e} {n} {p = p} {q = q} h a = record {
-  operators = values-same (operator-at q) (operator-at p) e n (λ k l m. h k l m .operator) ∙ a .operators;
-  ends = values-same (end-at q) (end-at p) e n (λ k l m. h k l m .end) ∙ a .ends;
+  commands = values-same (opcode-at q) (opcode-at p) e n (λ k l m. h k l m .command) ∙ a .commands;
+  operands = values-same (operand-at q) (operand-at p) e n (λ k l m. h k l m .operand) ∙ a .operands;
+  lengths = values-same (length-at q) (length-at p) e n (λ k l m. h k l m .sized) ∙ a .lengths;
 }
 
-pub listed-first : {e n : ℕ} {x : Operator} {xs : Operators} {y : ℕ} {ys rows : List ℕ} →
-    operator-at rows e ≡ x → end-at rows e ≡ y → Listed (e + 1) n xs ys rows → Listed e (1 + n) (x ∷ xs) (y ∷ ys) rows
-listed-first {e} {n} {x} {xs} {y} {ys} {rows} h k a = record {
-  operators = values-cons (operator-at rows) e n x xs h (a .operators);
-  ends = values-cons (end-at rows) e n y ys k (a .ends);
+-- a column of two lists end to end
+column-both : {A : Type 0} (f : A → ℕ) (g : ℕ → ℕ) (e n m : ℕ) (xs us : List A) → map g (numbers e n) ≡ map f xs
+    → map g (numbers (e + n) m) ≡ map f us → map g (numbers e (n + m)) ≡ map f (xs ++ us)
+column-both f g e n m xs us p q = values-join g e n m (map f xs) (map f us) p q ∙ sym (map-append f xs us)
+
+listed-both : {e n m : ℕ} {xs us : Operators} {ys vs rows : List ℕ} →
+    Listed e n xs ys rows → Listed (e + n) m us vs rows → Listed e (n + m) (xs ++ us) (ys ++ vs) rows
+listed-both {e} {n} {m} {xs} {us} {ys} {vs} {rows} a b = record {
+  commands = column-both command-of (opcode-at rows) e n m xs us (a .commands) (b .commands);
+  operands = column-both operand-of (operand-at rows) e n m xs us (a .operands) (b .operands);
+  lengths = values-join (length-at rows) e n m ys vs (a .lengths) (b .lengths);
 }
 
-pub alike-trans : {p q r : List ℕ} {e : ℕ} → Alike p q e → Alike q r e → Alike p r e
-alike-trans a b = record { operator = b .operator ∙ a .operator; end = b .end ∙ a .end }
+pub wrote-none : (e : ℕ) (rows : List ℕ) → Wrote e 0 [] [] rows rows
+wrote-none e rows = record {
+  listed = record { commands = refl; operands = refl; lengths = refl };
+  before = λ k l. alike-same;
+  behind = λ k l m. alike-same;
+  long = refl;
+}
+
+-- two lists end to end, the second written after the first
+pub wrote-both : {e n m : ℕ} {xs us : Operators} {ys vs p q r : List ℕ} →
+    Wrote e n xs ys p q → Wrote (e + n) m us vs q r → Wrote e (n + m) (xs ++ us) (ys ++ vs) p r
+wrote-both a b = record {
+  listed = listed-both (listed-same (λ k l m. b .before k m) (a .listed)) (b .listed);
+  before = λ k l. alike-trans (a .before k l) (b .before k (omega arith));
+  behind = λ k l m. alike-trans (a .behind k (omega arith) m) (b .behind k (omega arith) m);
+  long = b .long ∙ a .long;
+}
+
+-- subformula e, written after the n behind it
+pub wrote-first : {e n op argument z y : ℕ} {xs : Operators} {ys p q r : List ℕ} (x : Operator) → e + n < 48
+    → command-of x ≡ op → operand-of x ≡ argument → z ≡ y → Placed q e op argument z r → Wrote (e + 1) n xs ys p q
+    → Wrote e (1 + n) (x ∷ xs) (y ∷ ys) p r
+wrote-first {e} {n} {xs = xs} {ys = ys} {q = q} {r = r} x few c o is w a =
+    let rest : Listed (e + 1) n xs ys r = listed-same (λ k l m. w .others k (omega arith) (λ u. omega arith)) (a .listed) in
+    record {
+      listed = record {
+        commands = values-cons (opcode-at r) e n (command-of x) (map command-of xs) (cc (w .command)) (rest .commands);
+        operands = values-cons (operand-at r) e n (operand-of x) (map operand-of xs) (cc (w .operand)) (rest .operands);
+        lengths = values-cons (length-at r) e n _ ys (w .sized ∙ is) (rest .lengths);
+      };
+      before = λ k l. alike-trans (a .before k (omega arith)) (w .others k (omega arith) (λ u. omega arith));
+      behind = λ k l m. alike-trans (a .behind k (omega arith) m) (w .others k m (λ u. omega arith));
+      long = w .long ∙ a .long;
+    }

@@ -46,7 +46,7 @@ pub data Reads : Scope → Head → Formula → Head → Type 0 where
 module _ {B : Type 0} (b : B) (k : Head) (Goal : Type 0) where
   then-got : {A : Type 0} (f : A → Reader B) (x : Read A) → and-then f x ≡ Read.got b k
       → ((a : A) (h : Head) → x ≡ Read.got a h → f a h ≡ Read.got b k → Goal) → Goal
-  then-got f (Read.refused n p) e go = absurd (let z : _≡_ {A = ℕ} 0 1 = cc in omega arith)
+  then-got f (Read.refused why) e go = absurd (let z : _≡_ {A = ℕ} 0 1 = cc in omega arith)
   then-got f (Read.got a h) e go = go a h refl e
 
   byte-got : (f : ℕ → Reader B) (code : ℕ) (h : Head) (l : List ℕ) → and-then f (byte-from code h l) ≡ Read.got b k
@@ -117,7 +117,7 @@ parse-reads bytes f e = by (formula (length bytes) [] (start bytes)) refl e
   where
     by : (x : Read Formula) → formula (length bytes) [] (start bytes) ≡ x → whole x ≡ Reading.accepted f
         → (k : Head) × Reads [] (start bytes) f k × (k .left ≡ [])
-    by (Read.refused n p) q e = absurd (let z : _≡_ {A = ℕ} 0 1 = cc in omega arith)
+    by (Read.refused why) q e = absurd (let z : _≡_ {A = ℕ} 0 1 = cc in omega arith)
     by (Read.got g k) q e =
         let t = ended-reads g k (k .left) f e in
         (k, rw (← t .0) (formula-reads (length bytes) [] (start bytes) g k q), t .1)

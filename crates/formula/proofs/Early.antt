@@ -5,11 +5,13 @@ use mathlib.Core.List.{List}
 use Prim.Native.Nat.{ℕ, _≤_}
 use native.Mathlib.Omega.{arith}
 use lib.ListN.{take, length-take}
+use Rattle.formula.specs.Refusal.{place-of}
+use Rattle.formula.specs.declared.Refusal.{Refusal}
 use Rattle.formula.specs.Reading.{Reading, parse}
 use Rattle.formula.proofs.Fuel.{parse-stopped}
 use Rattle.formula.proofs.Prefix.{parse-prefix}
 
-pub parse-early : (bytes : List ℕ) (code place : ℕ) → parse bytes ≡ Reading.refused code place → place ≤ 97
-parse-early bytes code place e =
-    let s = parse-stopped (take 97 bytes) code place (parse-prefix bytes ∙ e) in
+pub parse-early : (bytes : List ℕ) {why : Refusal} → parse bytes ≡ Reading.refused why → place-of why ≤ 97
+parse-early bytes e =
+    let s = parse-stopped (take 97 bytes) (parse-prefix bytes ∙ e) in
     omega (arith, s .inside, length-take 97 bytes)

@@ -1,14 +1,18 @@
 -- Operators whose numbers are in range. What stands in a well formed table is so; and it stays so under a larger bound. Assumes nothing.
+use mathlib.Core.Path.{_≡_}
 use mathlib.Core.List.{List}
 use Prim.Native.Nat.{ℕ, _≤_, _<_}
 use native.Mathlib.Omega.{arith}
 use Rattle.formula.specs.Formula.{Leaf}
 use Rattle.formula.specs.Table.{Operator}
-use Rattle.formula.specs.Rows.{operator-at, end-at}
-use Rattle.formula.specs.Access.{Fits, Placed}
+use Rattle.formula.specs.Rows.{operator-at, end-at, reading-of}
+use Rattle.formula.specs.Reading.{reading}
+use Rattle.formula.specs.Access.{Fits, Placed, Readable}
 use Rattle.formula.specs.declared.Table.{Table}
+use Rattle.formula.specs.declared.Reading as code
+use Rattle.formula.specs.declared.Outcome.the-variants.{Accepted}
 use Rattle.formula.proofs.WellFormed.{Operands, Shaped}
-use Rattle.formula.proofs.RowLaws.{Held, held-shaped, held-few}
+use Rattle.formula.proofs.RowLaws.{Held, reading-held, held-shaped, held-few}
 
 pub fits-more : {n : ℕ} (m : ℕ) → n ≤ m → (o : Operator) → Fits n o → Fits m o
 fits-more m l (Operator.leaf (Leaf.constant b)) f = tt
@@ -39,3 +43,10 @@ module _ {bytes : List ℕ} {t : Table} (h : Held bytes t) where
 
   pub held-placed : (e : ℕ) → e < t .count → Placed (t .rows) e
   held-placed e l = placed (t .rows) (t .count) e (held-few h) l (held-fits e l)
+
+  pub held-readable : Readable t
+  held-readable = record { few = held-few h; placed = held-placed; ends = λ e l. held-shaped h e l .inside }
+
+-- what a caller of reading has after an accepted outcome
+pub accepted-readable : (bytes : List ℕ) (r : code.Reading) → reading-of r ≡ reading bytes → r .outcome ≡ Accepted → Readable (r .table)
+accepted-readable bytes r is o = held-readable (reading-held bytes r is o)

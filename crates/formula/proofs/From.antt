@@ -8,20 +8,21 @@ use native.Mathlib.Nat.{add-zero, zero-add}
 use native.Mathlib.Omega.{arith}
 use lib.ListN.{length, drop, drop-of-length-le}
 use Rattle.formula.specs.Formula.{Formula}
-use Rattle.formula.specs.Reading.{Head, Read, Reading, ended, whole, formula, start, parse, with-entries, reading, places-from}
+use Rattle.formula.specs.Refusal.{at-byte, code-of, place-of}
+use Rattle.formula.specs.Reading.{Head, Read, Reading, ended, whole, formula, start, parse, with-entries, reading, counted-from}
 use Rattle.formula.specs.Reading.{reading-from}
 use Rattle.formula.proofs.Alike.{Alike, Near, moved, formula-alike}
 use Rattle.formula.proofs.Fuel.{Stopped, Same, looks-same, near}
 
-places-from-zero : {A : Type 0} (r : Reading A) → places-from 0 r ≡ r
-places-from-zero (Reading.refused code place) = ap (Reading.refused code) (zero-add place)
-places-from-zero (Reading.accepted a) = refl
+counted-from-zero : {A : Type 0} (r : Reading A) → counted-from 0 r ≡ r
+counted-from-zero (Reading.refused why) = ap (λ (p : ℕ). Reading.refused (at-byte (code-of why) p)) (zero-add (place-of why))
+counted-from-zero (Reading.accepted a) = refl
 
 pub reading-from-start : (bytes : List ℕ) → reading-from bytes 0 ≡ reading bytes
 unfolding reading-from
-reading-from-start bytes = places-from-zero (reading bytes)
+reading-from-start bytes = counted-from-zero (reading bytes)
 
-pub reading-past-end : (bytes : List ℕ) (at : ℕ) → length bytes ≤ at → reading-from bytes at ≡ Reading.refused 1 at
+pub reading-past-end : (bytes : List ℕ) (at : ℕ) → length bytes ≤ at → reading-from bytes at ≡ Reading.refused (at-byte 1 at)
 unfolding parse reading reading-from
 reading-past-end bytes at l = rw (drop-of-length-le bytes l, add-zero at)
 
@@ -29,21 +30,21 @@ reading-past-end bytes at l = rw (drop-of-length-le bytes l, add-zero at)
 abbrev pub start-at : List ℕ → ℕ → Head
 start-at bytes at = record { at = at; left = drop at bytes; commands = 0; ors = 0; nexts = 0; fixpoints = 0 }
 
-entries-from : (n : ℕ) (r : Reading Formula) → with-entries (places-from n r) ≡ places-from n (with-entries r)
-entries-from n (Reading.refused code place) = refl
+entries-from : (n : ℕ) (r : Reading Formula) → with-entries (counted-from n r) ≡ counted-from n (with-entries r)
+entries-from n (Reading.refused why) = refl
 entries-from n (Reading.accepted f) = refl
 
-ended-from : (n : ℕ) (f : Formula) (h : Head) (x : List ℕ) → ended f (moved (_+_ n) h x) x ≡ places-from n (ended f h x)
+ended-from : (n : ℕ) (f : Formula) (h : Head) (x : List ℕ) → ended f (moved (_+_ n) h x) x ≡ counted-from n (ended f h x)
 ended-from n f h [] = refl
 ended-from n f h (b ∷ x) = refl
 
 whole-from : {total d e : ℕ} {x y : Read Formula} (n : ℕ) → Alike (Stopped total) (_+_ n) (Near (Same total) d e 1) x y →
-    whole y ≡ places-from n (whole x)
+    whole y ≡ counted-from n (whole x)
 whole-from n (Alike.refused s) = refl
 whole-from n (Alike.got {a} {h} r) = rw (← r .alike .same) (ended-from n a h (h .left))
 
 formula-from : (n k : ℕ) (h : Head) → length (h .left) ≤ k →
-    whole (formula k [] (moved (_+_ n) h (h .left))) ≡ places-from n (whole (formula k [] h))
+    whole (formula k [] (moved (_+_ n) h (h .left))) ≡ counted-from n (whole (formula k [] h))
 formula-from n k h l =
     let total = h .at + length (h .left) in
     whole-from n

@@ -8,23 +8,25 @@ use Prim.Native.Nat.{ℕ, suc, _+_, _≤_, _<_}
 use native.Mathlib.Omega.{arith}
 use lib.ListN.{length}
 use Rattle.formula.specs.Formula.{Formula}
+use Rattle.formula.specs.Refusal.{at-byte, code-of, place-of}
+use Rattle.formula.specs.declared.Refusal.{Refusal}
 use Rattle.formula.specs.Reading.{Head, Read, Reader, Scope, questions, formula, Reading, ended, whole, start, parse}
 use Rattle.formula.proofs.Alike.{AtByte, AtEnd, Alike, Look, Looks, Near, same, over, questions-alike, formula-alike}
 
 -- a refusal of an input of `total` bytes: at the length where a byte is missing, else at one of the bytes
-pub record Stopped (total code place : ℕ) : Type 0 where
-  pub some : 0 < code
-  pub known : code ≤ 9
-  pub inside : place ≤ total
-  pub missing : (code ≡ 1) ⊎ (code ≡ 5) → place ≡ total
-  pub present : (code ≡ 1 → ⊥) → (code ≡ 5 → ⊥) → place < total
+pub record Stopped (total : ℕ) (why : Refusal) : Type 0 where
+  pub some : 0 < code-of why
+  pub known : code-of why ≤ 9
+  pub inside : place-of why ≤ total
+  pub missing : (code-of why ≡ 1) ⊎ (code-of why ≡ 5) → place-of why ≡ total
+  pub present : (code-of why ≡ 1 → ⊥) → (code-of why ≡ 5 → ⊥) → place-of why < total
 
 -- the same bytes are left, and with those before them they are `total`
 pub record Same (total s : ℕ) (h : Head) (l : List ℕ) : Type 0 where
   pub same : h .left ≡ l
   pub sum : h .at + length (h .left) ≡ total
 
-other : {total place : ℕ} (code : ℕ) → 1 < code → code ≤ 9 → (code ≡ 5 → ⊥) → place < total → Stopped total code place
+other : {total place : ℕ} (code : ℕ) → 1 < code → code ≤ 9 → (code ≡ 5 → ⊥) → place < total → Stopped total (at-byte code place)
 other code a b c i =
     record {
       some = omega arith;
@@ -34,23 +36,23 @@ other code a b c i =
       present = λ x y. i;
     }
 
-at-byte : {total place code : ℕ} → place < total → AtByte code → Stopped total code place
-at-byte i AtByte.unknown = other 2 (omega arith) (omega arith) (λ q. omega arith) i
-at-byte i AtByte.commands = other 3 (omega arith) (omega arith) (λ q. omega arith) i
-at-byte i AtByte.limits = other 4 (omega arith) (omega arith) (λ q. omega arith) i
-at-byte i AtByte.signal = other 6 (omega arith) (omega arith) (λ q. omega arith) i
-at-byte i AtByte.depth = other 7 (omega arith) (omega arith) (λ q. omega arith) i
-at-byte i AtByte.unguarded = other 8 (omega arith) (omega arith) (λ q. omega arith) i
+stopped-byte : {total place code : ℕ} → place < total → AtByte code → Stopped total (at-byte code place)
+stopped-byte i AtByte.unknown = other 2 (omega arith) (omega arith) (λ q. omega arith) i
+stopped-byte i AtByte.commands = other 3 (omega arith) (omega arith) (λ q. omega arith) i
+stopped-byte i AtByte.limits = other 4 (omega arith) (omega arith) (λ q. omega arith) i
+stopped-byte i AtByte.signal = other 6 (omega arith) (omega arith) (λ q. omega arith) i
+stopped-byte i AtByte.depth = other 7 (omega arith) (omega arith) (λ q. omega arith) i
+stopped-byte i AtByte.unguarded = other 8 (omega arith) (omega arith) (λ q. omega arith) i
 
-at-end : {total place code : ℕ} → place ≡ total → AtEnd code → Stopped total code place
-at-end i AtEnd.command = record {
+stopped-end : {total place code : ℕ} → place ≡ total → AtEnd code → Stopped total (at-byte code place)
+stopped-end i AtEnd.command = record {
   some = omega arith;
   known = omega arith;
   inside = omega arith;
   missing = λ e. i;
   present = λ x y. absurd (x refl);
 }
-at-end i AtEnd.operand = record {
+stopped-end i AtEnd.operand = record {
   some = omega arith;
   known = omega arith;
   inside = omega arith;
@@ -60,7 +62,7 @@ at-end i AtEnd.operand = record {
 
 module _ (total : ℕ) where
   look-same : (s : ℕ) (h : Head) (x : List ℕ) → h .at + length x ≡ total → Look (Stopped total) (Same total s) h x x
-  look-same s h [] i = Look.none (λ code c. at-end (omega arith) c)
+  look-same s h [] i = Look.none (λ code c. stopped-end (omega arith) c)
   look-same s h (b ∷ x) i = Look.some {x = x} (record { same = refl; sum = omega arith })
 
   pub looks-same : Looks (Stopped total) (Same total)
@@ -69,7 +71,7 @@ module _ (total : ℕ) where
         look = λ s h l r. subst (Look (Stopped total) (Same total s) h (h .left)) (r .same) (look-same s h (h .left) (r .sum));
         count = λ o n f h l c r. record { same = r .same; sum = r .sum };
         fewer = λ h l r. record { same = r .same; sum = r .sum };
-        refuse = λ s h x y code c r. at-byte (omega (arith, r .sum)) c;
+        refuse = λ s h x y code c r. stopped-byte (omega (arith, r .sum)) c;
       }
 
   abbrev Kept : ℕ → ℕ → Read Formula → Read Formula → Type 0
@@ -84,22 +86,18 @@ module _ (total : ℕ) where
       → Kept d e (formula d scope h) (formula e scope (over h l))
   kept = formula-alike (Stopped total) same (λ i. refl) (Same total) looks-same
 
-  ended-stopped : (f : Formula) (h : Head) (x : List ℕ) (code place : ℕ) → h .at + length x ≡ total
-      → ended f h x ≡ Reading.refused code place
-      → Stopped total code place
-  ended-stopped f h [] code place i e = absurd (let z : _≡_ {A = ℕ} 0 1 = cc in omega arith)
-  ended-stopped f h (b ∷ x) code place i e =
-      let c : code ≡ 9 = cc in
-      let p : place ≡ h .at = cc in
-      other code (omega arith) (omega arith) (λ q. omega arith) (omega arith)
+  ended-stopped : (f : Formula) (h : Head) (x : List ℕ) {why : Refusal} → h .at + length x ≡ total → ended f h x ≡ Reading.refused why
+      → Stopped total why
+  ended-stopped f h [] i e = absurd (let z : _≡_ {A = ℕ} 0 1 = cc in omega arith)
+  ended-stopped f h (b ∷ x) {why} i e =
+      let w : at-byte 9 (h .at) ≡ why = cc in
+      subst (Stopped total) w (other 9 (omega arith) (omega arith) (λ q. omega arith) (omega arith))
 
-  whole-stopped : {n m : ℕ} {x y : Read Formula} (code place : ℕ) → Kept n m x y → whole x ≡ Reading.refused code place
-      → Stopped total code place
-  whole-stopped code place (Alike.refused {code = c} {at = p} s) e =
-      let a : c ≡ code = cc in
-      let b : p ≡ place = cc in
-      rw (← a, ← b) s
-  whole-stopped code place (Alike.got {a} {h} r) e = ended-stopped a h (h .left) code place (r .alike .sum) e
+  whole-stopped : {n m : ℕ} {x y : Read Formula} {why : Refusal} → Kept n m x y → whole x ≡ Reading.refused why → Stopped total why
+  whole-stopped {why = why} (Alike.refused {why = w} s) e =
+      let a : w ≡ why = cc in
+      subst (Stopped total) a s
+  whole-stopped (Alike.got {a} {h} r) e = ended-stopped a h (h .left) (r .alike .sum) e
 
 -- a head beside itself
 pub near : (n m : ℕ) (h : Head) → length (h .left) ≤ n → length (h .left) ≤ m
@@ -133,13 +131,13 @@ formula-unfolds scope h = by (h .left)
         scope g (b ∷ x) (near (suc (length x)) (suc (length x)) g (omega arith) (omega arith)))
 
 -- the places of MEANING 1.4: the length for 1 and 5, else a byte that is there
-pub parse-stopped : (bytes : List ℕ) (code place : ℕ) → parse bytes ≡ Reading.refused code place → Stopped (length bytes) code place
+pub parse-stopped : (bytes : List ℕ) {why : Refusal} → parse bytes ≡ Reading.refused why → Stopped (length bytes) why
 unfolding parse
-parse-stopped bytes code place e =
-    whole-stopped (length bytes) code place
+parse-stopped bytes e =
+    whole-stopped (length bytes)
     (kept (length bytes) (length bytes) (length bytes) [] (start bytes) bytes
     (record { alike = record { same = refl; sum = omega arith }; first = omega arith; second = omega arith })) e
 
-pub short-at-length : (bytes : List ℕ) (code place : ℕ) → (code ≡ 1) ⊎ (code ≡ 5) → parse bytes ≡ Reading.refused code place
-    → place ≡ length bytes
-short-at-length bytes code place c e = parse-stopped bytes code place e .missing c
+pub short-at-length : (bytes : List ℕ) {why : Refusal} → (code-of why ≡ 1) ⊎ (code-of why ≡ 5) → parse bytes ≡ Reading.refused why
+    → place-of why ≡ length bytes
+short-at-length bytes c e = parse-stopped bytes e .missing c

@@ -12,11 +12,12 @@ pub mod Guarded
 pub mod WellFormed
 pub mod RowLaws
 pub mod FitLaws
-pub mod CodeOpcodes
 pub mod AccessLaws
+pub mod CodeOpcodes
 pub mod CodeScope
 pub mod CodeRows
-pub mod CodeQuestions
+pub mod EncodedLaws
 pub mod CodeFormula
+pub mod CodeQuestions
 pub mod CodeCommand
 pub mod CodeWhole

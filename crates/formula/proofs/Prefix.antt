@@ -7,6 +7,7 @@ use native.Mathlib.Omega.{arith}
 use lib.ListN.{length, take}
 use lib.Seq.{take-take}
 use Rattle.formula.specs.Formula.{Formula}
+use Rattle.formula.specs.declared.Refusal.{Refusal}
 use Rattle.formula.specs.Reading.{Head, Read, ended, whole, start, parse, reading, with-entries}
 use Rattle.formula.proofs.Alike.{Alike, Look, Looks, Near, same, over, formula-alike}
 
@@ -17,8 +18,8 @@ pub record Window (s : ℕ) (h : Head) (l : List ℕ) : Type 0 where
   pub agree : take (97 - h .at) (h .left) ≡ take (97 - h .at) l
 
 -- nothing is to be shown of a refusal
-abbrev Any : ℕ → ℕ → Type 0
-Any code place = Unit {0}
+abbrev Any : Refusal → Type 0
+Any why = Unit {0}
 
 module _ (s : ℕ) (h : Head) where
   -- j: how many of the bytes behind the first one agree

@@ -1,146 +1,28 @@
--- Rows that hold the table of an accepted formula are well formed: what code that walks them may count on, by the opcode's byte. Through
--- the decoding the rows' operators and ends are the formula's, so they have its shape (WellFormed). A byte that is no opcode decodes to
--- what has not that shape, so every opcode is 1 to 10. Assumes nothing.
+-- Rows that hold the table of an accepted formula are well formed: what code that walks them may count on. Through the decoding the rows'
+-- operators and ends are the formula's, so they have its shape (WellFormed). Assumes nothing.
 use mathlib.Core.Path.{_≡_, refl, sym, ap, _∙_}
-use mathlib.Core.Bool.{Bool}
 use mathlib.Core.List.{List, [], map}
-use Prim.Native.Nat.{ℕ, zero, suc, _+_, _≤_, _<_}
+use Prim.Native.Nat.{ℕ, _+_, _≤_, _<_}
 use native.Mathlib.Omega.{arith}
-use lib.Dec.{T}
 use lib.ListN.{length, getD, length-map}
+use lib.Seq.{ext-getD}
 use Rattle.base.specs.Lists.{numbers}
 use Rattle.base.proofs.ListLaws.{length-numbers}
-use Rattle.base.proofs.NumberLaws.{values-at}
+use Rattle.base.proofs.NumberLaws.{values-at, values-length}
 use Rattle.formula.specs.Formula.{Formula, size}
-use Rattle.formula.specs.Table.{Entries, entries, table, ends-from, is-fix}
-use Rattle.formula.specs.Reading.{Opcode, opcode, Reading, parse, with-entries, reading}
-use Rattle.formula.specs.Rows.{operator-of, operator-at, end-at, operators-of, ends-of, entries-of, reading-by, reading-of}
+use Rattle.formula.specs.Table.{Entries, entries, table, ends-from, lengths}
+use Rattle.formula.specs.Reading.{Reading, parse, with-entries, reading}
+use Rattle.formula.specs.Rows.{length-at, operator-at, end-at, operators-of, lengths-of, ends-of, entries-of}
+use Rattle.formula.specs.Rows.{reading-by, reading-of}
 use Rattle.formula.specs.declared.Table.{Table}
-use Rattle.formula.specs.declared.Outcome.the-variants.{Accepted}
+use Rattle.formula.specs.declared.Outcome.the-variants.{Accepted, Refused}
+use Rattle.formula.specs.declared.Refusal.{Refusal}
 use Rattle.formula.specs.declared.Reading as code
 use Rattle.formula.specs.Stands.{Ranged, Guarded, nothing}
 use Rattle.formula.proofs.Limits.{parse-limited}
 use Rattle.formula.proofs.Guarded.{parse-guarded}
-use Rattle.formula.proofs.WellFormed.{Shaped, Operands, Single, Pair, table-size, each-shaped, operator-in, end-in}
-
-abbrev pub code-at : List ℕ → ℕ → ℕ
-code-at rows e = getD rows e 0
-
-abbrev pub argument-at : List ℕ → ℕ → ℕ
-argument-at rows e = getD rows (48 + e) 0
-
--- the table of opcodes by ranges
-data Coded : ℕ → Opcode → Type 0 where
-  unknown : (c : ℕ) → Coded c Opcode.unknown
-  constant : (c : ℕ) {b : Bool} → 0 < c → c < 3 → Coded c (Opcode.constant b)
-  signal : (c : ℕ) {p : Bool} → 2 < c → c < 5 → Coded c (Opcode.signal p)
-  variable : (c : ℕ) → c ≡ 5 → Coded c Opcode.variable
-  pair : (c : ℕ) {o : Bool} → 5 < c → c < 8 → Coded c (Opcode.pair o)
-  next : (c : ℕ) → c ≡ 8 → Coded c Opcode.next
-  fix : (c : ℕ) {g : Bool} → 8 < c → c < 11 → Coded c (Opcode.fix g)
-
-coded : (c : ℕ) → Coded c (opcode c)
-coded zero = Coded.unknown 0
-coded (suc zero) = Coded.constant 1 (omega arith) (omega arith)
-coded (suc (suc zero)) = Coded.constant 2 (omega arith) (omega arith)
-coded (suc (suc (suc zero))) = Coded.signal 3 (omega arith) (omega arith)
-coded (suc (suc (suc (suc zero)))) = Coded.signal 4 (omega arith) (omega arith)
-coded (suc (suc (suc (suc (suc zero))))) = Coded.variable 5 (omega arith)
-coded (suc (suc (suc (suc (suc (suc zero)))))) = Coded.pair 6 (omega arith) (omega arith)
-coded (suc (suc (suc (suc (suc (suc (suc zero))))))) = Coded.pair 7 (omega arith) (omega arith)
-coded (suc (suc (suc (suc (suc (suc (suc (suc zero)))))))) = Coded.next 8 (omega arith)
-coded (suc (suc (suc (suc (suc (suc (suc (suc (suc zero))))))))) = Coded.fix 9 (omega arith) (omega arith)
-coded (suc (suc (suc (suc (suc (suc (suc (suc (suc (suc zero)))))))))) = Coded.fix 10 (omega arith) (omega arith)
-coded (suc (suc (suc (suc (suc (suc (suc (suc (suc (suc (suc c))))))))))) =
-    Coded.unknown (suc (suc (suc (suc (suc (suc (suc (suc (suc (suc (suc c)))))))))))
-
-fix-code : {c : ℕ} {op : Opcode} (a e : ℕ) → Coded c op → T (is-fix (operator-of op a e)) → (8 < c) × (c < 11)
-fix-code a e (Coded.unknown c) t = absurd t
-fix-code a e (Coded.constant c i j) t = absurd t
-fix-code a e (Coded.signal c i j) t = absurd t
-fix-code a e (Coded.variable c i) t = absurd t
-fix-code a e (Coded.pair c i j) t = absurd t
-fix-code a e (Coded.next c i) t = absurd t
-fix-code a e (Coded.fix c i j) t = (i, j)
-
-module _ (rows : List ℕ) (count : ℕ) where
-  -- the binder m of a variable at e
-  pub record Binder (e m : ℕ) : Type 0 where
-    pub before : m < e
-    pub around : e < end-at rows m
-    pub least : 8 < code-at rows m
-    pub greatest : code-at rows m < 11
-
-  abbrev pub One : ℕ → ℕ → Type 0
-  One = Single (operator-at rows) (end-at rows) count
-
-  abbrev pub Two : ℕ → ℕ → ℕ → Type 0
-  Two = Pair (operator-at rows) (end-at rows) count
-
-  -- what an opcode's byte says of its argument and its operands
-  pub record Row (e code argument : ℕ) : Type 0 where
-    pub some : 0 < code
-    pub known : code < 11
-    pub signal : 2 < code → code < 5 → argument ≤ 15
-    pub variable : code ≡ 5 → Binder e argument
-    pub pair : 5 < code → code < 8 → Two e (e + 1) argument
-    pub single : 7 < code → code < 11 → One e (e + 1)
-
-  row-single : {e a : ℕ} (c : ℕ) → 7 < c → c < 11 → One e (e + 1) → Row e c a
-  row-single c i j o =
-      record {
-        some = omega arith;
-        known = j;
-        signal = λ x y. absurd (omega arith);
-        variable = λ x. absurd (omega arith);
-        pair = λ x y. absurd (omega arith);
-        single = λ x y. o;
-      }
-
-  row-by : {c : ℕ} {op : Opcode} (e a : ℕ) → Coded c op → Operands (operator-at rows) (end-at rows) count e (operator-of op a e) → Row e c a
-  row-by e a (Coded.unknown c) o = absurd (omega (arith, o .before))
-  row-by e a (Coded.constant c i j) o =
-      record {
-        some = i;
-        known = omega arith;
-        signal = λ x y. absurd (omega arith);
-        variable = λ x. absurd (omega arith);
-        pair = λ x y. absurd (omega arith);
-        single = λ x y. absurd (omega arith);
-      }
-  row-by e a (Coded.signal c i j) o =
-      record {
-        some = omega arith;
-        known = omega arith;
-        signal = λ x y. o;
-        variable = λ x. absurd (omega arith);
-        pair = λ x y. absurd (omega arith);
-        single = λ x y. absurd (omega arith);
-      }
-  row-by e a (Coded.variable c i) o =
-      let f = fix-code (argument-at rows a) a (coded (code-at rows a)) (o .fixpoint) in
-      record {
-        some = omega arith;
-        known = omega arith;
-        signal = λ x y. absurd (omega arith);
-        variable = λ x. record { before = o .before; around = omega (arith, o .around); least = f .0; greatest = f .1 };
-        pair = λ x y. absurd (omega arith);
-        single = λ x y. absurd (omega arith);
-      }
-  row-by e a (Coded.pair c i j) o =
-      record {
-        some = omega arith;
-        known = omega arith;
-        signal = λ x y. absurd (omega arith);
-        variable = λ x. absurd (omega arith);
-        pair = λ x y. o;
-        single = λ x y. absurd (omega arith);
-      }
-  row-by e a (Coded.next c i) o = row-single c (omega arith) (omega arith) o
-  row-by e a (Coded.fix c i j) o = row-single c (omega arith) j o
-
-  pub shaped-row : (e : ℕ) → Shaped (operator-at rows) (end-at rows) count e → Row e (code-at rows e) (argument-at rows e)
-  shaped-row e h = row-by e (argument-at rows e) (coded (code-at rows e)) (h .operands)
+use Rattle.formula.proofs.WellFormed.{Shaped, table-size, length-ends, length-lengths, end-by-length, each-shaped}
+use Rattle.formula.proofs.WellFormed.{operator-in, end-in}
 
 -- rows that decode to a formula's table and ends
 module _ (rows : List ℕ) (n : ℕ) (f : Formula) (operators : operators-of rows 0 n ≡ table f) (ends : ends-of rows 0 n ≡ ends-from 0 f) where
@@ -157,6 +39,17 @@ module _ (rows : List ℕ) (n : ℕ) (f : Formula) (operators : operators-of row
       at : {A : Type 0} (g : ℕ → A) (d : A) (e : ℕ) → e < n → g e ≡ getD (map g (numbers 0 n)) e d
       at g d e l = sym (values-at g 0 n e d l ∙ ap g (omega arith))
 
+-- the ends of rows that have a formula's lengths
+ends-read : (rows : List ℕ) (n : ℕ) (f : Formula) → lengths-of rows 0 n ≡ lengths f → ends-of rows 0 n ≡ ends-from 0 f
+ends-read rows n f same =
+    let count : n ≡ size f = sym (values-length (length-at rows) 0 n) ∙ ap length same ∙ length-lengths f in
+    ext-getD 0 (ends-of rows 0 n) (ends-from 0 f) (values-length (end-at rows) 0 n ∙ count ∙ sym (length-ends 0 f)) (λ e i.
+    let l : e < n = omega (arith, values-length (end-at rows) 0 n) in
+    let q : 0 + e ≡ e = omega arith in
+    let long : length-at rows e ≡ getD (lengths f) e 0 =
+    ap (length-at rows) (sym q) ∙ sym (values-at (length-at rows) 0 n e 0 l) ∙ ap (λ (t : List ℕ). getD t e 0) same in
+    values-at (end-at rows) 0 n e 0 l ∙ ap (end-at rows) q ∙ omega (arith, end-by-length 0 f e (omega arith)))
+
 -- a table in memory that holds the formula that the bytes are
 pub record Held (bytes : List ℕ) (t : Table) : Type 0 where
   pub formula : Formula
@@ -170,15 +63,25 @@ unfolding reading table
 reading-held bytes r e a = by (parse bytes) refl (sym e ∙ ap (λ o. reading-by o (r .table)) a)
   where
     by : (x : Reading Formula) → parse bytes ≡ x → with-entries x ≡ Reading.accepted (entries-of (r .table)) → Held bytes (r .table)
-    by (Reading.refused n p) q e = absurd (let z : _≡_ {A = ℕ} 0 1 = cc in omega arith)
+    by (Reading.refused why) q e = absurd (let z : _≡_ {A = ℕ} 0 1 = cc in omega arith)
     by (Reading.accepted f) q e =
         let same : entries f ≡ entries-of (r .table) = cc in
         record {
           formula = f;
           parsed = q;
           operators = sym (ap (λ (x : Entries). x .operators) same);
-          ends = sym (ap (λ (x : Entries). x .ends) same);
+          ends = ends-read (r .table .rows) (r .table .count) f (sym (ap (λ (x : Entries). x .lengths) same));
         }
+
+-- and after a refusal: what the code refuses the definition refuses
+pub reading-refused : (bytes : List ℕ) (r : code.Reading) {why : Refusal} → reading-of r ≡ reading bytes → r .outcome ≡ Refused why
+    → parse bytes ≡ Reading.refused why
+unfolding reading
+reading-refused bytes r {why} e a = by (parse bytes) (sym e ∙ ap (λ o. reading-by o (r .table)) a)
+  where
+    by : (x : Reading Formula) → with-entries x ≡ Reading.refused why → x ≡ Reading.refused why
+    by (Reading.refused w) q = cc
+    by (Reading.accepted f) q = absurd (let z : _≡_ {A = ℕ} 0 1 = cc in omega arith)
 
 module _ {bytes : List ℕ} {t : Table} (h : Held bytes t) where
   pub held-count : t .count ≡ size (h .formula)
@@ -188,9 +91,6 @@ module _ {bytes : List ℕ} {t : Table} (h : Held bytes t) where
   held-shaped =
       rows-shaped (t .rows) (t .count) (h .formula) (h .operators) (h .ends) (parse-guarded bytes (h .formula) (h .parsed))
       (parse-limited bytes (h .formula) (h .parsed) .signals)
-
-  pub held-row : (e : ℕ) → e < t .count → Row (t .rows) (t .count) e (code-at (t .rows) e) (argument-at (t .rows) e)
-  held-row e i = shaped-row (t .rows) (t .count) e (held-shaped e i)
 
   -- between 1 and 48 subformulas
   pub held-some : 0 < t .count

@@ -13,7 +13,7 @@ use lib.ListN.{length, getD, length-append, length-map, List·getD-append}
 use lib.Seq.{getD-append-add}
 use Rattle.base.proofs.ListLaws as base
 use Rattle.formula.specs.Formula.{Leaf, Formula, size}
-use Rattle.formula.specs.Table.{Operator, Table, table-from, table, ends-from}
+use Rattle.formula.specs.Table.{Operator, Table, table-from, table, ends-from, lengths}
 use Rattle.formula.specs.Reading.{Scope, Reading, parse}
 use Rattle.formula.specs.Stands as specs
 use Rattle.formula.specs.Stands.{Sits, nothing, Guarded, Ranged}
@@ -45,6 +45,51 @@ length-ends e (Formula.variable d) = refl
 length-ends e (Formula.pair o a b) = simp length-append (omega (arith, length-ends (e + 1) a, length-ends (e + 1 + size a) b))
 length-ends e (Formula.next a) = omega (arith, length-ends (e + 1) a)
 length-ends e (Formula.fix g a) = omega (arith, length-ends (e + 1) a)
+
+pub length-lengths : (f : Formula) → length (lengths f) ≡ size f
+length-lengths (Formula.leaf l) = refl
+length-lengths (Formula.variable d) = refl
+length-lengths (Formula.pair o a b) = simp length-append (omega (arith, length-lengths a, length-lengths b))
+length-lengths (Formula.next a) = omega (arith, length-lengths a)
+length-lengths (Formula.fix g a) = omega (arith, length-lengths a)
+
+-- the ends of two lists end to end, by their lengths
+ends-both : (e n i : ℕ) (p q xs ys : List ℕ) → length p ≡ n → length xs ≡ n
+    → (i < n → getD p i 0 ≡ e + i + getD xs i 0)
+    → ((j : ℕ) → i ≡ n + j → getD q j 0 ≡ e + n + j + getD ys j 0)
+    → getD (p ++ q) i 0 ≡ e + i + getD (xs ++ ys) i 0
+ends-both e n i p q xs ys l m first rest = by (decLt i n)
+  where
+    by : Dec (i < n) → getD (p ++ q) i 0 ≡ e + i + getD (xs ++ ys) i 0
+    by (yes k) =
+        omega (arith, List·getD-append p q 0 i (omega arith), List·getD-append xs ys 0 i (omega arith), first k)
+    by (no k) =
+        let j = i - n in
+        let is : i ≡ n + j = omega arith in
+        omega (arith, second p q l, second xs ys m, rest j is)
+      where
+        second : (p q : List ℕ) → length p ≡ n → getD (p ++ q) i 0 ≡ getD q (i - n) 0
+        second p q l =
+            ap (λ (k : ℕ). getD (p ++ q) k 0) {x = i} {y = length p + (i - n)} (omega arith) ∙ getD-append-add p q (i - n) 0
+
+-- a subformula ends so many behind its number as its length says
+pub end-by-length : (e : ℕ) (f : Formula) (i : ℕ) → i < size f → getD (ends-from e f) i 0 ≡ e + i + getD (lengths f) i 0
+end-by-length e (Formula.leaf l) zero h = omega arith
+end-by-length e (Formula.leaf l) (suc i) h = absurd (omega arith)
+end-by-length e (Formula.variable d) zero h = omega arith
+end-by-length e (Formula.variable d) (suc i) h = absurd (omega arith)
+end-by-length e (Formula.pair o a b) zero h = omega arith
+end-by-length e (Formula.pair o a b) (suc i) h =
+    omega (
+      arith,
+      ends-both (e + 1) (size a) i (ends-from (e + 1) a) (ends-from (e + 1 + size a) b) (lengths a) (lengths b)
+          (length-ends (e + 1) a) (length-lengths a) (λ l. end-by-length (e + 1) a i l)
+          (λ j q. end-by-length (e + 1 + size a) b j (omega arith)),
+    )
+end-by-length e (Formula.next a) zero h = omega arith
+end-by-length e (Formula.next a) (suc i) h = omega (arith, end-by-length (e + 1) a i (omega arith))
+end-by-length e (Formula.fix g a) zero h = omega arith
+end-by-length e (Formula.fix g a) (suc i) h = omega (arith, end-by-length (e + 1) a i (omega arith))
 
 -- no subformula ends behind the one that it stands in
 ends-inside : (hi e : ℕ) (f : Formula) → e + size f ≤ hi → base.Each (λ _ x. x ≤ hi) e (ends-from e f)

@@ -4,7 +4,8 @@ use Prim.Native.Nat.{ℕ, _≤_, _<_}
 use mathlib.Core.List.{List}
 use Rattle.formula.specs.Formula.{Leaf}
 use Rattle.formula.specs.Table as definitions
-use Rattle.formula.specs.Rows.{operator-at}
+use Rattle.formula.specs.Rows.{operator-at, end-at}
+use Rattle.formula.specs.declared.Table.{Table}
 use Rattle.formula.specs.declared.Operator.{Operator}
 use Rattle.formula.specs.declared.Operator.the-variants.{Constant, Signal, Variable, Pair, Next, Fixpoint}
 
@@ -30,3 +31,9 @@ Fits n (definitions.Operator.fix greatest b) = b < n
 pub record Placed (rows : List ℕ) (e : ℕ) : Type 0 where
   pub place : e < 48
   pub fits : Fits 48 (operator-at rows e)
+
+-- What code that looks into a table may count on: its subformulas are few, each has a place and ends within the table.
+pub record Readable (t : Table) : Type 0 where
+  pub few : t .count ≤ 48
+  pub placed : (e : ℕ) → e < t .count → Placed (t .rows) e
+  pub ends : (e : ℕ) → e < t .count → end-at (t .rows) e ≤ t .count

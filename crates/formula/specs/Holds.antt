@@ -1,10 +1,14 @@
--- What the table holds beside the outcome of reading. Assumes nothing.
+-- What reading hands back, by the definition's outcome: the table beside it, and every byte of both. Assumes nothing.
 use mathlib.Core.Path.{_≡_}
 use Prim.Native.Nat.{ℕ, _≤_, _<_}
-use lib.ListN.{replicate}
+use lib.ListN.{length, replicate}
+use Rattle.formula.specs.Table.{Entries}
+use Rattle.formula.specs.Reading.{Reading}
+use Rattle.formula.specs.Rows.{encoded}
 use Rattle.formula.specs.declared.Table.{Table}
 use Rattle.formula.specs.declared.Outcome.{Outcome}
 use Rattle.formula.specs.declared.Outcome.the-variants.{Accepted, Refused}
+use Rattle.formula.specs.declared.Reading as code
 
 -- What stands for no table: nothing comes with a refusal (MEANING 1.5).
 abbrev pub no-table : Table
@@ -19,3 +23,8 @@ pub record Some (t : Table) : Type 0 where
 abbrev pub Holds : Outcome → Table → Type 0
 Holds Accepted t = Some t
 Holds (Refused why) t = t ≡ no-table
+
+-- All that reading hands back: the refusal with no table, or the table whose rows hold the subformulas and are zero behind them.
+abbrev pub stored : Reading Entries → code.Reading
+stored (Reading.refused why) = record { outcome = Refused why; table = no-table }
+stored (Reading.accepted x) = record { outcome = Accepted; table = record { count = length (x .operators); rows = encoded x } }

@@ -1,5 +1,6 @@
 pub mod Formula
 pub mod Table
+pub mod Refusal
 pub mod Reading
 pub mod Stands
 pub mod Rows

@@ -3,15 +3,16 @@
 use mathlib.Core.Path.{_≡_}
 use mathlib.Core.Bool.{true, false}
 use mathlib.Core.List.{List, [], _∷_, map}
-use Prim.Native.Nat.{ℕ, zero, suc, _+_, _≤_, _<_}
+use Prim.Native.Nat.{ℕ, zero, suc, _+_, _-_, _≤_, _<_}
 use lib.Dec.{ltb}
 use lib.ListN.{length, getD, drop}
+use Rattle.base.specs.Lists.{numbers}
 use Rattle.formula.specs.Formula.{Formula, size}
-use Rattle.formula.specs.Table.{Operator, Table as Operators, table-from, ends-from}
+use Rattle.formula.specs.Table.{Operator, Table as Operators, table-from, lengths}
 use Rattle.formula.specs.Reading.{opcode, Head as Point, Read, Reader, Scope as Enclosing, within, counted, operands, formula}
 use Rattle.formula.specs.Reading.{reading-from}
-use Rattle.formula.specs.Rows.{operator-of, operator-at, end-at, operators-of, ends-of, reading-of}
-use Rattle.formula.specs.Holds.{Holds}
+use Rattle.formula.specs.Rows.{opcode-at, operand-at, length-at, lengths-of, command-of, operand-of}
+use Rattle.formula.specs.Holds.{stored}
 use Rattle.formula.specs.declared.Head.{Head}
 use Rattle.formula.specs.declared.Scope.{Scope}
 use Rattle.formula.specs.declared.Parsed.{Parsed}
@@ -48,6 +49,7 @@ pub record Limits (h : Head) : Type 0 where
 -- Reading went from h to x.
 pub record Further (h x : Head) : Type 0 where
   pub later : h .at ≤ x .at
+  pub grown : h .count ≤ x .count
   pub more : h .fixpoints ≤ x .fixpoints
   pub limits : Limits x
 
@@ -76,28 +78,63 @@ pub record Ready (h : Head) (scope : Scope) : Type 0 where
   pub depth : scope .depth ≤ h .fixpoints
   pub guarded : scope .guarded ≤ scope .depth
 
--- The rows have the same of subformula e.
+-- Reading may go on at h with the operand byte of the opcode op.
+pub record Operand-ready (op : ℕ) (h : Head) (scope : Scope) : Type 0 where
+  pub least : 2 < op
+  pub most : op ≤ 5
+  pub ready : Ready h scope
+
+-- Reading may go on at h behind the opcode op of subformula e, which has no operand formulas.
+pub record Leaf-ready (op e : ℕ) (h : Head) (scope : Scope) : Type 0 where
+  pub least : 0 < op
+  pub most : op ≤ 5
+  pub count : h .count ≡ e + 1
+  pub ready : Ready h scope
+
+-- The operands of subformula e, of opcode op, may be read: there is room for one more enclosing fixpoint where e is one.
+pub record Inside-ready (scope : Scope) (e op : ℕ) : Type 0 where
+  pub place : e < 48
+  pub guarded : scope .guarded ≤ scope .depth
+  pub room : 8 < op → scope .depth < 7
+
+-- The rows have the same bytes of subformula e.
 pub record Alike (p q : List ℕ) (e : ℕ) : Type 0 where
-  pub operator : operator-at q e ≡ operator-at p e
-  pub end : end-at q e ≡ end-at p e
+  pub command : opcode-at q e ≡ opcode-at p e
+  pub operand : operand-at q e ≡ operand-at p e
+  pub sized : length-at q e ≡ length-at p e
 
 -- The rows q are p, but for subformula e, which is written.
-pub record Placed (p : List ℕ) (e op argument end : ℕ) (q : List ℕ) : Type 0 where
-  pub operator : operator-at q e ≡ operator-of (opcode op) argument e
-  pub ends : end-at q e ≡ end
+pub record Placed (p : List ℕ) (e op argument n : ℕ) (q : List ℕ) : Type 0 where
+  pub command : opcode-at q e ≡ op
+  pub operand : operand-at q e ≡ argument
+  pub sized : length-at q e ≡ n
   pub others : (k : ℕ) → k < 48 → (k ≡ e → ⊥) → Alike p q k
+  pub long : length q ≡ length p
 
--- The rows list n subformulas from e on, by their operators and ends.
+-- The opcode op of subformula e is neither or nor and.
+pub record Unpaired (op e : ℕ) : Type 0 where
+  pub place : e < 48
+  pub not-or : op ≡ 6 → ⊥
+  pub not-and : op ≡ 7 → ⊥
+
+-- The rows list n subformulas from e on: xs are their operators, ys their lengths.
 pub record Listed (e n : ℕ) (xs : Operators) (ys : List ℕ) (rows : List ℕ) : Type 0 where
-  pub operators : operators-of rows e n ≡ xs
-  pub ends : ends-of rows e n ≡ ys
+  pub commands : map (opcode-at rows) (numbers e n) ≡ map command-of xs
+  pub operands : map (operand-at rows) (numbers e n) ≡ map operand-of xs
+  pub lengths : lengths-of rows e n ≡ ys
 
--- The rows q have the subformulas of f from e on, and those below e as in p.
-pub record Written (e : ℕ) (binders : List ℕ) (f : Formula) (p q : List ℕ) : Type 0 where
-  pub listed : Listed e (size f) (table-from e binders f) (ends-from e f) q
-  pub kept : (k : ℕ) → k < e → Alike p q k
+-- The rows q list these subformulas, and have all others as p has them.
+pub record Wrote (e n : ℕ) (xs : Operators) (ys : List ℕ) (p q : List ℕ) : Type 0 where
+  pub listed : Listed e n xs ys q
+  pub before : (k : ℕ) → k < e → Alike p q k
+  pub behind : (k : ℕ) → e + n ≤ k → k < 48 → Alike p q k
+  pub long : length q ≡ length p
 
--- The formula f is read and written as subformula e on; reading went from h to x.
+-- The same of the subformulas of f.
+abbrev pub Written : ℕ → List ℕ → Formula → List ℕ → List ℕ → Type 0
+Written e binders f p q = Wrote e (size f) (table-from e binders f) (lengths f) p q
+
+-- The formula f is read, and written with subformula e as its first; reading went from h to x.
 pub record Got (s : List ℕ) (e : ℕ) (h : Head) (binders rows : List ℕ) (f : Formula) (x : Point) (r : Parsed) : Type 0 where
   pub outcome : r .outcome ≡ Accepted
   pub stands : point s (r .head) ≡ x
@@ -107,7 +144,7 @@ pub record Got (s : List ℕ) (e : ℕ) (h : Head) (binders rows : List ℕ) (f 
 
 -- The answer r is the definition's: its refusal, or its formula in the rows.
 pub data Agrees (s : List ℕ) (e : ℕ) (h : Head) (binders rows : List ℕ) (r : Parsed) : Read Formula → Type 0 where
-  refused : {n p : ℕ} → r .outcome ≡ Refused (record { code = n; at = p }) → Agrees s e h binders rows r (Read.refused n p)
+  refused : {why : Refusal} → r .outcome ≡ Refused why → Agrees s e h binders rows r (Read.refused why)
   got : {f : Formula} {x : Point} → Got s e h binders rows f x r → Agrees s e h binders rows r (Read.got f x)
 
 -- A command that begins at h is read with all its operands. The number k is any that reaches the end of the bytes.
@@ -130,32 +167,35 @@ pub record Opened (s : List ℕ) (h : Head) (op : ℕ) (x : Head) : Type 0 where
 -- The formula that begins at h is refused, within whatever scope.
 abbrev pub Refuses : List ℕ → Head → Refusal → Type 0
 Refuses s h why =
-    (k : ℕ) (scope : Enclosing) → length s ≤ h .at + k → formula k scope (point s h) ≡ Read.refused (why .code) (why .at)
+    (k : ℕ) (scope : Enclosing) → length s ≤ h .at + k → formula k scope (point s h) ≡ Read.refused why
 
 -- One of the two, by what was found at h.
 abbrev pub Opening : List ℕ → Head → Taken → Type 0
 Opening s h (taken.Byte op x) = Opened s h op x
 Opening s h (taken.Refused why) = Refuses s h why
 
--- The formula f is a leaf or a variable, and x is its operator as subformula e.
-pub record Single (e : ℕ) (binders : List ℕ) (f : Formula) (x : Operator) : Type 0 where
-  pub one : size f ≡ 1
-  pub operators : table-from e binders f ≡ x ∷ []
-  pub ends : ends-from e f ≡ (e + 1) ∷ []
+-- The subformulas of f are subformula e, with this opcode and argument, and then n others: xs are their operators, ys their lengths.
+pub record Shape (e : ℕ) (binders : List ℕ) (op argument : ℕ) (f : Formula) (n : ℕ) (xs : Operators) (ys : List ℕ) : Type 0 where
+  pub rows : size f ≡ 1 + n
+  pub operator : Operator
+  pub command : command-of operator ≡ op
+  pub operand : operand-of operator ≡ argument
+  pub operators : table-from e binders f ≡ operator ∷ xs
+  pub lengths : lengths f ≡ size f ∷ ys
 
--- The definition's answer is a leaf or a variable whose row has the argument; reading went from h to x.
+-- The definition's answer is a leaf or a variable with this argument; reading went from h to x.
 pub record Argued (e : ℕ) (binders : List ℕ) (op : ℕ) (answer : Read Formula) (s : List ℕ) (h : Head) (argument : ℕ) (x : Head) : Type 0
   where
     pub got : Formula
     pub is : answer ≡ Read.got got (point s x)
-    pub single : Single e binders got (operator-of (opcode op) argument e)
+    pub alone : Shape e binders op argument got 0 [] []
     pub count : x .count ≡ h .count
     pub further : Further h x
 
 -- That, or the definition's answer is the refusal.
 abbrev pub Argument : ℕ → List ℕ → ℕ → Read Formula → List ℕ → Head → Taken → Type 0
 Argument e bs op answer s h (taken.Byte argument x) = Argued e bs op answer s h argument x
-Argument e bs op answer s h (taken.Refused why) = answer ≡ Read.refused (why .code) (why .at)
+Argument e bs op answer s h (taken.Refused why) = answer ≡ Read.refused why
 
 -- The command op at h has no operand formulas, so what the definition answers depends on no reader of these. Of its argument:
 abbrev pub Argues : List ℕ → Head → ℕ → Scope → Taken → Type 0
@@ -169,16 +209,21 @@ Leaves s h rows e op scope r =
     (self : Enclosing → Reader Formula) →
     Agrees s e h (binders scope) rows r (operands self (enclosing scope) (opcode op) (point s h))
 
+-- Reading stands at h behind subformula e.
+pub record Behind (e : ℕ) (h : Head) : Type 0 where
+  pub after : e < h .count
+  pub few : h .count ≤ 48
+
 -- Subformula e, read up to h, is written.
 pub record Finished (h : Head) (rows : List ℕ) (e op argument : ℕ) (r : Parsed) : Type 0 where
   pub outcome : r .outcome ≡ Accepted
   pub head : r .head ≡ h
-  pub placed : Placed rows e op argument (h .count) (r .rows)
+  pub placed : Placed rows e op argument (h .count - e) (r .rows)
 
--- The same if its last operand p was read; else the refusal.
-pub record Completed (p : Parsed) (e op argument : ℕ) (r : Parsed) : Type 0 where
+-- The same of an operator of which p is the last operand, if that was read; else the refusal.
+pub record Completed (p : Parsed) (e op : ℕ) (r : Parsed) : Type 0 where
   pub refused : (why : Refusal) → p .outcome ≡ Refused why → r .outcome ≡ Refused why
-  pub accepted : p .outcome ≡ Accepted → Finished (p .head) (p .rows) e op argument r
+  pub accepted : p .outcome ≡ Accepted → Finished (p .head) (p .rows) e op 0 r
 
 -- The scope x has these enclosing fixpoints.
 pub record Around (scope : Enclosing) (numbers : List ℕ) (x : Scope) : Type 0 where
@@ -193,7 +238,6 @@ pub record Inside (scope : Scope) (e op : ℕ) (x : Scope) : Type 0 where
   pub guarded : x .guarded ≤ x .depth
   pub depth : (n : ℕ) → scope .depth ≤ n → (8 < op → scope .depth < n) → x .depth ≤ n
 
--- The answer r is the definition's reading from the byte at a place, and the table beside it holds what it must.
-pub record Answered (s : List ℕ) (at : ℕ) (r : code.Reading) : Type 0 where
-  pub reading : reading-of r ≡ reading-from s at
-  pub table : Holds (r .outcome) (r .table)
+-- The answer r is the definition's of reading from the byte at a place.
+abbrev pub Answered : List ℕ → ℕ → code.Reading → Type 0
+Answered s at r = r ≡ stored (reading-from s at)

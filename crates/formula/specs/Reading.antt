@@ -6,6 +6,8 @@ use lib.Dec.{ltb, leb}
 use lib.ListN.{length, getD, drop}
 use Rattle.formula.specs.Formula.{Leaf, Formula}
 use Rattle.formula.specs.Table.{Entries, entries}
+use Rattle.formula.specs.Refusal.{at-byte, places-from}
+use Rattle.formula.specs.declared.Refusal.{Refusal}
 
 -- What a byte may be where an operator begins. Pair: or (06) where true, and (07) where false; fix: greatest (0A) where true, least (09)
 -- where false.
@@ -35,9 +37,9 @@ pub record Head : Type 0 where
   pub nexts : ℕ
   pub fixpoints : ℕ
 
--- Reading a part of the bytes: a refusal with its number and place, or what was read, and where reading has come to.
+-- Reading a part of the bytes: a refusal, or what was read, and where reading has come to.
 pub data Read (A : Type 0) : Type 0 where
-  refused : (code place : ℕ) → Read A
+  refused : Refusal → Read A
   got : A → Head → Read A
 
 -- A way to read one thing.
@@ -50,7 +52,7 @@ done a h = Read.got a h
 
 -- A refusal is final; else reading goes on from what it has come to.
 abbrev pub and-then : {A B : Type 0} → (A → Reader B) → Read A → Read B
-and-then f (Read.refused n p) = Read.refused n p
+and-then f (Read.refused why) = Read.refused why
 and-then f (Read.got a h) = f a h
 
 -- One thing is read after another: what a line of `do` means.
@@ -60,7 +62,7 @@ abbrev pub _>>=_ : {A B : Type 0} → Reader A → (A → Reader B) → Reader B
 
 -- The questions 1 and 5: the next byte, or, where no bytes are left, the refusal at this place, which is the length.
 abbrev pub byte-from : ℕ → Head → List ℕ → Read ℕ
-byte-from code h [] = Read.refused code (h .at)
+byte-from code h [] = Read.refused (at-byte code (h .at))
 byte-from code h (b ∷ bs) =
     Read.got b (record { at = h .at + 1; left = bs; commands = h .commands; ors = h .ors; nexts = h .nexts; fixpoints = h .fixpoints })
 
@@ -71,11 +73,11 @@ byte code h = byte-from code h (h .left)
 -- The answer to a question about the byte that was just read: no is the refusal at this byte.
 abbrev pub answered : Bool → ℕ → Reader (Unit {0})
 answered true code h = Read.got tt h
-answered false code h = Read.refused code (h .at - 1)
+answered false code h = Read.refused (at-byte code (h .at - 1))
 
 -- A question whose answer depends on what reading has come to.
-abbrev pub ask : (Head → Bool) → ℕ → Reader (Unit {0})
-ask q code h = answered (q h) code h
+abbrev pub ask-here : (Head → Bool) → ℕ → Reader (Unit {0})
+ask-here q code h = answered (q h) code h
 
 -- Question 2: whether it is an opcode.
 abbrev pub known : Opcode → Bool
@@ -128,12 +130,12 @@ operands self scope Opcode.unknown = done (Formula.leaf (Leaf.constant false))
 operands self scope (Opcode.constant b) = done (Formula.leaf (Leaf.constant b))
 operands self scope (Opcode.signal present) = do
   s ← byte 5
-  _ ← ask (λ h. leb s 15) 6
+  _ ← ask-here (λ h. leb s 15) 6
   done (Formula.leaf (Leaf.signal present s))
 operands self scope Opcode.variable = do
   d ← byte 5
-  _ ← ask (λ h. ltb d (length scope)) 7
-  _ ← ask (λ h. getD scope d false) 8
+  _ ← ask-here (λ h. ltb d (length scope)) 7
+  _ ← ask-here (λ h. getD scope d false) 8
   done (Formula.variable d)
 operands self scope (Opcode.pair o) = do
   a ← self scope
@@ -150,30 +152,30 @@ operands self scope (Opcode.fix g) = do
 abbrev pub questions : (Scope → Reader Formula) → Scope → Reader Formula
 questions self scope = do
   b ← byte 1
-  _ ← ask (λ h. known (opcode b)) 2
-  _ ← ask (λ h. ltb (h .commands) 48) 3
-  _ ← ask (λ h. within (opcode b) h) 4
+  _ ← ask-here (λ h. known (opcode b)) 2
+  _ ← ask-here (λ h. ltb (h .commands) 48) 3
+  _ ← ask-here (λ h. within (opcode b) h) 4
   _ ← count (opcode b)
   operands self scope (opcode b)
 
 -- One formula. The first number bounds how deep operands nest. That of the bytes left is enough: proofs/Fuel.antt has the law.
 abbrev pub formula : ℕ → Scope → Reader Formula
-formula zero scope h = Read.refused 1 (h .at)
+formula zero scope h = Read.refused (at-byte 1 (h .at))
 formula (suc deep) scope h = questions (formula deep) scope h
 
--- The outcome of reading (MEANING 1.5): a refusal with its number and place, or what was accepted.
+-- The outcome of reading (MEANING 1.5): a refusal, or what was accepted.
 pub data Reading (A : Type 0) : Type 0 where
-  refused : (code place : ℕ) → Reading A
+  refused : Refusal → Reading A
   accepted : A → Reading A
 
 -- Question 9: all bytes are used, or the refusal at the first that is not.
 abbrev pub ended : Formula → Head → List ℕ → Reading Formula
 ended f h [] = Reading.accepted f
-ended f h (b ∷ bs) = Reading.refused 9 (h .at)
+ended f h (b ∷ bs) = Reading.refused (at-byte 9 (h .at))
 
 -- The outcome, once reading has come to the end of subformula 0.
 abbrev pub whole : Read Formula → Reading Formula
-whole (Read.refused n p) = Reading.refused n p
+whole (Read.refused why) = Reading.refused why
 whole (Read.got f h) = ended f h (h .left)
 
 -- Reading begins at place 0 with nothing counted.
@@ -186,7 +188,7 @@ parse bytes = whole (formula (length bytes) [] (start bytes))
 
 -- The outcome with the subformulas in place of the tree.
 abbrev pub with-entries : Reading Formula → Reading Entries
-with-entries (Reading.refused n p) = Reading.refused n p
+with-entries (Reading.refused why) = Reading.refused why
 with-entries (Reading.accepted f) = Reading.accepted (entries f)
 
 -- Reading: MEANING 1.5.
@@ -194,13 +196,13 @@ unfoldable pub reading : List ℕ → Reading Entries
 unfolding parse
 reading bytes = with-entries (parse bytes)
 
--- A refusal whose place is counted from n bytes earlier.
-abbrev pub places-from : {A : Type 0} → ℕ → Reading A → Reading A
-places-from n (Reading.refused code place) = Reading.refused code (n + place)
-places-from n (Reading.accepted a) = Reading.accepted a
+-- The outcome, a refusal's place counted from n bytes earlier.
+abbrev pub counted-from : {A : Type 0} → ℕ → Reading A → Reading A
+counted-from n (Reading.refused why) = Reading.refused (places-from n why)
+counted-from n (Reading.accepted a) = Reading.accepted a
 
 -- A reader that has come to some place of the bytes reads from there, and counts places from the first byte. Behind the last byte
 -- nothing is left to read: the refusal is 1, where the reader is.
 unfoldable pub reading-from : List ℕ → ℕ → Reading Entries
 unfolding reading
-reading-from bytes at = places-from at (reading (drop at bytes))
+reading-from bytes at = counted-from at (reading (drop at bytes))

@@ -59,7 +59,8 @@ table-from e binders (Formula.fix g a) = Operator.fix g (e + 1) ∷ table-from (
 unfoldable pub table : Formula → Table
 table f = table-from 0 [] f
 
--- For each subformula the number after its last one: an operator's subformulas are those from its own number up to that.
+-- For each subformula the number after its last one, which is its own with its length: an operator's subformulas are those from its own
+-- number up to that.
 abbrev pub ends-from : ℕ → Formula → List ℕ
 ends-from e (Formula.leaf l) = (e + 1) ∷ []
 ends-from e (Formula.variable d) = (e + 1) ∷ []
@@ -67,12 +68,20 @@ ends-from e (Formula.pair o a b) = (e + size (Formula.pair o a b)) ∷ (ends-fro
 ends-from e (Formula.next a) = (e + size (Formula.next a)) ∷ ends-from (e + 1) a
 ends-from e (Formula.fix g a) = (e + size (Formula.fix g a)) ∷ ends-from (e + 1) a
 
+-- For each subformula its length: how many subformulas it has, itself among them.
+abbrev pub lengths : Formula → List ℕ
+lengths (Formula.leaf l) = 1 ∷ []
+lengths (Formula.variable d) = 1 ∷ []
+lengths (Formula.pair o a b) = size (Formula.pair o a b) ∷ (lengths a ++ lengths b)
+lengths (Formula.next a) = size (Formula.next a) ∷ lengths a
+lengths (Formula.fix g a) = size (Formula.fix g a) ∷ lengths a
+
 -- What reading hands back of an accepted formula.
 pub record Entries : Type 0 where
   pub operators : Table
-  pub ends : List ℕ
+  pub lengths : List ℕ
 
 -- the same for a formula
 abbrev pub entries : Formula → Entries
 unfolding table
-entries f = record { operators = table f; ends = ends-from 0 f }
+entries f = record { operators = table f; lengths = lengths f }

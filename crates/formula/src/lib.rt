@@ -3,19 +3,43 @@ ghost use mathlib.Core.Path.{_≡_};
 ghost use mathlib.Core.List.{List};
 ghost use Prim.Native.Nat.{ℕ, _+_, _≤_, _<_};
 ghost use lib.ListN.{length};
+ghost use Rattle.formula.specs.Refusal.{code-of, place-of};
 ghost use Rattle.formula.specs.Reading.{opcode, reading, within as allowed};
+ghost use Rattle.formula.specs.Table as definitions;
 ghost use Rattle.formula.specs.Table.{is-or, is-next, is-fix};
-ghost use Rattle.formula.specs.Rows.{operator-of, opcode-at, operator-at, end-at, reading-of};
+ghost use Rattle.formula.specs.Rows.{operator-of, opcode-at, operator-at, end-at, command-of, reading-of};
 ghost use Rattle.formula.specs.Access.{decoded, Placed};
-ghost use Rattle.formula.specs.Holds.{Holds, no-table};
-ghost use Rattle.formula.specs.Promise.{point, behind, Limits, Room, Counted, Opening, Ready, Inside};
-ghost use Rattle.formula.specs.Promise.{Placed as Row-placed, Finished, Argues, Leaves, Completed, Command, Answered};
+ghost use Rattle.formula.specs.Holds.{Holds, no-table, stored};
+ghost use Rattle.formula.specs.Promise.{point, behind, Limits, Room, Counted, Opening, Ready, Operand-ready, Leaf-ready};
+ghost use Rattle.formula.specs.Promise.{Inside-ready, Inside, Placed as Row-placed, Unpaired, Behind, Finished, Completed};
+ghost use Rattle.formula.specs.Promise.{Argues, Leaves, Command, Answered};
+
+// The opcodes: MEANING 1.1.
+const TRUE: u8 = 1;
+
+const FALSE: u8 = 2;
+
+const PRESENT: u8 = 3;
+
+const ABSENT: u8 = 4;
+
+const VARIABLE: u8 = 5;
+
+const OR: u8 = 6;
+
+const AND: u8 = 7;
+
+const NEXT: u8 = 8;
+
+const LEAST: u8 = 9;
+
+const GREATEST: u8 = 10;
 
 // The number of a subformula (document 01: an entry), kept apart from positions on a lasso.
 pub struct Subformula(pub usize);
 
-// The subformulas. Of subformula e, rows has its opcode at e; at 48 + e its argument: a signal, the binder of a variable or the
-// second operand of or, and; at 96 + e the number after its last subformula. The first operand of e is e + 1.
+// The subformulas: how many, and their rows. The layout of the rows is said above `written`; code elsewhere asks `operator_at`, `is_or`,
+// `is_next`, `is_fixpoint` and `end`.
 pub struct Table {
     pub count: usize,
     pub rows: [u8; 144],
@@ -45,6 +69,19 @@ pub enum Operator {
 pub struct Refusal {
     pub code: u8,
     pub at: usize,
+}
+
+// What is told of a refusal: its code, and its place.
+pub fn code_of(why: Refusal) -> u8
+    ensures { λ r. ⌜ r ≡ code-of why ⌝ }
+{
+    why.code
+}
+
+pub fn place_of(why: Refusal) -> usize
+    ensures { λ r. ⌜ r ≡ place-of why ⌝ }
+{
+    why.at
 }
 
 pub enum Outcome {
@@ -92,13 +129,13 @@ fn within(op: u8, h: Head) -> bool
     requires { ⌜ op ≤ 10 ⌝ }
     ensures { λ r. ⌜ ((s : List ℕ) → r ≡ allowed (opcode op) (point s h)) ⌝ }
 {
-    if op == 6 {
+    if op == OR {
         return h.ors < 12;
     }
-    if op == 8 {
+    if op == NEXT {
         return h.nexts < 12;
     }
-    if 8 < op {
+    if NEXT < op {
         return h.fixpoints < 7;
     }
     true
@@ -126,9 +163,9 @@ fn counted(op: u8, h: Head) -> Head
     Head {
         at: h.at,
         count: h.count + 1,
-        ors: h.ors + base::one_if(op == 6),
-        nexts: h.nexts + base::one_if(op == 8),
-        fixpoints: h.fixpoints + base::one_if(8 < op),
+        ors: h.ors + base::one_if(op == OR),
+        nexts: h.nexts + base::one_if(op == NEXT),
+        fixpoints: h.fixpoints + base::one_if(NEXT < op),
     }
 }
 
@@ -142,10 +179,10 @@ fn opcode_at(s: &[u8], h: Head) -> Taken
         return Taken::Refused(Refusal { code: 1, at: at });
     }
     let op = s[at];
-    if op < 1 {
+    if op < TRUE {
         return Taken::Refused(Refusal { code: 2, at: at });
     }
-    if 10 < op {
+    if GREATEST < op {
         return Taken::Refused(Refusal { code: 2, at: at });
     }
     if 48 <= h.count {
@@ -160,7 +197,7 @@ fn opcode_at(s: &[u8], h: Head) -> Taken
 
 // The argument of a signal, or of a variable, which is its binder: the questions 5 to 8.
 fn argument_at(s: &[u8], h: Head, op: u8, scope: Scope) -> Taken
-    requires { ⌜ (2 < op) × (op ≤ 5) × Ready h scope ⌝ }
+    requires { ⌜ Operand-ready op h scope ⌝ }
     ensures { λ r. ⌜ Argues (now (s .entry)) h op scope r ⌝ }
 {
     let at = h.at;
@@ -169,7 +206,7 @@ fn argument_at(s: &[u8], h: Head, op: u8, scope: Scope) -> Taken
     }
     let value = s[at];
     let after = passed(s, h);
-    if op < 5 {
+    if op < VARIABLE {
         if 15 < value {
             return Taken::Refused(Refusal { code: 6, at: at });
         }
@@ -189,34 +226,21 @@ fn argument_at(s: &[u8], h: Head, op: u8, scope: Scope) -> Taken
 
 // The scope of the operands of subformula me.
 fn inside(scope: Scope, me: Subformula, op: u8) -> Scope
-    requires { ⌜ (me .0 < 48) × (scope .guarded ≤ scope .depth) × (8 < op → scope .depth < 7) ⌝ }
+    requires { ⌜ Inside-ready scope (me .0) op ⌝ }
     ensures { λ r. ⌜ Inside scope (me .0) op r ⌝ }
 {
     let e = me.0;
     let depth = scope.depth;
     let mut inner = scope;
-    if op == 8 {
+    if op == NEXT {
         inner.guarded = depth;
         return inner;
     }
-    if 8 < op {
+    if NEXT < op {
         inner.binders[depth] = (e % 256) as u8;
         inner.depth = depth + 1;
     }
     inner
-}
-
-// The rows with subformula me, whose subformulas end before end.
-fn written(rows: [u8; 144], me: Subformula, op: u8, argument: u8, end: usize) -> [u8; 144]
-    requires { ⌜ (me .0 < 48) × (end ≤ 48) ⌝ }
-    ensures { λ r. ⌜ Row-placed rows (me .0) op argument end r ⌝ }
-{
-    let e = me.0;
-    let mut r = rows;
-    r[e] = op;
-    r[48 + e] = argument;
-    r[96 + e] = (end % 256) as u8;
-    r
 }
 
 fn stopped(why: Refusal, h: Head, rows: [u8; 144]) -> Parsed
@@ -230,23 +254,24 @@ fn stopped(why: Refusal, h: Head, rows: [u8; 144]) -> Parsed
 }
 
 // Subformula me, read up to h, is written.
-fn finished(h: Head, rows: [u8; 144], me: Subformula, op: u8, argument: u8) -> Parsed
-    requires { ⌜ (me .0 < 48) × (h .count ≤ 48) ⌝ }
-    ensures { λ r. ⌜ Finished h rows (me .0) op argument r ⌝ }
+fn finished(h: Head, rows: [u8; 144], me: Subformula, op: u8, operand: u8) -> Parsed
+    requires { ⌜ Behind (me .0) h ⌝ }
+    ensures { λ r. ⌜ Finished h rows (me .0) op operand r ⌝ }
 {
+    let length = h.count - me.0;
     Parsed {
         outcome: Outcome::Accepted,
         head: h,
-        rows: written(rows, me, op, argument, h.count),
+        rows: written(rows, me, op, operand, length),
     }
 }
 
 // An operator without operand formulas.
 fn leaf(s: &[u8], h: Head, rows: [u8; 144], me: Subformula, op: u8, scope: Scope) -> Parsed
-    requires { ⌜ (0 < op) × (op ≤ 5) × Ready h scope × (h .count ≡ me .0 + 1) ⌝ }
+    requires { ⌜ Leaf-ready op (me .0) h scope ⌝ }
     ensures { λ r. ⌜ Leaves (now (s .entry)) h rows (me .0) op scope r ⌝ }
 {
-    if op <= 2 {
+    if op <= FALSE {
         return finished(h, rows, me, op, 0);
     }
     let argument = argument_at(s, h, op, scope);
@@ -256,17 +281,17 @@ fn leaf(s: &[u8], h: Head, rows: [u8; 144], me: Subformula, op: u8, scope: Scope
     }
 }
 
-// Subformula me, whose last operand is p.
-fn complete(p: Parsed, me: Subformula, op: u8, argument: usize) -> Parsed
-    requires { ⌜ (me .0 < 48) × (argument ≤ 48) × (p .outcome ≡ Outcome.Accepted → p .head .count ≤ 48) ⌝ }
-    ensures { λ r. ⌜ Completed p (me .0) op argument r ⌝ }
+// Subformula me, an operator whose last operand is p.
+fn complete(p: Parsed, me: Subformula, op: u8) -> Parsed
+    requires { ⌜ (p .outcome ≡ Outcome.Accepted → Behind (me .0) (p .head)) ⌝ }
+    ensures { λ r. ⌜ Completed p (me .0) op r ⌝ }
 {
     let outcome = p.outcome;
     let h = p.head;
     let rows = p.rows;
     match outcome {
         Outcome::Refused(_) => p,
-        Outcome::Accepted => finished(h, rows, me, op, (argument % 256) as u8),
+        Outcome::Accepted => finished(h, rows, me, op, 0),
     }
 }
 
@@ -280,22 +305,20 @@ fn command(s: &[u8], h: Head, rows: [u8; 144], scope: Scope) -> Parsed
         Taken::Refused(why) => stopped(why, h, rows),
         Taken::Byte(op, after) => {
             let me = Subformula(h.count);
-            if op <= 5 {
+            if op <= VARIABLE {
                 return leaf(s, after, rows, me, op, scope);
             }
             let inner = inside(scope, me, op);
             let first = command(s, after, rows, inner);
-            if 7 < op {
-                return complete(first, me, op, 0);
+            if AND < op {
+                return complete(first, me, op);
             }
             let outcome = first.outcome;
             let between = first.head;
             let so_far = first.rows;
             match outcome {
                 Outcome::Refused(_) => first,
-                Outcome::Accepted => {
-                    complete(command(s, between, so_far, inner), me, op, between.count)
-                }
+                Outcome::Accepted => complete(command(s, between, so_far, inner), me, op),
             }
         }
     }
@@ -351,9 +374,9 @@ fn read_at(s: &[u8], at: usize) -> Reading
 }
 
 // The bytes of a formula together with the place of the byte that reading begins at.
-pub struct Reader<'a> {
-    pub src: &'a [u8],
-    pub at: usize,
+struct Reader<'a> {
+    src: &'a [u8],
+    at: usize,
 }
 
 // The reader at the first byte.
@@ -372,10 +395,28 @@ fn read_from<'a>(r: Reader<'a>) -> Reading
 
 // Reads a whole formula.
 pub fn read(s: &[u8]) -> Reading
-    ensures { λ r. ⌜ reading-of r ≡ reading (now (s .entry)) ⌝ }
-    ensures { λ r. ⌜ Holds (r .outcome) (r .table) ⌝ }
+    ensures outcome { λ r. ⌜ reading-of r ≡ reading (now (s .entry)) ⌝ }
+    ensures table { λ r. ⌜ Holds (r .outcome) (r .table) ⌝ }
+    ensures determined { λ r. ⌜ r ≡ stored (reading (now (s .entry))) ⌝ }
 {
     read_from(new(s))
+}
+
+// The layout of the rows, known to the functions from here on and to no others. Of subformula e byte e is the opcode; byte 48 + e is what
+// the operand byte stands for, a signal or the binder of a variable, and 0 where there is none; byte 96 + e is the length, the number of
+// operators in it. Its first operand is e + 1, and a right one begins where that ends. What belongs to no subformula is 0.
+
+// The rows with subformula me.
+fn written(rows: [u8; 144], me: Subformula, op: u8, operand: u8, length: usize) -> [u8; 144]
+    requires { ⌜ (me .0 < 48) × (length ≤ 48) ⌝ }
+    ensures { λ r. ⌜ Row-placed rows (me .0) op operand length r ⌝ }
+{
+    let e = me.0;
+    let mut r = rows;
+    r[e] = op;
+    r[48 + e] = operand;
+    r[96 + e] = (length % 256) as u8;
+    r
 }
 
 fn opcode_of(rows: &[u8; 144], s: Subformula) -> u8
@@ -386,13 +427,21 @@ fn opcode_of(rows: &[u8; 144], s: Subformula) -> u8
     rows[e]
 }
 
+// The number that is so many after e.
+fn after(e: usize, length: u8) -> usize
+    requires { ⌜ e < 48 ⌝ }
+    ensures { λ r. ⌜ r ≡ e + length ⌝ }
+{
+    e + base::wide(length)
+}
+
 // The number after the last subformula inside s.
 pub fn end(rows: &[u8; 144], s: Subformula) -> usize
     requires { ⌜ s .0 < 48 ⌝ }
     ensures { λ r. ⌜ r ≡ end-at (now (rows .entry)) (s .0) ⌝ }
 {
     let e = s.0;
-    base::wide(rows[96 + e])
+    after(e, rows[96 + e])
 }
 
 // Whether s is an or.
@@ -400,7 +449,7 @@ pub fn is_or(rows: &[u8; 144], s: Subformula) -> bool
     requires { ⌜ s .0 < 48 ⌝ }
     ensures { λ r. ⌜ r ≡ is-or (operator-at (now (rows .entry)) (s .0)) ⌝ }
 {
-    opcode_of(rows, s) == 6
+    opcode_of(rows, s) == OR
 }
 
 // Whether it is a next.
@@ -408,7 +457,7 @@ pub fn is_next(rows: &[u8; 144], s: Subformula) -> bool
     requires { ⌜ s .0 < 48 ⌝ }
     ensures { λ r. ⌜ r ≡ is-next (operator-at (now (rows .entry)) (s .0)) ⌝ }
 {
-    opcode_of(rows, s) == 8
+    opcode_of(rows, s) == NEXT
 }
 
 // Whether it is a fixpoint.
@@ -417,44 +466,48 @@ pub fn is_fixpoint(rows: &[u8; 144], s: Subformula) -> bool
     ensures { λ r. ⌜ r ≡ is-fix (operator-at (now (rows .entry)) (s .0)) ⌝ }
 {
     let op = opcode_of(rows, s);
-    (op == 9) | (op == 10)
+    (op == LEAST) | (op == GREATEST)
 }
 
-// The operator by its opcode and its argument. A byte that is no opcode stands for a variable that is its own binder, which no table has.
-fn operator_by(op: u8, argument: u8, s: Subformula) -> Operator
-    requires { ⌜ s .0 < 48 ⌝ }
-    ensures { λ r. ⌜ operator-of (opcode op) argument (s .0) ≡ decoded r ⌝ }
+// An or, or an and.
+fn pair(rows: &[u8; 144], s: Subformula, either: bool) -> Operator
+    requires { ⌜ s .0 + 1 < 48 ⌝ }
+    ensures { λ r. ⌜ definitions.Operator.pair either (s .0 + 1) (end-at (now (rows .entry)) (s .0 + 1)) ≡ decoded r ⌝ }
+{
+    let left = Subformula(s.0 + 1);
+    let right = Subformula(end(rows, left));
+    Operator::Pair {
+        either: either,
+        left: left,
+        right: right,
+    }
+}
+
+// Any other operator by its opcode and its operand. A byte that is no opcode stands for a variable that is its own binder, which no table
+// has.
+fn operator_by(op: u8, operand: u8, s: Subformula) -> Operator
+    requires { ⌜ Unpaired op (s .0) ⌝ }
+    ensures { λ r. ⌜ ((right : ℕ) → operator-of (opcode op) operand right (s .0) ≡ decoded r) ⌝ }
 {
     let first = Subformula(s.0 + 1);
-    let second = Subformula(base::wide(argument));
     match op {
-        1 => Operator::Constant(true),
-        2 => Operator::Constant(false),
-        3 => Operator::Signal {
+        TRUE => Operator::Constant(true),
+        FALSE => Operator::Constant(false),
+        PRESENT => Operator::Signal {
             present: true,
-            signal: argument,
+            signal: operand,
         },
-        4 => Operator::Signal {
+        ABSENT => Operator::Signal {
             present: false,
-            signal: argument,
+            signal: operand,
         },
-        5 => Operator::Variable(second),
-        6 => Operator::Pair {
-            either: true,
-            left: first,
-            right: second,
-        },
-        7 => Operator::Pair {
-            either: false,
-            left: first,
-            right: second,
-        },
-        8 => Operator::Next(first),
-        9 => Operator::Fixpoint {
+        VARIABLE => Operator::Variable(Subformula(base::wide(operand))),
+        NEXT => Operator::Next(first),
+        LEAST => Operator::Fixpoint {
             greatest: false,
             body: first,
         },
-        10 => Operator::Fixpoint {
+        GREATEST => Operator::Fixpoint {
             greatest: true,
             body: first,
         },
@@ -468,5 +521,30 @@ pub fn operator_at(rows: &[u8; 144], s: Subformula) -> Operator
     ensures { λ r. ⌜ operator-at (now (rows .entry)) (s .0) ≡ decoded r ⌝ }
 {
     let e = s.0;
-    operator_by(rows[e], rows[48 + e], s)
+    let op = rows[e];
+    if op == OR {
+        return pair(rows, s, true);
+    }
+    if op == AND {
+        return pair(rows, s, false);
+    }
+    operator_by(op, rows[48 + e], s)
+}
+
+// The byte of its opcode.
+pub fn opcode_byte(operator: Operator) -> u8
+    ensures { λ r. ⌜ r ≡ command-of (decoded operator) ⌝ }
+{
+    match operator {
+        Operator::Constant(holds) => if holds { TRUE } else { FALSE },
+        Operator::Signal { present, signal: _ } => if present { PRESENT } else { ABSENT },
+        Operator::Variable(_) => VARIABLE,
+        Operator::Pair {
+            either,
+            left: _,
+            right: _,
+        } => if either { OR } else { AND },
+        Operator::Next(_) => NEXT,
+        Operator::Fixpoint { greatest, body: _ } => if greatest { GREATEST } else { LEAST },
+    }
 }

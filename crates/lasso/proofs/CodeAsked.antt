@@ -6,23 +6,22 @@ use mathlib.Core.List.{List, [], _++_, map}
 use Prim.Native.Nat.{ℕ, _+_, _≤_, _<_}
 use native.Mathlib.Omega.{arith}
 use lib.ListN.{length, drop, getD}
-use borrow.Author.Tests.{lt-ltb, le-ltb, le-leb, lt-leb}
 use Rattle.base.specs.Lists.{numbers}
 use Rattle.base.proofs.NumberLaws.{values-at}
+use Rattle.base.proofs.AskLaws.{first-refusal, passed}
 use Rattle.formula.specs.Formula.{Formula, size}
 use Rattle.formula.specs.Table.{Operator}
-use Rattle.formula.specs.Reading.{Reading, parse, reading, with-entries}
-use Rattle.formula.specs.Rows.{operator-at, end-at, reading-by, reading-of}
+use Rattle.formula.specs.Reading.{Reading, parse, reading}
+use Rattle.formula.specs.Rows.{operator-at, end-at, reading-of}
 use Rattle.formula.specs.declared.Table.{Table}
 use Rattle.formula.specs.declared.Refusal.{Refusal}
-use Rattle.formula.specs.declared.Outcome.{Outcome}
 use Rattle.formula.specs.declared.Outcome.the-variants.{Accepted, Refused as Unaccepted}
 use Rattle.formula.specs.declared.Reading as read
 use Rattle.formula.specs.Stands.{nothing}
 use Rattle.formula.proofs.Limits.{parse-limited}
 use Rattle.formula.proofs.Guarded.{parse-guarded}
 use Rattle.formula.proofs.WellFormed.{stands-whole}
-use Rattle.formula.proofs.RowLaws.{Held as Read, held-count, reading-held}
+use Rattle.formula.proofs.RowLaws.{Held as Read, held-count, reading-held, reading-refused}
 use Rattle.lasso.specs.Lasso.{Lasso, labelling, meets}
 use Rattle.lasso.specs.Truth.{Truth, asked, after-reading, truth, written}
 use Rattle.lasso.specs.Answer.{answer}
@@ -30,29 +29,29 @@ use Rattle.lasso.specs.Promise.{Written, Held, Answered, Judged}
 use Rattle.lasso.specs.declared.Truth as code
 use Rattle.lasso.specs.declared.Truth.the-variants.{Told, Refused, Unread}
 use Rattle.lasso.proofs.Consistent.{length-labelling}
+use Rattle.lasso.proofs.TruthLaws.{From16, told-of, truth-asked}
 
 module _ (rows : List ℕ) (c : Lasso) (w : List ℕ) where
   abbrev n : ℕ
   n = length (c .letters)
 
+  from-16 : (f : Formula) → From16 c (length w) (λ o. o ≡ told-of c f) (asked c (length w) f)
+  from-16 f = truth-asked c (length w) f
+
   refused : (k : ℕ) → ((f : Formula) → asked c (length w) f ≡ Truth.refused k) → Judged rows c (Refused k) w w
   refused k q = record { answer = λ f h. sym (ap answer (q f)); words = λ f h. sym (ap (λ (t : Truth). written t w) (q f)) }
 
   pub no-cycle : n ≤ c .stem → Judged rows c (Refused 16) w w
-  unfolding labelling meets
-  no-cycle h = refused 16 (λ f. simp (le-ltb (c .stem) n h))
+  no-cycle h = refused 16 (λ f. first-refusal (from-16 f) (λ q. omega arith))
 
   pub too-long : c .stem < n → 8192 < n → Judged rows c (Refused 17) w w
-  unfolding labelling meets
-  too-long h k = refused 17 (λ f. simp (lt-ltb (c .stem) n h, lt-leb n 8192 k))
+  too-long h k = refused 17 (λ f. first-refusal (passed (from-16 f) h) (λ q. omega arith))
 
   pub no-room : c .stem < n → n ≤ 8192 → length w < n → Judged rows c (Refused 18) w w
-  unfolding labelling meets
-  no-room h k l = refused 18 (λ f. simp (lt-ltb (c .stem) n h, le-leb n 8192 k, lt-leb n (length w) l))
+  no-room h k l = refused 18 (λ f. first-refusal (passed (passed (from-16 f) h) k) (λ q. omega arith))
 
-  all-well : (f : Formula) → c .stem < n → n ≤ 8192 → n ≤ length w → asked c (length w) f ≡ Truth.told (meets c f) (labelling c f)
-  unfolding labelling meets
-  all-well f h k l = simp (lt-ltb (c .stem) n h, le-leb n 8192 k, le-leb n (length w) l)
+  all-well : (f : Formula) → c .stem < n → n ≤ 8192 → n ≤ length w → asked c (length w) f ≡ told-of c f
+  all-well f h k l = passed (passed (passed (from-16 f) h) k) l
 
   pub judged : (b : Bool) (v : List ℕ) → c .stem < n → n ≤ 8192 → n ≤ length w → Answered rows c b w v → Judged rows c (Told b) w v
   judged b v h k l a = record {
@@ -101,18 +100,15 @@ module _ (bytes : List ℕ) (c : Lasso) (w : List ℕ) where
   unfolding truth parse labelling meets
   outcome-accepted f q = ap (after-reading c (length w)) q
 
-  refused-as : (x : Reading Formula) (k p : ℕ) → with-entries x ≡ Reading.refused k p → after-reading c (length w) x ≡ Truth.unread k p
-  unfolding labelling meets
-  refused-as (Reading.refused m q) k p e = cc
-  refused-as (Reading.accepted f) k p e = absurd (let z : _≡_ {A = ℕ} 0 1 = cc in omega arith)
+  outcome-refused : {why : Refusal} → parse bytes ≡ Reading.refused why → outcome ≡ Truth.unread why
+  unfolding truth parse labelling meets
+  outcome-refused q = ap (after-reading c (length w)) q
 
   module _ (r : read.Reading) (q : reading-of r ≡ reading bytes) where
-    outcome-refused : (why : Refusal) → r .outcome ≡ Unaccepted why → outcome ≡ Truth.unread (why .code) (why .at)
-    unfolding truth reading parse labelling meets
-    outcome-refused why o = refused-as (parse bytes) (why .code) (why .at) (sym q ∙ ap (λ (x : Outcome). reading-by x (r .table)) o)
-
-    pub truth-unread : (why : Refusal) → r .outcome ≡ Unaccepted why → Promised (Unread why) w
-    truth-unread why o = (sym (ap answer (outcome-refused why o)), sym (ap (λ (t : Truth). written t w) (outcome-refused why o)))
+    pub truth-unread : {why : Refusal} → r .outcome ≡ Unaccepted why → Promised (Unread why) w
+    truth-unread o =
+        let same = outcome-refused (reading-refused bytes r q o) in
+        (sym (ap answer same), sym (ap (λ (t : Truth). written t w) same))
 
     pub truth-read : r .outcome ≡ Accepted → (a : code.Truth) (v : List ℕ) → Judged (r .table .rows) c a w v → Promised a v
     truth-read o a v j =

@@ -18,10 +18,10 @@ use Rattle.lasso.specs.Lasso.{Lasso, Positions, combine, before, holds, 
 use Rattle.formula.specs.Reading.{Scope}
 use Rattle.formula.proofs.Closed.{Closed}
 use Rattle.formula.proofs.Limits.{size-some}
-use Rattle.formula.proofs.WellFormed.{sits-first, stands-left, stands-right, stands-next, stands-body}
+use Rattle.formula.proofs.WellFormed.{sits-first}
 use Rattle.lasso.specs.Promise.{Written, Held, outside-of, Alone, Shut, column, columns, Kept, Known, Evaluated, Closing}
 use Rattle.lasso.proofs.Fixpoint.{body}
-use Rattle.lasso.proofs.CodeWritten.{written-end}
+use Rattle.lasso.proofs.CodeWritten.{written-end, written-left, written-right, written-next, written-body, held-some}
 use Rattle.lasso.proofs.CodeColumns.{kept-refl, columns-below, columns-above}
 
 -- no variable names a fixpoint of bs, all of which are before e₀: the fixpoints xs inside close the formula
@@ -46,14 +46,14 @@ module _ (rows bs : List ℕ) (e₀ : ℕ) (outer : (d : ℕ) → d < length bs 
       near xs d (omega (arith, h .guarded .0, h .scoped))
       (ltb-false (getD (xs ++ bs) d 0) e₀ (sym (ap (outside-of e₀) (sits-first (h .operators))) ∙ free e (omega arith) (omega arith)))
   closes (Formula.pair o a b) e s xs h free = (
-    closes a (e + 1) s xs (stands-left (operator-at rows) (end-at rows) 48 h) (λ k l m. free k (omega arith) (omega arith)),
-    closes b (e + 1 + size a) s xs (stands-right (operator-at rows) (end-at rows) 48 h) (λ k l m. free k (omega arith) (omega arith)),
+    closes a (e + 1) s xs (written-left rows h) (λ k l m. free k (omega arith) (omega arith)),
+    closes b (e + 1 + size a) s xs (written-right rows h) (λ k l m. free k (omega arith) (omega arith)),
   )
   closes (Formula.next a) e s xs h free =
-      closes a (e + 1) (map (λ _. true) s) xs (stands-next (operator-at rows) (end-at rows) 48 h)
+      closes a (e + 1) (map (λ _. true) s) xs (written-next rows h)
       (λ k l m. free k (omega arith) (omega arith))
   closes (Formula.fix g a) e s xs h free =
-      closes a (e + 1) (false ∷ s) (e ∷ xs) (stands-body (operator-at rows) (end-at rows) 48 h)
+      closes a (e + 1) (false ∷ s) (e ∷ xs) (written-body rows h)
       (λ k l m. free k (omega arith) (omega arith))
 
 repeat-same : (k : ℕ) (f g : Positions → Positions) → ((s : Positions) → f s ≡ g s) → (s : Positions) → repeat k f s ≡ repeat k g s
@@ -177,8 +177,7 @@ module _ (rows : List ℕ) (c : Lasso) (e : ℕ) (w : List ℕ) where
       kept = ev .kept;
       known = λ hi far known.
           let part = known-part (e + 1) (end-at rows e) (omega arith) far known in
-          let behind = known-part (end-at rows e) hi (omega (arith, written-end rows (held .written), size-some (held .subformula)))
-          (omega arith) known in
+          let behind = known-part (end-at rows e) hi (omega (arith, held-some rows e held)) (omega arith) known in
           let inside : Known rows c (e + 1) (end-at rows e) v = ev .known part in
           let after : Known rows c (end-at rows e) hi v =
           known-kept rows c (end-at rows e) hi e (end-at rows e) w v (ev .kept) (λ k l m. inl l) behind in

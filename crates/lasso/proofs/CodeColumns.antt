@@ -8,7 +8,7 @@ use native.Mathlib.Omega.{arith}
 use lib.Dec.{eqb}
 use lib.ListN.{length, getD, take, drop, length-map, length-drop}
 use lib.Seq.{ext-getD, length-take-le, getD-take, getD-drop}
-use borrow.Author.Tests.{eq-eqb, eqb-false}
+use borrow.Author.Tests.{eq-eqb, ne-eqb, eqb-false}
 use Rattle.base.specs.Bits.{bit}
 use Rattle.base.proofs.ListLaws.{getD-map}
 use Rattle.base.proofs.NumberLaws.{values-same}
@@ -78,21 +78,28 @@ module _ (n : ℕ) where
     pub columns-above : (e k : ℕ) → hi ≤ e → columns n v e k ≡ columns n w e k
     columns-above e k h = values-same (column n v) (column n w) e k (λ j l m. kept .above j (omega arith))
 
+  -- words of which some bits are as they were
+  module _ (w v : List ℕ) (words : n ≤ length w) (long : length v ≡ length w) where
+    pub same-column : (k : ℕ) → ((i : ℕ) → i < n → bit (getD v i 0) k ≡ bit (getD w i 0) k) → column n v k ≡ column n w k
+    same-column k same =
+        column-is k v (omega arith) (column n w k) (column-length k w words) (λ i l. same i l ∙ sym (column-at k w words i l))
+
+    pub kept-bits : (lo hi : ℕ) → ((i : ℕ) → n ≤ i → getD v i 0 ≡ getD w i 0)
+        → ((k : ℕ) → ((lo ≤ k) × (k < hi) → ⊥) → (i : ℕ) → i < n → bit (getD v i 0) k ≡ bit (getD w i 0) k) → Kept n lo hi w v
+    kept-bits lo hi rest same = record {
+      long = long;
+      below = λ k l. same-column k (same k (λ q. omega (arith, q .0)));
+      above = λ k l. same-column k (same k (λ q. omega (arith, q .1)));
+      rest = ext-getD 0 (drop n v) (drop n w) (length-drop n v ∙ omega arith ∙ sym (length-drop n w))
+          (λ i l. getD-drop n v i 0 ∙ rest (n + i) (omega arith) ∙ sym (getD-drop n w i 0));
+    }
+
   -- a sweep, by columns
   module _ (e : ℕ) (f : ℕ → Bool) (w v : List ℕ) (s : Swept n e f w v) (h : n ≤ length w) where
     pub swept-kept : Kept n e (e + 1) w v
-    swept-kept = record {
-      long = s .long;
-      below = λ k l. other k (λ q. omega arith);
-      above = λ k l. other k (λ q. omega arith);
-      rest = ext-getD 0 (drop n v) (drop n w) (length-drop n v ∙ omega (arith, s .long) ∙ sym (length-drop n w))
-          (λ i l. getD-drop n v i 0 ∙ s .rest (n + i) (omega arith) ∙ sym (getD-drop n w i 0));
-    }
-      where
-        other : (k : ℕ) → (k ≡ e → ⊥) → column n v k ≡ column n w k
-        other k q =
-            column-is k v (omega (arith, s .long)) (column n w k) (column-length k w h)
-            (λ i l. other-bit e f w n v s k q i ∙ sym (column-at k w h i l))
+    swept-kept =
+        kept-bits w v h (s .long) e (e + 1) (s .rest)
+        (λ k out i l. other-bit (λ k. eqb k e) f w n v s k (ne-eqb k e (λ q. out (omega arith, omega arith))) i)
 
     pub swept-is : (t : Positions) → length t ≡ n → ((i : ℕ) → i < n → f i ≡ getD t i false) → column n v e ≡ t
     swept-is t l q =

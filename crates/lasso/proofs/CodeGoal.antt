@@ -10,7 +10,6 @@ use native.Mathlib.Decide.{decLt}
 use lib.ListN.{length, getD, length-map, List·getD-append}
 use lib.Seq.{getD-append-add}
 use Rattle.base.specs.Bits.{bit}
-use Rattle.base.specs.Lists.{numbers}
 use Rattle.base.specs.Sets.{Toward}
 use Rattle.base.proofs.ListLaws.{Each, each-at, each-of, each-left, each-right}
 use Rattle.base.proofs.NumberLaws.{values-at, values-length}
@@ -23,14 +22,14 @@ use Rattle.formula.specs.Stands.{nothing}
 use Rattle.formula.proofs.Closed.{Closed, length-table}
 use Rattle.formula.proofs.Guarded.{guarded-closed}
 use Rattle.formula.proofs.Limits.{size-some}
-use Rattle.formula.proofs.WellFormed.{Operands, located, stands-shaped, stands-nested, stands-left, stands-right, stands-next, stands-body}
+use Rattle.formula.proofs.WellFormed.{Operands, located, stands-shaped, stands-nested}
 use Rattle.lasso.specs.Lasso.{Lasso, Positions, holds, sets}
 use Rattle.lasso.specs.Promise.{said, Written, Room, Shut, Open, Movable, column, columns, Known, Filled, Names, Moves}
 use Rattle.lasso.specs.Promise.{Under, Keeps, goal}
 use Rattle.lasso.proofs.Monotone.{Within, within-refl, within-at, monotone-sets}
 use Rattle.lasso.proofs.Fixpoint.{length-approximant, fixed}
 use Rattle.lasso.proofs.Consistent.{says, true-at, Stands, Around, Right, right-from, length-sets, successor}
-use Rattle.lasso.proofs.CodeWritten.{written-end}
+use Rattle.lasso.proofs.CodeWritten.{written-end, written-left, written-right, written-next, written-body}
 use Rattle.lasso.proofs.CodeColumns.{column-length, column-at, columns-sized}
 use Rattle.lasso.proofs.CodeClosed.{alone-sets}
 use Rattle.lasso.proofs.Moves.{moves-refl, moves-same, moves-start, toward-of}
@@ -63,7 +62,7 @@ outer-around ss column-of e at (b ∷ bs) h =
 
 module _ (rows : List ℕ) (c : Lasso) (ss : List Positions) where
   -- a subformula at k, with its sets among ss
-  record Placed (k : ℕ) : Type 0 where
+  record Found (k : ℕ) : Type 0 where
     pub scope : Scope
     pub binders : List ℕ
     pub subformula : Formula
@@ -72,46 +71,46 @@ module _ (rows : List ℕ) (c : Lasso) (ss : List Positions) where
     pub sits : Each (Stands ss) k (sets c subformula around)
 
   -- at e, or behind it; before a number, or from it on
-  or-behind : (e k : ℕ) → e ≤ k → Placed e → (e + 1 ≤ k → Placed k) → Placed k
+  or-behind : (e k : ℕ) → e ≤ k → Found e → (e + 1 ≤ k → Found k) → Found k
   or-behind e k l here more = by (decLt e k)
     where
-      by : Dec (e < k) → Placed k
+      by : Dec (e < k) → Found k
       by (yes q) = more (omega arith)
       by (no q) = let same : k ≡ e = omega arith in rw same here
 
-  either-side : (mid k : ℕ) → (k < mid → Placed k) → (mid ≤ k → Placed k) → Placed k
+  either-side : (mid k : ℕ) → (k < mid → Found k) → (mid ≤ k → Found k) → Found k
   either-side mid k left right = by (decLt k mid)
     where
-      by : Dec (k < mid) → Placed k
+      by : Dec (k < mid) → Found k
       by (yes q) = left q
       by (no q) = right (omega arith)
 
   abbrev Inside : Formula → ℕ → Type 0
-  Inside f e = (k : ℕ) → e ≤ k → k < e + size f → Placed k
+  Inside f e = (k : ℕ) → e ≤ k → k < e + size f → Found k
 
   module _ (e : ℕ) (s : Scope) (bs : List ℕ) (ρ : List Positions) (f : Formula) (h : Written rows e s bs f)
       (at : Each (Stands ss) e (sets c f ρ)) where
-    first : Placed e
+    first : Found e
     first = record { scope = s; binders = bs; subformula = f; around = ρ; written = h; sits = at }
 
-  placed : (f : Formula) (e : ℕ) (s : Scope) (bs : List ℕ) (ρ : List Positions) → Written rows e s bs f → Each (Stands ss) e (sets c f ρ)
+  found : (f : Formula) (e : ℕ) (s : Scope) (bs : List ℕ) (ρ : List Positions) → Written rows e s bs f → Each (Stands ss) e (sets c f ρ)
       → Inside f e
-  placed (Formula.leaf x) e s bs ρ h at k l m = or-behind e k l (first e s bs ρ (Formula.leaf x) h at) (λ q. absurd (omega arith))
-  placed (Formula.variable d) e s bs ρ h at k l m = or-behind e k l (first e s bs ρ (Formula.variable d) h at) (λ q. absurd (omega arith))
-  placed (Formula.pair o a b) e s bs ρ h at k l m =
+  found (Formula.leaf x) e s bs ρ h at k l m = or-behind e k l (first e s bs ρ (Formula.leaf x) h at) (λ q. absurd (omega arith))
+  found (Formula.variable d) e s bs ρ h at k l m = or-behind e k l (first e s bs ρ (Formula.variable d) h at) (λ q. absurd (omega arith))
+  found (Formula.pair o a b) e s bs ρ h at k l m =
       or-behind e k l (first e s bs ρ (Formula.pair o a b) h at)
       (λ q. either-side (e + 1 + size a) k
-      (placed a (e + 1) s bs ρ (stands-left (operator-at rows) (end-at rows) 48 h)
+      (found a (e + 1) s bs ρ (written-left rows h)
       (each-left (Stands ss) (e + 1) (sets c a ρ) (sets c b ρ) (at .1)) k q)
-      (λ r. placed b (e + 1 + size a) s bs ρ (stands-right (operator-at rows) (end-at rows) 48 h)
+      (λ r. found b (e + 1 + size a) s bs ρ (written-right rows h)
       (each-right (Stands ss) (e + 1) (e + 1 + size a) (sets c a ρ) (sets c b ρ) (ap (e + 1 +_) (length-sets c a ρ)) (at .1)) k r
       (omega arith)))
-  placed (Formula.next a) e s bs ρ h at k l m =
+  found (Formula.next a) e s bs ρ h at k l m =
       or-behind e k l (first e s bs ρ (Formula.next a) h at)
-      (λ q. placed a (e + 1) (map (λ _. true) s) bs ρ (stands-next (operator-at rows) (end-at rows) 48 h) (at .1) k q (omega arith))
-  placed (Formula.fix g a) e s bs ρ h at k l m =
+      (λ q. found a (e + 1) (map (λ _. true) s) bs ρ (written-next rows h) (at .1) k q (omega arith))
+  found (Formula.fix g a) e s bs ρ h at k l m =
       or-behind e k l (first e s bs ρ (Formula.fix g a) h at)
-      (λ q. placed a (e + 1) (false ∷ s) (e ∷ bs) (holds c (Formula.fix g a) ρ ∷ ρ) (stands-body (operator-at rows) (end-at rows) 48 h)
+      (λ q. found a (e + 1) (false ∷ s) (e ∷ bs) (holds c (Formula.fix g a) ρ ∷ ρ) (written-body rows h)
       (at .1) k
       q (omega arith))
 
@@ -183,7 +182,7 @@ module _ (rows : List ℕ) (c : Lasso) (e : ℕ) (w : List ℕ) (room : Room (le
   closed-column known k shut l =
       let m = shut .number in
       let last : end-at rows e ≡ hi = written-end rows h in
-      let x = placed rows c ss f e s bs ρ h goal-sits m (omega (arith, shut .behind)) (omega (arith, shut .before)) in
+      let x = found rows c ss f e s bs ρ h goal-sits m (omega (arith, shut .behind)) (omega (arith, shut .before)) in
       let g = x .subformula in
       let end : end-at rows m ≡ m + size g = written-end rows (x .written) in
       let few : k - m < size g = omega (arith, shut .around, shut .before) in

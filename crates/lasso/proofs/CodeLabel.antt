@@ -2,7 +2,7 @@
 use mathlib.Core.Path.{_≡_, refl, sym, ap, subst, _∙_}
 use mathlib.Core.Logic.{inl, inr}
 use mathlib.Core.Bool.{Bool, true, false}
-use mathlib.Core.List.{List, [], map}
+use mathlib.Core.List.{List, [], _∷_, map}
 use Prim.Native.Nat.{ℕ, _+_, _≤_, _<_}
 use native.Mathlib.Omega.{arith}
 use lib.ListN.{length, getD, length-map}
@@ -11,18 +11,21 @@ use Rattle.base.proofs.ListLaws.{getD-map}
 use Rattle.base.proofs.NumberLaws.{values-at, values-cons, values-join}
 use Rattle.formula.specs.Formula.{Leaf as Atom, Formula, size}
 use Rattle.formula.specs.Table.{Operator}
+use Rattle.formula.specs.Reading.{Scope}
+use Rattle.formula.specs.Access.{decoded}
+use Rattle.formula.specs.declared.Operator as code
 use Rattle.formula.specs.Rows.{operator-at, end-at}
 use Rattle.formula.proofs.Limits.{size-some}
-use Rattle.formula.proofs.WellFormed.{sits-first, stands-left, stands-right, stands-next}
+use Rattle.formula.proofs.WellFormed.{sits-first}
 use Rattle.lasso.specs.Lasso.{Lasso, Positions, leaf-at, joined, before, holds, inner, sets}
-use Rattle.lasso.specs.Promise.{after, local-at, Swept, kind-of, Held, Room, column, columns, Kept, Labelled, Known}
+use Rattle.lasso.specs.Promise.{after, local-at, Swept, Written, Held, Room, column, columns, Kept, Labelled, Known}
 use Rattle.lasso.specs.Promise.{Evaluated}
-use Rattle.lasso.specs.declared.Kind.the-variants.{Leaf, Pair, Next}
 use Rattle.lasso.proofs.Monotone.{length-combine, length-before}
 use Rattle.lasso.proofs.Consistent.{getD-combine, getD-before}
-use Rattle.lasso.proofs.CodeWritten.{by-kind, pair-argument, written-end, next-operand, Split, pair-split}
+use Rattle.lasso.proofs.CodeOperators.{Among, by-leaf}
+use Rattle.lasso.proofs.CodeWritten.{written-left, written-right, written-next, Cases, by-operator, held-some, held-inside, nested}
+use Rattle.lasso.proofs.CodeWritten.{pair-operands, next-operand}
 use Rattle.lasso.proofs.CodeClosed.{known-kept, known-part, known-join}
-use Rattle.lasso.proofs.CodeOpen.{held-inside, nested}
 use Rattle.lasso.proofs.CodeColumns.{after-below, column-length, column-at, kept-refl, kept-wide, kept-then, outer-kept}
 use Rattle.lasso.proofs.CodeColumns.{columns-below, columns-above, swept-kept, swept-is}
 
@@ -112,23 +115,18 @@ module _ (c : Lasso) where
         ap (λ (z : Bool). joined o z (bit (getD y i 0) r)) p ∙ ap (joined o (getD (holds c a ρ) i false)) q
         ∙ sym (getD-combine o (holds c a ρ) (holds c b ρ) both i))
 
--- whatever formula the rows have at e, by the kind of its operator
+-- whatever formula the rows have at e, by its operator
 module _ (rows : List ℕ) (c : Lasso) (e : ℕ) (w : List ℕ) (room : Room (length (c .letters)) (c .stem) (length w)) (held : Held rows e)
   where
     abbrev m : ℕ
     m = length (c .letters)
-
-    last : e < end-at rows e
-    last = omega (arith, written-end rows (held .written), size-some (held .subformula))
 
     -- closed subformulas inside e stay labelled where an operand k of it is labelled
     pub operand-known : (k : ℕ) (x y : List ℕ) → e < k → k < end-at rows e → ((j : ℕ) → e + 1 ≤ j → j < k → end-at rows j ≤ k)
         → Evaluated rows c k k x y → Known rows c (e + 1) (end-at rows e) x → Known rows c (e + 1) (end-at rows e) y
     operand-known k x y behind inside earlier ev known =
         let far : end-at rows k ≤ end-at rows e = nested rows e held k (omega arith) inside in
-        let some : k < end-at rows k =
-        let o = held-inside rows e held k (omega arith) inside in
-        omega (arith, written-end rows (o .written), size-some (o .subformula)) in
+        let some : k < end-at rows k = held-some rows k (held-inside rows e held k (omega arith) inside) in
         known-join k
         (known-kept rows c (e + 1) k k (end-at rows k) x y (ev .kept) (λ j l h. inr (earlier j l h))
         (known-part (e + 1) k (omega arith) (omega arith) known))
@@ -142,83 +140,94 @@ module _ (rows : List ℕ) (c : Lasso) (e : ℕ) (w : List ℕ) (room : Room (le
     own-known f x y long t known =
         known-kept rows c (e + 1) (end-at rows e) e (e + 1) x y (swept-kept m e f x y t long) (λ j l h. inl l) known
 
-    module _ (v : List ℕ) where
-      abbrev Sweep : Operator → List ℕ → Type 0
-      Sweep op y = Swept m e (local-at c op y) y v
+    -- the operands are labelled, and then e by a sweep that makes the words y into v: what its operator asks of each formula is left
+    module _ (y v : List ℕ) (kept : Kept m (e + 1) (end-at rows e) w y) (t : Swept m e (local-at c (operator-at rows e) y) y v) where
+      long : m ≤ length y
+      long = omega (arith, room .words, kept .long)
 
       -- a sweep by the operator that the formula says
-      by-operator : (op : Operator) (y : List ℕ) → operator-at rows e ≡ op → Sweep (operator-at rows e) y → Sweep op y
-      by-operator op y q t = subst (λ (o : Operator). Sweep o y) q t
+      swept-by : (op : Operator) → operator-at rows e ≡ op → Swept m e (local-at c op y) y v
+      swept-by op q = subst (λ (o : Operator). Swept m e (local-at c o y) y v) q t
 
-      -- all but what is inside e is kept, where that holds of the operands
-      sweep-kept : (y : List ℕ) → Kept m (e + 1) (end-at rows e) w y → Sweep (operator-at rows e) y → Kept m e (end-at rows e) w v
-      sweep-kept y k t =
-          kept-then m k (swept-kept m e (local-at c (operator-at rows e) y) y v t (omega (arith, room .words, k .long)))
-          (omega arith) (omega arith) (omega arith) (omega (arith, last))
-
-      pub leaf-evaluated : kind-of (operator-at rows e) ≡ Leaf → Sweep (operator-at rows e) w → Evaluated rows c (e + 1) e w v
-      leaf-evaluated q t = record {
-        kept = sweep-kept w (kept-refl m (e + 1) (end-at rows e) w) t;
-        known = own-known (local-at c (operator-at rows e) w) w v (room .words) t;
-        done = λ known f s bs. by-kind rows e s bs Leaf q (λ f. Labelled c f e bs w v) (
-          (λ l h. leaf-labelled c e bs w (room .words) l v (by-operator (Operator.leaf l) w (sits-first (h .operators)) t)),
-          (λ d h.
-              variable-labelled c e bs w (room .words) d v (omega (arith, h .guarded .0, h .scoped))
-              (by-operator (Operator.variable (getD bs d 0)) w (sits-first (h .operators)) t)),
-        ) f;
+      swept-evaluated : (op : Operator) → operator-at rows e ≡ op
+          → (Known rows c (e + 1) (end-at rows e) w → Known rows c (e + 1) (end-at rows e) y)
+          → (Known rows c (e + 1) (end-at rows e) w → (s : Scope) (bs : List ℕ)
+          → Cases (λ (f : Formula). Written rows e s bs f → Labelled c f e bs w v) op)
+          → Evaluated rows c (e + 1) e w v
+      swept-evaluated op q known done = record {
+        kept = kept-then m kept (swept-kept m e (local-at c (operator-at rows e) y) y v t long) (omega arith) (omega arith) (omega arith)
+            (omega (arith, held-some rows e held));
+        known = λ k. own-known (local-at c (operator-at rows e) y) y v long t (known k);
+        done = λ k f s bs. by-operator rows e s bs op q (λ f. Labelled c f e bs w v) (done k s bs) f;
       }
 
-      pub next-evaluated : (y : List ℕ) → kind-of (operator-at rows e) ≡ Next → Evaluated rows c (e + 1) (e + 1) w y
-          → Sweep (operator-at rows e) y
-          → Evaluated rows c (e + 1) e w v
-      next-evaluated y q ev t =
-          let inside : e + 1 < end-at rows e = next-operand rows e held q .inside in
-          let far : end-at rows (e + 1) ≤ end-at rows e = nested rows e held (e + 1) (omega arith) inside in
-          let kept : Kept m (e + 1) (end-at rows e) w y = kept-wide m (ev .kept) (omega arith) far in
-          record {
-            kept = sweep-kept y kept t;
-            known = λ known.
-                own-known (local-at c (operator-at rows e) y) y v (omega (arith, room .words, kept .long)) t
-                (operand-known (e + 1) w y (omega arith) inside (λ j l h. absurd (omega arith)) ev known);
-            done = λ known f s bs. by-kind rows e s bs Next q (λ f. Labelled c f e bs w v)
-                (λ a h.
-                let d : Labelled c a (e + 1) bs w y =
-                ev .done (known-part (e + 1) (end-at rows (e + 1)) (omega arith) far known) a (map (λ _. true) s) bs
-                (stands-next (operator-at rows) (end-at rows) 48 h) in
-                next-labelled c e bs w (room .words) a y v (room .cycle) d
-                (by-operator (Operator.next (e + 1)) y (sits-first (h .operators)) t)) f;
-          }
+    module _ (v : List ℕ) (t : Swept m e (local-at c (operator-at rows e) w) w v) where
+      unmoved : Kept m (e + 1) (end-at rows e) w w
+      unmoved = kept-refl m (e + 1) (end-at rows e) w
 
-      pub pair-evaluated : (x y : List ℕ) (k : ℕ) → k ≡ getD rows (48 + e) 0 → kind-of (operator-at rows e) ≡ Pair
-          → Evaluated rows c (e + 1) (e + 1) w x
-          → Evaluated rows c k k x y → Sweep (operator-at rows e) y → Evaluated rows c (e + 1) e w v
-      pair-evaluated x y k at q ea eb t =
-          let p : Split rows e k = pair-split rows e held q k at in
-          let near : end-at rows (e + 1) ≤ end-at rows e = nested rows e held (e + 1) (omega arith) (omega (arith, p .inside, p .behind)) in
-          let far : end-at rows k ≤ end-at rows e = nested rows e held k (omega (arith, p .behind)) (p .inside) in
-          let kx : Kept m (e + 1) (end-at rows e) w x = kept-wide m (ea .kept) (omega arith) near in
+      leaf-evaluated : (l : Atom) → operator-at rows e ≡ Operator.leaf l → Evaluated rows c (e + 1) e w v
+      leaf-evaluated l q =
+          swept-evaluated w v unmoved t (Operator.leaf l) q (λ known. known)
+          (λ known s bs h. leaf-labelled c e bs w (room .words) l v (swept-by w v unmoved t (Operator.leaf l) q))
+
+      variable-evaluated : (b : ℕ) → operator-at rows e ≡ Operator.variable b → Evaluated rows c (e + 1) e w v
+      variable-evaluated b q =
+          swept-evaluated w v unmoved t (Operator.variable b) q (λ known. known)
+          (λ known s bs d h. variable-labelled c e bs w (room .words) d v (omega (arith, h .guarded .0, h .scoped))
+          (swept-by w v unmoved t (Operator.variable (getD bs d 0)) (sits-first (h .operators))))
+
+      -- one that names no operand
+      pub plain-evaluated : (op : code.Operator) → Among (0 ∷ 1 ∷ 2 ∷ []) op → operator-at rows e ≡ decoded op
+          → Evaluated rows c (e + 1) e w v
+      plain-evaluated = by-leaf (λ op. operator-at rows e ≡ op → Evaluated rows c (e + 1) e w v) leaf-evaluated variable-evaluated
+
+    pub next-evaluated : (l : ℕ) → operator-at rows e ≡ Operator.next l → (y v : List ℕ) → Evaluated rows c l l w y
+        → Swept m e (local-at c (operator-at rows e) y) y v → Evaluated rows c (e + 1) e w v
+    next-evaluated l q y v ev t =
+        let p = next-operand rows e held q in
+        let far : end-at rows l ≤ end-at rows e = nested rows e held l (omega (arith, p .first)) (p .inside) in
+        let kept : Kept m (e + 1) (end-at rows e) w y = kept-wide m (ev .kept) (omega (arith, p .first)) far in
+        swept-evaluated y v kept t (Operator.next l) q
+        (operand-known l w y (omega (arith, p .first)) (p .inside) (λ j l h. absurd (omega (arith, p .first))) ev)
+        (λ known s bs a h.
+        let d : Labelled c a l bs w y =
+        ev .done (known-part l (end-at rows l) (omega (arith, p .first)) far known) a (map (λ _. true) s) bs
+        (rw (p .first) (written-next rows h)) in
+        next-labelled c e bs w (room .words) a y v (room .cycle) (rw (p .first) at d)
+        (swept-by y v kept t (Operator.next (e + 1)) (sits-first (h .operators))))
+
+    module _ (o : Bool) (l r : ℕ) (q : operator-at rows e ≡ Operator.pair o l r) where
+      -- every subformula from the first operand on ends before the second, or stands in it
+      earlier : (j : ℕ) → e + 1 ≤ j → j < r → end-at rows j ≤ r
+      earlier j k h =
+          let p = pair-operands rows e held q in
+          let first : Held rows l = held-inside rows e held l (omega (arith, p .first)) (omega (arith, p .order, p .inside)) in
+          omega (arith, nested rows l first j (omega (arith, p .first)) (omega (arith, p .second)), p .second)
+
+      -- the second operand's number
+      right-is : {s : Scope} {bs : List ℕ} (a b : Formula) → Written rows e s bs (Formula.pair o a b) → r ≡ e + 1 + size a
+      right-is a b h =
+          let same : Operator.pair o l r ≡ Operator.pair o (e + 1) (e + 1 + size a) = sym q ∙ sits-first (h .operators) in
+          cc
+
+      pub pair-evaluated : (x y v : List ℕ) → Evaluated rows c l l w x → Evaluated rows c r r x y
+          → Swept m e (local-at c (operator-at rows e) y) y v → Evaluated rows c (e + 1) e w v
+      pair-evaluated x y v ea eb t =
+          let p = pair-operands rows e held q in
+          let inside : l < end-at rows e = omega (arith, p .order, p .inside) in
+          let near : end-at rows l ≤ end-at rows e = nested rows e held l (omega (arith, p .first)) inside in
+          let far : end-at rows r ≤ end-at rows e = omega (arith, p .last) in
           let kept : Kept m (e + 1) (end-at rows e) w y =
-          kept-then m kx (eb .kept) (omega arith) (omega (arith, p .behind)) (omega arith) far in
-          let first : Held rows (e + 1) = held-inside rows e held (e + 1) (omega arith) (omega (arith, p .inside, p .behind)) in
-          let earlier : (j : ℕ) → e + 1 ≤ j → j < k → end-at rows j ≤ k =
-          λ j l h. omega (arith, nested rows (e + 1) first j l (omega (arith, p .begins)), p .begins) in
+          kept-then m (ea .kept) (eb .kept) (omega (arith, p .first)) (omega (arith, p .first, p .order)) near far in
           let once : Known rows c (e + 1) (end-at rows e) w → Known rows c (e + 1) (end-at rows e) x =
-          operand-known (e + 1) w x (omega arith) (omega (arith, p .inside, p .behind)) (λ j l h. absurd (omega arith)) ea in
-          record {
-            kept = sweep-kept y kept t;
-            known = λ known.
-                own-known (local-at c (operator-at rows e) y) y v (omega (arith, room .words, kept .long)) t
-                (operand-known k x y (omega (arith, p .behind)) (p .inside) earlier eb (once known));
-            done = λ known f s bs. by-kind rows e s bs Pair q (λ f. Labelled c f e bs w v)
-                (λ o a b h.
-                let r = e + 1 + size a in
-                let is : k ≡ r = at ∙ pair-argument rows e o a b h in
-                let da : Labelled c a (e + 1) bs w x =
-                ea .done (known-part (e + 1) (end-at rows (e + 1)) (omega arith) near known) a s bs
-                (stands-left (operator-at rows) (end-at rows) 48 h) in
-                let db : Labelled c b k bs x y =
-                eb .done (known-part k (end-at rows k) (omega (arith, p .behind)) far (once known)) b s bs
-                (rw is (stands-right (operator-at rows) (end-at rows) 48 h)) in
-                pair-labelled c e bs w (room .words) o a b x y v (λ d l. h .enclosed d l .before) da (rw is at db)
-                (by-operator (Operator.pair o (e + 1) r) y (sits-first (h .operators)) t)) f;
-          }
+          operand-known l w x (omega (arith, p .first)) inside (λ j k h. absurd (omega (arith, p .first))) ea in
+          swept-evaluated y v kept t (Operator.pair o l r) q
+          (λ known. operand-known r x y (omega (arith, p .first, p .order)) (p .inside) earlier eb (once known))
+          (λ known s bs a b h.
+          let da : Labelled c a l bs w x =
+          ea .done (known-part l (end-at rows l) (omega (arith, p .first)) near known) a s bs (rw (p .first) (written-left rows h)) in
+          let db : Labelled c b r bs x y =
+          eb .done (known-part r (end-at rows r) (omega (arith, p .first, p .order)) far (once known)) b s bs
+          (rw (right-is a b h) (written-right rows h)) in
+          pair-labelled c e bs w (room .words) o a b x y v (λ d k. h .enclosed d k .before) (rw (p .first) at da)
+          (rw (right-is a b h) at db) (swept-by y v kept t (Operator.pair o (e + 1) (e + 1 + size a)) (sits-first (h .operators))))

@@ -8,24 +8,15 @@ use native.Mathlib.Omega.{arith}
 use native.Mathlib.Decide.{decLt}
 use lib.Bits.{bitOr}
 use lib.Dec.{eqb}
+use lib.ListN.{getD}
 use borrow.Author.Tests.{eqb-true, eqb-false, eq-eqb}
 use Rattle.base.specs.Bits.{bit}
 use Rattle.base.proofs.BitLaws.{bit-same, bit-other, set-on}
-use Rattle.formula.specs.Rows.{operator-at, end-at}
-use Rattle.formula.proofs.WellFormed.{located, stands-nested}
-use Rattle.lasso.proofs.CodeWritten.{held-some}
+use Rattle.formula.specs.Rows.{end-at}
+use Rattle.lasso.proofs.CodeWritten.{held-some, held-placed, held-inside, nested}
 use Rattle.lasso.specs.Promise.{Held, Alone, Shut, Open, Listed, Few, Movable}
 
--- the rows have a formula at each number inside e, which ends no later
-pub held-inside : (rows : List ℕ) (e : ℕ) → Held rows e → (k : ℕ) → e ≤ k → k < end-at rows e → Held rows k
-held-inside rows e h k l m =
-    let x = located (operator-at rows) (end-at rows) 48 (h .written) k l m in
-    record { scope = x .scope; binders = x .binders; subformula = x .subformula; written = x .stands }
-
-pub nested : (rows : List ℕ) (e : ℕ) → Held rows e → (k : ℕ) → e ≤ k → k < end-at rows e → end-at rows k ≤ end-at rows e
-nested rows e h = stands-nested (operator-at rows) (end-at rows) 48 (h .written)
-
--- so a subformula inside e ends behind its own number
+-- a subformula inside e ends behind its own number
 pub inside-some : (rows : List ℕ) (e : ℕ) → Held rows e → (k : ℕ) → e ≤ k → k < end-at rows e → k < end-at rows k
 inside-some rows e h k l m = held-some rows k (held-inside rows e h k l m)
 
@@ -144,5 +135,10 @@ module _ (rows : List ℕ) (e : ℕ) where
     apart = λ j l. o .apart _ (listed .all j l);
   }
 
-  pub movable-few : (list : List ℕ) (count : ℕ) → end-at rows e ≤ 48 → Movable rows e list count → Few list count
-  movable-few list count few m = record { counted = m .counted; small = λ j l. omega (arith, m .inside j l .1) }
+  pub movable-few : (list : List ℕ) (count : ℕ) → Held rows e → Movable rows e list count → Few rows list count
+  movable-few list count held m = record {
+    counted = m .counted;
+    placed = λ j l.
+        let q = m .inside j l in
+        held-placed rows (getD list j 0) (held-inside rows e held (getD list j 0) (q .0) (q .1));
+  }

@@ -9,14 +9,15 @@ use native.Mathlib.Omega.{arith}
 use lib.Bits.{bitOr, bitXor}
 use lib.Dec.{eqb}
 use lib.ListN.{length, getD, set, length-set}
-use lib.Seq.{getD-set-same, getD-set-other}
-use borrow.Author.Tests.{eqb-true, eqb-false}
+use lib.Seq.{getD-set-other}
+use borrow.Author.Tests.{eqb-true}
 use Rattle.base.specs.Bits.{bit}
 use Rattle.base.proofs.BitLaws.{bit-or, bit-xor, changed}
 use Rattle.formula.specs.Table.{Operator}
 use Rattle.formula.specs.Rows.{operator-at}
 use Rattle.lasso.specs.Lasso.{Lasso, leaf-at, joined}
-use Rattle.lasso.specs.Promise.{after, said, local, Filled, Names, Moves, Turned, Passed}
+use Rattle.lasso.specs.Promise.{after, said, local, Names, Moves, Turned, Passed}
+use Rattle.lasso.proofs.CodeSweep.{by-word}
 use Rattle.lasso.proofs.CodeColumns.{after-below}
 use Rattle.lasso.proofs.Moves.{moves-refl, moves-trans, moves-joined, moves-on, moves-both}
 
@@ -43,9 +44,10 @@ module _ (rows list : List ℕ) (letter there : ℕ) (g : Bool) (w : ℕ) where
   turned-none = record { kept = λ k h. refl; onward = λ k. moves-refl g (bit w k); within = λ hi here next keep past h k l. h k l }
 
   pub turned-more : (j v x k : ℕ) (on : Bool) → Turned rows list j letter there g w v → k ≡ getD list j 0
-      → on ≡ local (operator-at rows k) letter v there
+      → (op : Operator) → operator-at rows k ≡ op → on ≡ local op letter v there
       → ((m : ℕ) → bit x m ≡ cond (eqb m k) (joined (not g) (bit v k) on) (bit v m)) → Turned rows list (j + 1) letter there g w x
-  turned-more j v x k on t at is put =
+  turned-more j v x k on t at op own-is says put =
+      let is : on ≡ local (operator-at rows k) letter v there = says ∙ ap (λ (o : Operator). local o letter v there) (sym own-is) in
       let new = joined (not g) (bit v k) on in
       record {
         kept = λ m h.
@@ -68,17 +70,6 @@ module _ (rows list : List ℕ) (letter there : ℕ) (g : Bool) (w : ℕ) where
   pub turned-end : {j count v : ℕ} → j ≤ count → count ≤ j → Turned rows list j letter there g w v
       → Turned rows list count letter there g w v
   turned-end {j} {count} {v} h k = subst (λ (i : ℕ). Turned rows list i letter there g w v) {x = j} {y = count} (omega arith)
-
--- one word of a list is set
-module _ (i x : ℕ) (v : List ℕ) (fits : i < length v) where
-  by-word : (P : ℕ → ℕ → Type 0) → P i x → ((m : ℕ) → (m ≡ i → ⊥) → P m (getD v m 0)) → (m : ℕ) → P m (getD (set v i x) m 0)
-  by-word P p others m = by (eqb m i) refl
-    where
-      by : (b : Bool) → eqb m i ≡ b → P m (getD (set v i x) m 0)
-      by true q =
-          let same : m ≡ i = eqb-true m i q in
-          rw same (subst (P i) (sym (getD-set-same v i x 0 fits)) p)
-      by false q = subst (P m) (sym (getD-set-other v i m x 0 (eqb-false m i q))) (others m (eqb-false m i q))
 
 module _ (rows : List ℕ) (c : Lasso) (list : List ℕ) (count : ℕ) (g : Bool) (w : List ℕ) where
   abbrev n : ℕ
@@ -168,24 +159,6 @@ masked-on w m k = bit-or w m k ∙ or-by (bit w k) (bit m k)
 pub masked-off : (w m k : ℕ) → bit (bitXor (bitOr w m) m) k ≡ cond (bit m k) false (bit w k)
 masked-off w m k =
     bit-xor (bitOr w m) m k ∙ ap (λ (b : Bool). cond b (not (bit m k)) (bit m k)) (bit-or w m k) ∙ xor-by (bit w k) (bit m k)
-
-module _ (mask : ℕ) (on : Bool) (w : List ℕ) where
-  pub filled-none : Filled 0 mask on w w
-  filled-none = record { long = refl; bits = λ i h. absurd (omega arith); rest = λ i h. refl }
-
-  pub filled-more : (i x : ℕ) (v : List ℕ) → i < length w → Filled i mask on w v
-      → ((k : ℕ) → bit x k ≡ cond (bit mask k) on (bit (getD v i 0) k)) → Filled (i + 1) mask on w (set v i x)
-  filled-more i x v l f put = record {
-    long = length-set v i x ∙ f .long;
-    bits = λ m h k.
-        by-word i x v (omega (arith, f .long)) (λ (m y : ℕ). m < i + 1 → bit y k ≡ cond (bit mask k) on (bit (getD w m 0) k))
-        (λ _. put k ∙ ap (λ (y : ℕ). cond (bit mask k) on (bit y k)) (f .rest i (omega arith))) (λ m other h. f .bits m (omega arith) k)
-        m h;
-    rest = λ m h. getD-set-other v i m x 0 (λ q. omega arith) ∙ f .rest m (omega arith);
-  }
-
-  pub filled-end : {i n : ℕ} {v : List ℕ} → i ≤ n → n ≤ i → Filled i mask on w v → Filled n mask on w v
-  filled-end {i} {n} {v} h k = subst (λ (j : ℕ). Filled j mask on w v) {x = i} {y = n} (omega arith)
 
 -- the elements listed so far, and one more
 pub listed-more : (mask : ℕ) (list : List ℕ) (count x : ℕ) → count < length list → ((j : ℕ) → j < count → bit mask (getD list j 0) ≡ true)

@@ -6,8 +6,7 @@ use mathlib.Core.Bool.{Bool, true, false, cond}
 use mathlib.Core.List.{List, _∷_, map}
 use Prim.Native.Nat.{ℕ, suc, _+_, _-_, _≤_, _<_}
 use native.Mathlib.Omega.{arith}
-use lib.ListN.{length, getD, drop, length-map, length-drop}
-use lib.Seq.{ext-getD, getD-drop}
+use lib.ListN.{length, getD, length-map}
 use Rattle.base.specs.Bits.{bit}
 use Rattle.base.specs.Lists.{repeat}
 use Rattle.base.specs.Sets.{Toward}
@@ -18,38 +17,26 @@ use Rattle.formula.specs.Formula.{Formula, size}
 use Rattle.formula.specs.Table.{Operator}
 use Rattle.formula.specs.Reading.{Scope}
 use Rattle.formula.specs.Rows.{operator-at, end-at}
-use Rattle.formula.proofs.Limits.{size-some}
-use Rattle.formula.proofs.WellFormed.{sits-first, stands-body}
+use Rattle.formula.proofs.WellFormed.{sits-first}
 use Rattle.lasso.specs.Lasso.{Lasso, Positions, holds, sets}
-use Rattle.lasso.specs.Promise.{local-at, Swept, kind-of, Written, Held, Room, Shut, Open, Listed, Movable, column}
+use Rattle.lasso.specs.Promise.{local-at, Swept, Written, Held, Room, Fixes, Shut, Open, Listed, Movable, column}
 use Rattle.lasso.specs.Promise.{columns, Kept, Labelled, Known, Filled, Moves, Under, Passed, goal, Going, Begun, Evaluated}
 use Rattle.lasso.specs.Promise.{Outcome, Rounded}
-use Rattle.lasso.specs.declared.Kind.the-variants.{Fixpoint}
 use Rattle.lasso.proofs.Fixpoint.{body, rounds-mono}
-use Rattle.lasso.proofs.CodeWritten.{by-kind, written-end, body-operand}
+use Rattle.lasso.proofs.CodeWritten.{written-end, written-body, by-operator, held-some, nested, fix-operand}
 use Rattle.lasso.proofs.CodeColumns.{column-length, column-at, column-is, columns-sized, kept-refl, kept-wide, kept-then}
-use Rattle.lasso.proofs.CodeColumns.{outer-kept, columns-above, swept-kept, swept-is}
+use Rattle.lasso.proofs.CodeSweep.{other-bit}
+use Rattle.lasso.proofs.CodeColumns.{same-column, kept-bits, outer-kept, columns-above, swept-kept, swept-is}
 use Rattle.lasso.proofs.CodeClosed.{known-same, known-part}
-use Rattle.lasso.proofs.CodeOpen.{nested, movable}
+use Rattle.lasso.proofs.CodeOpen.{movable}
 use Rattle.lasso.proofs.CodeGoal.{final, own-within, closed, goal-keeps, goal-start, goal-round}
 use Rattle.lasso.proofs.CodeLabel.{first-shown, operand-known, own-known}
 use Rattle.lasso.proofs.Moves.{toward-of}
 
--- words of which some bits are as they were, by columns
-module _ (n : ℕ) (w v : List ℕ) (words : n ≤ length w) (long : length v ≡ length w) where
-  same-column : (k : ℕ) → ((i : ℕ) → i < n → bit (getD v i 0) k ≡ bit (getD w i 0) k) → column n v k ≡ column n w k
-  same-column k same =
-      column-is n k v (omega arith) (column n w k) (column-length n k w words) (λ i l. same i l ∙ sym (column-at n k w words i l))
-
-  kept-bits : (lo hi : ℕ) → ((i : ℕ) → n ≤ i → getD v i 0 ≡ getD w i 0)
-      → ((k : ℕ) → ((lo ≤ k) × (k < hi) → ⊥) → (i : ℕ) → i < n → bit (getD v i 0) k ≡ bit (getD w i 0) k) → Kept n lo hi w v
-  kept-bits lo hi rest same = record {
-    long = long;
-    below = λ k l. same-column k (same k (λ q. omega (arith, q .0)));
-    above = λ k l. same-column k (same k (λ q. omega (arith, q .1)));
-    rest = ext-getD 0 (drop n v) (drop n w) (length-drop n v ∙ omega arith ∙ sym (length-drop n w))
-        (λ i l. getD-drop n v i 0 ∙ rest (n + i) (omega arith) ∙ sym (getD-drop n w i 0));
-  }
+-- what is not true is false
+else-false : (b : Bool) → (b ≡ true → ⊥) → b ≡ false
+else-false true h = absurd (h refl)
+else-false false h = refl
 
 module _ (rows : List ℕ) (c : Lasso) (g : Bool) (e : ℕ) where
   abbrev n : ℕ
@@ -80,11 +67,7 @@ module _ (rows : List ℕ) (c : Lasso) (g : Bool) (e : ℕ) where
   -- the columns of a mask are made the start
   module _ (mask : ℕ) (w v : List ℕ) (words : n ≤ length w) (o : Open rows e mask) (f : Filled n mask g w v) where
     filled-out : (k : ℕ) → (bit mask k ≡ true → ⊥) → (i : ℕ) → i < n → bit (getD v i 0) k ≡ bit (getD w i 0) k
-    filled-out k out i l = f .bits i l k ∙ by (bit mask k) refl
-      where
-        by : (b : Bool) → bit mask k ≡ b → cond b g (bit (getD w i 0) k) ≡ bit (getD w i 0) k
-        by true q = absurd (out q)
-        by false q = refl
+    filled-out k out i l = other-bit (λ k. bit mask k) (λ _. g) w n v f k (else-false (bit mask k) out) i
 
     filled-kept : Kept n e (end-at rows e) w v
     filled-kept =
@@ -104,7 +87,7 @@ module _ (rows : List ℕ) (c : Lasso) (g : Bool) (e : ℕ) where
         own : (b : Bool) → bit mask e ≡ b → bit mask e ≡ true
         own true q = q
         own false q =
-            let some : e < end-at rows e = omega (arith, written-end rows (held .written), size-some (held .subformula)) in
+            let some : e < end-at rows e = held-some rows e held in
             let s = o .others e (omega arith) some q in
             absurd (omega (arith, s .behind, s .before))
 
@@ -174,10 +157,10 @@ module _ (rows : List ℕ) (c : Lasso) (g : Bool) (e : ℕ) where
   }
 
   -- The body is labelled in a round: the words w become x.
-  module _ (held : Held rows e) (is : kind-of (operator-at rows e) ≡ Fixpoint g) (w x : List ℕ) (room : Room n (c .stem) (length w))
+  module _ (held : Held rows e) (is : Fixes rows g e) (w x : List ℕ) (room : Room n (c .stem) (length w))
       (ev : Evaluated rows c (e + 1) (e + 1) w x) where
     inside : e + 1 < end-at rows e
-    inside = body-operand rows e held g is .inside
+    inside = let p = fix-operand rows e held is in omega (arith, p .first, p .inside)
 
     body-kept : Kept n (e + 1) (end-at rows e) w x
     body-kept = kept-wide n (ev .kept) (omega arith) (nested rows e held (e + 1) (omega arith) inside)
@@ -207,7 +190,7 @@ module _ (rows : List ℕ) (c : Lasso) (g : Bool) (e : ℕ) where
       labelled =
           ev .done (known-part (e + 1) (end-at rows (e + 1)) (omega arith) (nested rows e held (e + 1) (omega arith) inside)
           (go .known)) a (false ∷ s)
-          (e ∷ bs) (stands-body (operator-at rows) (end-at rows) 48 h)
+          (e ∷ bs) (written-body rows h)
 
       round-shown : columns n x (e + 1) (size a) ≡ sets c a (E ∷ outer)
       round-shown =
@@ -308,7 +291,7 @@ module _ (rows : List ℕ) (c : Lasso) (g : Bool) (e : ℕ) where
 
   -- The fixpoint is labelled: its rounds are begun, the words w becoming x, and taken, x becoming u; and if the set moved to the end,
   -- the body is labelled once more.
-  module _ (held : Held rows e) (is : kind-of (operator-at rows e) ≡ Fixpoint g) (list : List ℕ) (count : ℕ) (w x u : List ℕ)
+  module _ (held : Held rows e) (is : Fixes rows g e) (list : List ℕ) (count : ℕ) (w x u : List ℕ)
       (room : Room n (c .stem) (length w)) (begins : Begun rows c g e list count w x) where
     outcome : (b r : Bool) → b ≡ r → Rounded rows c g e n x u b → (a : Formula) (s : Scope) (bs : List ℕ)
         → Written rows e s bs (Formula.fix g a)
@@ -318,17 +301,21 @@ module _ (rows : List ℕ) (c : Lasso) (g : Bool) (e : ℕ) where
         (q .done a s bs h w 0 (subst (λ (k : ℕ). Going rows c g e w bs a k x) {x = n} {y = n + 0} (omega arith)
         (begins .started a s bs h known)))
 
-    -- a fact of the rows, from the fixpoint that they have at e
-    by-fix : (A : Type 0) → ((a : Formula) → Written rows e (held .scope) (held .binders) (Formula.fix g a) → A) → A
-    by-fix A p = by-kind rows e (held .scope) (held .binders) (Fixpoint g) is (λ _. A) p (held .subformula) (held .written)
+    -- a fact of a formula at e, which is a fixpoint; and of the rows, from the one that they have there
+    by-fix : (s : Scope) (bs : List ℕ) (P : Formula → Type 0)
+        → ((a : Formula) → Written rows e s bs (Formula.fix g a) → P (Formula.fix g a)) → (f : Formula) → Written rows e s bs f → P f
+    by-fix s bs = by-operator rows e s bs (Operator.fix g (is .body)) (is .is)
+
+    by-own : (A : Type 0) → ((a : Formula) → Written rows e (held .scope) (held .binders) (Formula.fix g a) → A) → A
+    by-own A p = by-fix (held .scope) (held .binders) (λ _. A) p (held .subformula) (held .written)
 
     pub fixpoint-settled : (b : Bool) → b ≡ false → Rounded rows c g e n x u b → Evaluated rows c (e + 1) e w u
     fixpoint-settled b still q = record {
       kept = kept-then n (begins .kept) (q .kept) (omega arith) (omega arith) (omega arith) (omega arith);
-      known = λ known. by-fix (Known rows c (e + 1) (end-at rows e) u)
+      known = λ known. by-own (Known rows c (e + 1) (end-at rows e) u)
           (λ a h. outcome b false still q a (held .scope) (held .binders) h known .1);
       done = λ known f s bs.
-          by-kind rows e s bs (Fixpoint g) is (λ f. Labelled c f e bs w u) (λ a h. outcome b false still q a s bs h known .0) f;
+          by-fix s bs (λ f. Labelled c f e bs w u) (λ a h. outcome b false still q a s bs h known .0) f;
     }
 
     pub fixpoint-last : (b : Bool) → b ≡ true → (v : List ℕ) → Rounded rows c g e n x u b → Evaluated rows c (e + 1) (e + 1) u v
@@ -340,9 +327,9 @@ module _ (rows : List ℕ) (c : Lasso) (g : Bool) (e : ℕ) where
         record {
           kept = kept-then n k (body-kept held is u v same ev) (omega arith) (omega arith) (omega arith) (omega arith);
           known = λ known.
-              by-fix (Known rows c (e + 1) (end-at rows e) v)
+              by-own (Known rows c (e + 1) (end-at rows e) v)
               (λ a h. body-known held is u v same ev (outcome b true moves q a (held .scope) (held .binders) h known .known));
           done = λ known f s bs.
-              by-kind rows e s bs (Fixpoint g) is (λ f. Labelled c f e bs w v)
+              by-fix s bs (λ f. Labelled c f e bs w v)
               (λ a h. none-left held is u v same ev a s bs h w 0 (outcome b true moves q a s bs h known) refl) f;
         }

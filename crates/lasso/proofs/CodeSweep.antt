@@ -1,7 +1,7 @@
--- A sweep sets one bit of each word in turn. The words before it are done, the word at it and those after it are as they were; of a
--- word that is done every other bit is as it was. Assumes nothing.
-use mathlib.Core.Path.{_≡_, refl, ap, subst, _∙_}
-use mathlib.Core.Bool.{Bool, cond}
+-- Words are changed one after another. Those before one are done, that one and those after it are as they were; of a word that is done
+-- every bit that is not chosen is as it was. A sweep chooses one bit, a filling those of a mask. Assumes nothing.
+use mathlib.Core.Path.{_≡_, refl, sym, ap, subst, _∙_}
+use mathlib.Core.Bool.{Bool, true, false, cond}
 use mathlib.Core.List.{List}
 use Prim.Native.Nat.{ℕ, _+_, _≤_, _<_}
 use native.Mathlib.Omega.{arith}
@@ -9,70 +9,82 @@ use native.Mathlib.Decide.{decLt}
 use lib.Dec.{eqb}
 use lib.ListN.{length, getD, set, length-set}
 use lib.Seq.{getD-set-same, getD-set-other, set-getD}
-use borrow.Author.Tests.{ne-eqb}
+use borrow.Author.Tests.{eqb-true, eqb-false, ne-eqb}
 use Rattle.base.specs.Bits.{bit}
-use Rattle.formula.specs.Reading.{Opcode}
-use Rattle.formula.specs.Rows.{operator-of}
+use Rattle.formula.specs.Table.{Operator}
+use Rattle.formula.specs.Rows.{operator-at, end-at}
+use Rattle.formula.proofs.WellFormed.{Operands}
 use Rattle.lasso.specs.Lasso.{Lasso}
-use Rattle.lasso.specs.Promise.{after, local, local-at, Swept}
+use Rattle.lasso.specs.Promise.{after, local, local-at, Changed, Swept}
 
-module _ (e : ℕ) (f : ℕ → Bool) (w : List ℕ) where
-  pub swept-none : Swept 0 e f w w
-  swept-none = record { long = refl; bits = λ i h. absurd (omega arith); rest = λ i h. refl }
+-- one word of a list is set
+module _ (i x : ℕ) (v : List ℕ) (fits : i < length v) where
+  pub by-word : (P : ℕ → ℕ → Type 0) → P i x → ((m : ℕ) → (m ≡ i → ⊥) → P m (getD v m 0)) → (m : ℕ) → P m (getD (set v i x) m 0)
+  by-word P p others m = by (eqb m i) refl
+    where
+      by : (b : Bool) → eqb m i ≡ b → P m (getD (set v i x) m 0)
+      by true q =
+          let same : m ≡ i = eqb-true m i q in
+          rw same (subst (P i) (sym (getD-set-same v i x 0 fits)) p)
+      by false q = subst (P m) (sym (getD-set-other v i m x 0 (eqb-false m i q))) (others m (eqb-false m i q))
 
-  pub swept-end : {i n : ℕ} {v : List ℕ} → i ≤ n → n ≤ i → Swept i e f w v → Swept n e f w v
-  swept-end {i} {n} {v} h k s = subst (λ (x : ℕ). Swept x e f w v) {x = i} {y = n} (omega arith) s
+module _ (chosen f : ℕ → Bool) (w : List ℕ) where
+  pub changed-none : Changed 0 chosen f w w
+  changed-none = record { long = refl; bits = λ i h. absurd (omega arith); rest = λ i h. refl }
 
-  module _ (n : ℕ) (v : List ℕ) (s : Swept n e f w v) where
-    -- a bit other than e is as it was
-    pub other-bit : (a : ℕ) → (a ≡ e → ⊥) → (j : ℕ) → bit (getD v j 0) a ≡ bit (getD w j 0) a
-    other-bit a h j = by (decLt j n)
+  pub changed-end : {i n : ℕ} {v : List ℕ} → i ≤ n → n ≤ i → Changed i chosen f w v → Changed n chosen f w v
+  changed-end {i} {n} {v} h k = subst (λ (j : ℕ). Changed j chosen f w v) {x = i} {y = n} (omega arith)
+
+  module _ (n : ℕ) (v : List ℕ) (s : Changed n chosen f w v) where
+    -- a bit that is not chosen is as it was
+    pub other-bit : (k : ℕ) → chosen k ≡ false → (j : ℕ) → bit (getD v j 0) k ≡ bit (getD w j 0) k
+    other-bit k h j = by (decLt j n)
       where
-        by : Dec (j < n) → bit (getD v j 0) a ≡ bit (getD w j 0) a
-        by (yes q) = s .bits j q a ∙ ap (λ (t : Bool). cond t (f j) (bit (getD w j 0) a)) (ne-eqb a e h)
-        by (no q) = ap (λ (y : ℕ). bit y a) (s .rest j (omega arith))
+        by : Dec (j < n) → bit (getD v j 0) k ≡ bit (getD w j 0) k
+        by (yes q) = s .bits j q k ∙ ap (λ (t : Bool). cond t (f j) (bit (getD w j 0) k)) h
+        by (no q) = ap (λ (y : ℕ). bit y k) (s .rest j (omega arith))
 
     -- one word more
-    module _ (x : ℕ) (on : Bool) (fits : n < length w) (changed : (k : ℕ) → bit x k ≡ cond (eqb k e) on (bit (getD v n 0) k))
+    module _ (x : ℕ) (on : Bool) (fits : n < length w) (put : (k : ℕ) → bit x k ≡ cond (chosen k) on (bit (getD v n 0) k))
         (is : on ≡ f n) where
-      pub swept-put : Swept (n + 1) e f w (set v n x)
-      swept-put = record {
+      own-bits : (k : ℕ) → bit x k ≡ cond (chosen k) (f n) (bit (getD w n 0) k)
+      own-bits k =
+          put k
+          ∙ ap (λ (b : Bool). cond (chosen k) b (bit (getD v n 0) k)) is
+          ∙ ap (λ (y : ℕ). cond (chosen k) (f n) (bit y k)) (s .rest n (omega arith))
+
+      pub changed-put : Changed (n + 1) chosen f w (set v n x)
+      changed-put = record {
         long = length-set v n x ∙ s .long;
-        bits = λ i l k. at i l k (decLt i n);
+        bits = λ i l k.
+            by-word n x v (omega (arith, s .long)) (λ (i y : ℕ). i < n + 1 → bit y k ≡ cond (chosen k) (f i) (bit (getD w i 0) k))
+            (λ _. own-bits k) (λ i other l. s .bits i (omega arith) k) i l;
         rest = λ i l. getD-set-other v n i x 0 (λ q. omega arith) ∙ s .rest i (omega arith);
       }
-        where
-          at : (i : ℕ) → i < n + 1 → (k : ℕ) → Dec (i < n) → bit (getD (set v n x) i 0) k ≡ cond (eqb k e) (f i) (bit (getD w i 0) k)
-          at i l k (yes q) = ap (λ (y : ℕ). bit y k) (getD-set-other v n i x 0 (λ z. omega arith)) ∙ s .bits i q k
-          at i l k (no q) =
-              let same : i ≡ n = omega arith in
-              rw same
-              (ap (λ (y : ℕ). bit y k) (getD-set-same v n x 0 (omega (arith, s .long)))
-              ∙ changed k
-              ∙ ap (λ (t : Bool). cond (eqb k e) t (bit (getD v n 0) k)) is
-              ∙ ap (λ (y : ℕ). cond (eqb k e) (f n) (bit y k)) (s .rest n (omega arith)))
 
       -- the same where the word stays
-      pub swept-same : x ≡ getD v n 0 → Swept (n + 1) e f w v
-      swept-same same = subst (λ (y : List ℕ). Swept (n + 1) e f w y) (ap (set v n) same ∙ set-getD v n 0) swept-put
+      pub changed-same : x ≡ getD v n 0 → Changed (n + 1) chosen f w v
+      changed-same same = subst (λ (y : List ℕ). Changed (n + 1) chosen f w y) (ap (set v n) same ∙ set-getD v n 0) changed-put
 
 -- an operator that has its operands after e does not look at bit e of the successor's word
-local-there : (k : Opcode) (a e letter here x y : ℕ) → ((l : ℕ) → (l ≡ e → ⊥) → bit x l ≡ bit y l)
-    → local (operator-of k a e) letter here x ≡ local (operator-of k a e) letter here y
-local-there Opcode.unknown a e letter here x y h = refl
-local-there (Opcode.constant b) a e letter here x y h = refl
-local-there (Opcode.signal b) a e letter here x y h = refl
-local-there Opcode.variable a e letter here x y h = refl
-local-there (Opcode.pair o) a e letter here x y h = refl
-local-there Opcode.next a e letter here x y h = h (e + 1) (λ q. omega arith)
-local-there (Opcode.fix g) a e letter here x y h = refl
+local-there : (rows : List ℕ) (op : Operator) (e letter here x y : ℕ) → Operands (operator-at rows) (end-at rows) 48 e op
+    → ((l : ℕ) → (l ≡ e → ⊥) → bit x l ≡ bit y l) → local op letter here x ≡ local op letter here y
+local-there rows (Operator.leaf l) e letter here x y o h = refl
+local-there rows (Operator.variable m) e letter here x y o h = refl
+local-there rows (Operator.pair b l r) e letter here x y o h = refl
+local-there rows (Operator.next l) e letter here x y o h = h l (λ q. omega (arith, o .first))
+local-there rows (Operator.fix g l) e letter here x y o h = refl
 
 -- what is read of the words half way through a sweep is what they had before it
-pub as-before : (c : Lasso) (k : Opcode) (a e i j : ℕ) (w v : List ℕ) (f : ℕ → Bool) (on : Bool) → Swept i e f w v
-    → j ≡ after (length (c .letters)) (c .stem) i → on ≡ local (operator-of k a e) (getD (c .letters) i 0) (getD v i 0) (getD v j 0)
-    → on ≡ local-at c (operator-of k a e) w i
-as-before c k a e i j w v f on s q r =
+pub as-before : (rows : List ℕ) (c : Lasso) (e i j : ℕ) (w v : List ℕ) (f : ℕ → Bool) (on : Bool)
+    → Operands (operator-at rows) (end-at rows) 48 e (operator-at rows e) → Swept i e f w v → j ≡ after (length (c .letters)) (c .stem) i
+    → (op : Operator) → operator-at rows e ≡ op → on ≡ local op (getD (c .letters) i 0) (getD v i 0) (getD v j 0)
+    → on ≡ local-at c (operator-at rows e) w i
+as-before rows c e i j w v f on o s q op is r =
+    let letter = getD (c .letters) i 0 in
+    let own = operator-at rows e in
     r
-    ∙ local-there k a e (getD (c .letters) i 0) (getD v i 0) (getD v j 0) (getD w j 0) (λ l h. other-bit e f w i v s l h j)
-    ∙ ap (λ (x : ℕ). local (operator-of k a e) (getD (c .letters) i 0) x (getD w j 0)) (s .rest i (omega arith))
-    ∙ ap (λ (m : ℕ). local (operator-of k a e) (getD (c .letters) i 0) (getD w i 0) (getD w m 0)) q
+    ∙ ap (λ (op : Operator). local op letter (getD v i 0) (getD v j 0)) (sym is)
+    ∙ local-there rows own e letter (getD v i 0) (getD v j 0) (getD w j 0) o (λ l h. other-bit (λ k. eqb k e) f w i v s l (ne-eqb l e h) j)
+    ∙ ap (λ (x : ℕ). local own letter x (getD w j 0)) (s .rest i (omega arith))
+    ∙ ap (λ (m : ℕ). local own letter (getD w i 0) (getD w m 0)) q

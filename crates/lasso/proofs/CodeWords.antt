@@ -19,9 +19,8 @@ use Rattle.formula.proofs.Limits.{size-some}
 use Rattle.lasso.specs.Lasso.{Lasso, Positions, holds, labelling, meets}
 use Rattle.lasso.specs.Promise.{Written, Held, Room, outside-of, column, Kept, Labelled, Known, Closing, Answered}
 use Rattle.lasso.proofs.Consistent.{length-labelling, labelling-bit, labelling-past}
-use Rattle.lasso.proofs.CodeWritten.{written-end}
+use Rattle.lasso.proofs.CodeWritten.{written-end, nested}
 use Rattle.lasso.proofs.CodeColumns.{column-at, kept-refl, kept-then}
-use Rattle.lasso.proofs.CodeOpen.{nested}
 use Rattle.lasso.proofs.CodeLabel.{first-shown}
 
 -- Closed subformulas are labelled from the last to the first: those from k on are, in the words v, which were w at first.

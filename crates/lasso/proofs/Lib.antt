@@ -14,4 +14,5 @@ pub mod CodeGoal
 pub mod CodeLabel
 pub mod CodeRounds
 pub mod CodeWords
+pub mod TruthLaws
 pub mod CodeAsked

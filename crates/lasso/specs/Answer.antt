@@ -10,9 +10,9 @@ use Rattle.lasso.specs.declared.Truth.the-variants.{Told, Refused, Unrea
 abbrev pub lasso : (letters : List ℕ) (stem : ℕ) → Lasso
 lasso letters stem = record { letters = letters; stem = stem }
 
--- The answer for each outcome: a refusal of reading with its place, another with its number alone (MEANING 7.1), else the truth of
+-- The answer for each outcome: a refusal of reading as it is, another with its number alone (MEANING 7.1), else the truth of
 -- subformula 0 at position 0 (MEANING 2.6).
 abbrev pub answer : Truth → code.Truth
-answer (Truth.unread k place) = Unread (record { code = k; at = place })
+answer (Truth.unread why) = Unread why
 answer (Truth.refused k) = Refused k
 answer (Truth.told b words) = Told b

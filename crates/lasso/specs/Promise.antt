@@ -1,6 +1,6 @@
 -- What the inner functions of truth on a lasso promise. A reader of the public contract need not read it. Assumes nothing.
 use mathlib.Core.Path.{_≡_}
-use mathlib.Core.Bool.{Bool, true, false, not, cond}
+use mathlib.Core.Bool.{Bool, true, false, cond}
 use mathlib.Core.List.{List, [], _∷_, _++_, map}
 use Prim.Native.Nat.{ℕ, _+_, _≤_, _<_}
 use lib.Dec.{eqb, ltb}
@@ -13,12 +13,11 @@ use Rattle.formula.specs.Table.{Operator}
 use Rattle.formula.specs.Reading.{Scope}
 use Rattle.formula.specs.Rows.{operator-at, end-at}
 use Rattle.formula.specs.Stands.{Stands}
+use Rattle.formula.specs.Access.{Placed}
 use Rattle.lasso.specs.Lasso.{Lasso, Positions, leaf-at, joined, holds, sets, labelling, meets}
 use Rattle.lasso.specs.Truth.{asked, written}
 use Rattle.lasso.specs.Answer.{answer}
 use Rattle.lasso.specs.declared.Truth as code
-use Rattle.lasso.specs.declared.Kind.{Kind}
-use Rattle.lasso.specs.declared.Kind.the-variants.{Leaf, Pair, Next, Fixpoint}
 
 -- the successor of position i of n
 abbrev pub after : (n stem i : ℕ) → ℕ
@@ -39,18 +38,23 @@ local op letter here there = said op letter (λ k. bit here k) (λ k. bit there 
 abbrev pub local-at : Lasso → Operator → List ℕ → ℕ → Bool
 local-at c op w i = local op (getD (c .letters) i 0) (getD w i 0) (getD w (after (length (c .letters)) (c .stem) i) 0)
 
--- the words v are w with bit e of each of the first n as f says
-pub record Swept (n e : ℕ) (f : ℕ → Bool) (w v : List ℕ) : Type 0 where
+-- the words v are w with the chosen bits of each of the first n as f says
+pub record Changed (n : ℕ) (chosen f : ℕ → Bool) (w v : List ℕ) : Type 0 where
   pub long : length v ≡ length w
-  pub bits : (i : ℕ) → i < n → (k : ℕ) → bit (getD v i 0) k ≡ cond (eqb k e) (f i) (bit (getD w i 0) k)
+  pub bits : (i : ℕ) → i < n → (k : ℕ) → bit (getD v i 0) k ≡ cond (chosen k) (f i) (bit (getD w i 0) k)
   pub rest : (i : ℕ) → n ≤ i → getD v i 0 ≡ getD w i 0
 
-abbrev pub kind-of : Operator → Kind
-kind-of (Operator.leaf l) = Leaf
-kind-of (Operator.variable m) = Leaf
-kind-of (Operator.pair o l r) = Pair
-kind-of (Operator.next l) = Next
-kind-of (Operator.fix g l) = Fixpoint g
+-- bit e is chosen; or the bits of a mask, all as told
+abbrev pub Swept : (n e : ℕ) → (ℕ → Bool) → (w v : List ℕ) → Type 0
+Swept n e f = Changed n (λ k. eqb k e) f
+
+abbrev pub Filled : (n mask : ℕ) → (on : Bool) → (w v : List ℕ) → Type 0
+Filled n mask on = Changed n (λ k. bit mask k) (λ _. on)
+
+-- the words v are w with bit e of each position's as the operator of e says; unless r, none was changed
+pub record Sweeping (rows : List ℕ) (c : Lasso) (e : ℕ) (w v : List ℕ) (r : Bool) : Type 0 where
+  pub swept : Swept (length (c .letters)) e (local-at c (operator-at rows e) w) w v
+  pub still : r ≡ false → v ≡ w
 
 -- the rows have the formula f at e, inside the fixpoints of the given numbers, innermost first
 abbrev pub Written : List ℕ → ℕ → Scope → List ℕ → Formula → Type 0
@@ -67,6 +71,22 @@ pub record Held (rows : List ℕ) (e : ℕ) : Type 0 where
 pub record Room (n stem m : ℕ) : Type 0 where
   pub cycle : stem < n
   pub words : n ≤ m
+
+-- what labelling e asks: the rows have a formula there, and each letter a word
+pub record Ready (rows : List ℕ) (e n stem m : ℕ) : Type 0 where
+  pub held : Held rows e
+  pub room : Room n stem m
+
+-- e is a fixpoint, the greatest or the least one
+pub record Fixes (rows : List ℕ) (g : Bool) (e : ℕ) : Type 0 where
+  pub body : ℕ
+  pub is : operator-at rows e ≡ Operator.fix g body
+
+-- what labelling it asks
+pub record ReadyFixpoint (rows : List ℕ) (g : Bool) (e n stem m : ℕ) : Type 0 where
+  pub held : Held rows e
+  pub room : Room n stem m
+  pub fixes : Fixes rows g e
 
 -- whether an operator is a variable of a fixpoint before e
 abbrev pub outside-of : ℕ → Operator → Bool
@@ -98,19 +118,33 @@ pub record Open (rows : List ℕ) (e mask : ℕ) : Type 0 where
   pub apart : (k : ℕ) → bit mask k ≡ true → Shut rows e k → ⊥
   pub others : (k : ℕ) → e ≤ k → k < end-at rows e → bit mask k ≡ false → Shut rows e k
 
--- the first `count` elements of a list are numbers of subformulas; they are bits of a mask; they stand in e, and in no closed one inside e
-pub record Few (list : List ℕ) (count : ℕ) : Type 0 where
+-- the first `count` elements of a list are numbers of subformulas that have a place in the rows
+pub record Few (rows list : List ℕ) (count : ℕ) : Type 0 where
   pub counted : count ≤ 48
-  pub small : (j : ℕ) → j < count → getD list j 0 < 48
+  pub placed : (j : ℕ) → j < count → Placed rows (getD list j 0)
 
+-- what a pass over them asks
+pub record ReadyPass (rows list : List ℕ) (count n stem m : ℕ) : Type 0 where
+  pub few : Few rows list count
+  pub room : Room n stem m
+
+-- they are bits of a mask
 pub record Listed (mask : ℕ) (list : List ℕ) (count : ℕ) : Type 0 where
   pub counted : count ≤ 48
   pub all : (j : ℕ) → j < count → bit mask (getD list j 0) ≡ true
 
+-- they stand in e, and in no closed subformula inside e
 pub record Movable (rows : List ℕ) (e : ℕ) (list : List ℕ) (count : ℕ) : Type 0 where
   pub counted : count ≤ 48
   pub inside : (j : ℕ) → j < count → (e ≤ getD list j 0) × (getD list j 0 < end-at rows e)
   pub apart : (j : ℕ) → j < count → Shut rows e (getD list j 0) → ⊥
+
+-- what the rounds of the fixpoint e ask, which move them
+pub record ReadyRounds (rows : List ℕ) (g : Bool) (e : ℕ) (list : List ℕ) (count n stem m : ℕ) : Type 0 where
+  pub held : Held rows e
+  pub room : Room n stem m
+  pub fixes : Fixes rows g e
+  pub movable : Movable rows e list count
 
 -- bit e of the first n words: the set of positions that they have for subformula e; and for the k subformulas from e on
 abbrev pub column : ℕ → List ℕ → ℕ → Positions
@@ -135,12 +169,6 @@ pub record Labelled (c : Lasso) (f : Formula) (e : ℕ) (binders w v : List ℕ)
 pub record Known (rows : List ℕ) (c : Lasso) (lo hi : ℕ) (w : List ℕ) : Type 0 where
   pub shown : (k : ℕ) → lo ≤ k → k < hi → Alone rows k → (f : Formula) (scope : Scope) (binders : List ℕ) → Written rows k scope binders f
       → columns (length (c .letters)) w k (size f) ≡ sets c f []
-
--- the first n words v are w with the bits of a mask as told
-pub record Filled (n mask : ℕ) (on : Bool) (w v : List ℕ) : Type 0 where
-  pub long : length v ≡ length w
-  pub bits : (i : ℕ) → i < n → (k : ℕ) → bit (getD v i 0) k ≡ cond (bit mask k) on (bit (getD w i 0) k)
-  pub rest : (i : ℕ) → n ≤ i → getD v i 0 ≡ getD w i 0
 
 -- from a to b the value g is only left
 abbrev pub Moves : (g a b : Bool) → Type 0

@@ -1,33 +1,35 @@
 -- The truth operation: its questions, its answer and what its word area holds afterwards (MEANING 2.5, 2.6). Assumes nothing.
-use mathlib.Core.Bool.{Bool, cond}
+use mathlib.Core.Bool.{Bool}
 use mathlib.Core.List.{List, _++_}
 use Prim.Native.Nat.{ℕ}
 use lib.Dec.{ltb, leb}
 use lib.ListN.{length, drop}
+use Rattle.base.specs.Ask.{ask}
 use Rattle.formula.specs.Formula.{Formula}
 use Rattle.formula.specs.Reading.{Reading, parse}
+use Rattle.formula.specs.declared.Refusal.{Refusal}
 use Rattle.lasso.specs.Lasso.{Lasso, labelling, meets}
 
--- Its outcome: a refusal of reading with its place; 16, 17 or 18; or whether the lasso meets the formula, and the words.
+-- Its outcome: a refusal of reading; 16, 17 or 18; or whether the lasso meets the formula, and the words.
 pub data Truth : Type 0 where
-  unread : (code place : ℕ) → Truth
+  unread : Refusal → Truth
   refused : (code : ℕ) → Truth
   told : (truth : Bool) (words : List ℕ) → Truth
 
--- The questions after reading, 16 first.
+-- The questions after reading, and the answer.
 abbrev pub asked : Lasso → (room : ℕ) → Formula → Truth
 unfolding labelling meets
 asked c room f =
     let n = length (c .letters) in
-    let answer = Truth.told (meets c f) (labelling c f) in
-    let third = cond (leb n room) answer (Truth.refused 18) in
-    let second = cond (leb n 8192) third (Truth.refused 17) in
-    cond (ltb (c .stem) n) second (Truth.refused 16)
+    ask (ltb (c .stem) n) (Truth.refused 16)
+    (ask (leb n 8192) (Truth.refused 17)
+    (ask (leb n room) (Truth.refused 18)
+    (Truth.told (meets c f) (labelling c f))))
 
 -- A refusal of reading is handed on; a formula is asked about.
 abbrev pub after-reading : Lasso → (room : ℕ) → Reading Formula → Truth
 unfolding labelling meets
-after-reading c room (Reading.refused code place) = Truth.unread code place
+after-reading c room (Reading.refused why) = Truth.unread why
 after-reading c room (Reading.accepted f) = asked c room f
 
 -- The whole: a formula's bytes, a lasso, and how many words are lent.
@@ -37,6 +39,6 @@ truth bytes c room = after-reading c room (parse bytes)
 
 -- The lent words afterwards: the words of the positions and then what was there; after a refusal what was there.
 abbrev pub written : Truth → List ℕ → List ℕ
-written (Truth.unread code place) lent = lent
+written (Truth.unread why) lent = lent
 written (Truth.refused code) lent = lent
 written (Truth.told b words) lent = words ++ drop (length words) lent

@@ -1,4 +1,5 @@
 // The truth of a formula on a lasso: bit e of word i says that subformula e is true at position i.
+use formula::Operator;
 use formula::Outcome;
 use formula::Refusal;
 use formula::Subformula;
@@ -10,13 +11,13 @@ ghost use Prim.Native.Nat.{ℕ, _+_, _≤_, _<_};
 ghost use lib.Dec.{eqb};
 ghost use lib.ListN.{length, drop, replicate};
 ghost use Rattle.base.specs.Bits.{bit};
-ghost use Rattle.formula.specs.Reading.{opcode};
-ghost use Rattle.formula.specs.Rows.{operator-of, operator-at};
+ghost use Rattle.formula.specs.Access.{decoded, Fits};
 ghost use Rattle.lasso.specs.Truth.{truth, written};
 ghost use Rattle.lasso.specs.Answer.{lasso, answer};
 ghost use Rattle.lasso.specs.Lasso.{joined};
-ghost use Rattle.lasso.specs.Promise.{after, local, local-at, Swept, kind-of, Held, Room, outside-of, Closes, Open, Few, Listed};
-ghost use Rattle.lasso.specs.Promise.{Filled, Turned, Passed, Movable, Begun, Evaluated, Rounded, Closing, Answered, Judged};
+ghost use Rattle.lasso.specs.Promise.{Held, Ready, ReadyFixpoint, ReadyRounds, ReadyPass, Few, after, local, Sweeping, outside-of};
+ghost use Rattle.lasso.specs.Promise.{Closes, Open, Listed, Filled, Turned, Passed, Begun, Evaluated, Rounded, Closing, Answered};
+ghost use Rattle.lasso.specs.Promise.{Judged};
 
 // The number of a position on a lasso (document 01: a place), kept apart from subformulas.
 pub struct Position(pub usize);
@@ -28,63 +29,39 @@ pub enum Truth {
     Unread(Refusal),
 }
 
-// What an operator has for operands: none, two formulas, one, or a body; whether the fixpoint is the greatest one.
-enum Kind {
-    Leaf,
-    Pair,
-    Next,
-    Fixpoint(bool),
-}
-
-fn classify(op: u8) -> Kind
-    ensures { λ r. ⌜ ((a e : ℕ) → r ≡ kind-of (operator-of (opcode op) a e)) ⌝ }
-{
-    match op {
-        6 => Kind::Pair,
-        7 => Kind::Pair,
-        8 => Kind::Next,
-        9 => Kind::Fixpoint(false),
-        10 => Kind::Fixpoint(true),
-        _ => Kind::Leaf,
-    }
-}
-
-// A bit of a word; from 64 on there are none.
-fn bit_of(word: u64, k: usize) -> bool
-    ensures { λ r. ⌜ r ≡ bit word k ⌝ }
-{
-    if k < 64 {
-        return base::has(word, k);
-    }
-    false
-}
-
 fn wide16(x: u16) -> u64
     ensures { λ r. ⌜ r ≡ x ⌝ }
 {
     x as u64
 }
 
-// What the operator of subformula s says of a position, from the letter and the word there and the successor's word. A byte that is no
-// opcode decodes to a variable that is its own binder.
-fn holds_at(op: u8, argument: u8, s: Subformula, letter: u16, here: u64, there: u64) -> bool
-    requires { ⌜ s .0 < 64 ⌝ }
-    ensures { λ r. ⌜ r ≡ local (operator-of (opcode op) argument (s .0)) letter here there ⌝ }
+// What an operator says of a position, from the letter and the word there and the successor's word.
+fn holds_at(op: Operator, letter: u16, here: u64, there: u64) -> bool
+    requires { ⌜ Fits 48 (decoded op) ⌝ }
+    ensures { λ r. ⌜ r ≡ local (decoded op) letter here there ⌝ }
 {
-    let e = s.0;
-    let a = base::wide(argument);
     match op {
-        1 => true,
-        2 => false,
-        3 => bit_of(wide16(letter), a),
-        4 => !bit_of(wide16(letter), a),
-        5 => bit_of(here, a),
-        6 => bit_of(here, e + 1) | bit_of(here, a),
-        7 => bit_of(here, e + 1) & bit_of(here, a),
-        8 => bit_of(there, e + 1),
-        9 => bit_of(here, e + 1),
-        10 => bit_of(here, e + 1),
-        _ => bit_of(here, e),
+        Operator::Constant(on) => on,
+        Operator::Signal { present, signal } => {
+            let on = base::has(wide16(letter), base::wide(signal));
+            if present { on } else { !on }
+        }
+        Operator::Variable(binder) => base::has(here, binder.0),
+        Operator::Pair {
+            either,
+            left,
+            right,
+        } => {
+            let first = base::has(here, left.0);
+            let second = base::has(here, right.0);
+            if either {
+                first | second
+            } else {
+                first & second
+            }
+        }
+        Operator::Next(operand) => base::has(there, operand.0),
+        Operator::Fixpoint { greatest: _, body } => base::has(here, body.0),
     }
 }
 
@@ -99,23 +76,14 @@ fn successor(p: Position, n: usize, stem: usize) -> Position
     Position(i + 1)
 }
 
-// Sets the bit of subformula s in each position's word to what the operator says there; false if no word changes.
-fn sweep(
-    letters: &[u16],
-    stem: usize,
-    words: &mut [u64],
-    s: Subformula,
-    op: u8,
-    argument: u8,
-) -> bool
-    requires { ⌜ Room (length (now letters)) stem (length (now words)) ⌝ }
-    requires { ⌜ s .0 < 48 ⌝ }
-    ensures { λ _. ⌜ Swept (length (now (letters .entry))) (s .0)
-        (local-at (lasso (now (letters .entry)) stem) (operator-of (opcode op) argument (s .0)) (now (words .entry)))
-        (now (words .entry)) (now (words .exit)) ⌝ }
-    ensures { λ r. ⌜ (r ≡ false → now (words .exit) ≡ now (words .entry)) ⌝ }
+// Sets the bit of subformula s in each position's word to what its operator says there; false if no word changes.
+fn sweep(rows: &[u8; 144], letters: &[u16], stem: usize, words: &mut [u64], s: Subformula) -> bool
+    requires { ⌜ Ready (now rows) (s .0) (length (now letters)) stem (length (now words)) ⌝ }
+    ensures { λ r. ⌜ Sweeping (now (rows .entry)) (lasso (now (letters .entry)) stem) (s .0)
+        (now (words .entry)) (now (words .exit)) r ⌝ }
 {
     let e = s.0;
+    let op = formula::operator_at(rows, s);
     let n = letters.len();
     let mut changed = false;
     let mut i = 0;
@@ -123,7 +91,7 @@ fn sweep(
         let next = successor(Position(i), n, stem);
         let j = next.0;
         let here = words[i];
-        let on = holds_at(op, argument, s, letters[i], here, words[j]);
+        let on = holds_at(op, letters[i], here, words[j]);
         let word = base::with(here, e, on);
         if word == here {
             i += 1;
@@ -136,15 +104,14 @@ fn sweep(
     changed
 }
 
-// Whether the operator is a variable of a fixpoint before s.
-fn outside(op: u8, argument: u8, s: Subformula) -> bool
-    ensures { λ r. ⌜ ((k : ℕ) → s .0 ≤ k → r ≡ outside-of (s .0) (operator-of (opcode op) argument k)) ⌝ }
+// Whether an operator is a variable of a fixpoint before s.
+fn outside(op: Operator, s: Subformula) -> bool
+    ensures { λ r. ⌜ r ≡ outside-of (s .0) (decoded op) ⌝ }
 {
-    let e = s.0;
-    if op == 5 {
-        return base::wide(argument) < e;
+    match op {
+        Operator::Variable(binder) => binder.0 < s.0,
+        _ => false,
     }
-    false
 }
 
 // Whether no variable in s names a fixpoint around it.
@@ -153,10 +120,11 @@ fn closed(rows: &[u8; 144], s: Subformula) -> bool
     ensures { λ r. ⌜ Closes (now (rows .entry)) (s .0) r ⌝ }
 {
     let e = s.0;
-    let end = base::wide(rows[96 + e]);
+    let end = formula::end(rows, s);
     let mut k = e;
     while k < end {
-        if outside(rows[k], rows[48 + k], s) {
+        let op = formula::operator_at(rows, Subformula(k));
+        if outside(op, s) {
             return false;
         }
         k += 1;
@@ -176,12 +144,12 @@ fn open_in(rows: &[u8; 144], s: Subformula) -> u64
     ensures { λ r. ⌜ Open (now (rows .entry)) (s .0) r ⌝ }
 {
     let e = s.0;
-    let end = base::wide(rows[96 + e]);
+    let end = formula::end(rows, s);
     let mut mask = base::power(e);
     let mut k = e + 1;
     while k < end {
         if closed(rows, Subformula(k)) {
-            k = base::wide(rows[96 + k]);
+            k = formula::end(rows, Subformula(k));
         } else {
             mask = mask | base::power(k);
             k += 1;
@@ -190,11 +158,12 @@ fn open_in(rows: &[u8; 144], s: Subformula) -> u64
     mask
 }
 
-// Whether an operator is a next that reaches past subformula s.
-fn spans(op: u8, end: u8, s: Subformula) -> usize
+// Whether subformula k is a next that reaches past s: 1 or 0.
+fn spans(rows: &[u8; 144], k: Subformula, s: Subformula) -> usize
+    requires { ⌜ k .0 < 48 ⌝ }
     ensures { λ r. ⌜ r ≤ 1 ⌝ }
 {
-    base::one_if((op == 8) & (s.0 < base::wide(end)))
+    base::one_if(formula::is_next(rows, k) & (s.0 < formula::end(rows, k)))
 }
 
 // How many nexts stand around s.
@@ -206,7 +175,7 @@ fn depth(rows: &[u8; 144], s: Subformula) -> usize
     let mut count = 0usize;
     let mut k = 0;
     while k < e {
-        count += spans(rows[k], rows[96 + k], s);
+        count += spans(rows, Subformula(k), s);
         k += 1;
     }
     count
@@ -236,7 +205,7 @@ fn insert(keys: &mut [usize], count: usize, key: usize)
 fn order(rows: &[u8; 144]) -> [usize; 48]
     requires { ⌜ Held (now rows) 0 ⌝ }
 {
-    let end = base::wide(rows[96]);
+    let end = formula::end(rows, Subformula(0));
     let mut keys = [0usize; 48];
     let mut k = 0;
     while k < end {
@@ -316,14 +285,15 @@ fn turned(
     there: u64,
     greatest: bool,
 ) -> u64
-    requires { ⌜ Few (now list) count ⌝ }
+    requires { ⌜ Few (now rows) (now list) count ⌝ }
     ensures { λ r. ⌜ Turned (now (rows .entry)) (now (list .entry)) count letter there greatest word r ⌝ }
 {
     let mut here = word;
     let mut j = 0;
     while j < count {
         let k = base::wide(list[j]);
-        let on = holds_at(rows[k], rows[48 + k], Subformula(k), letter, here, there);
+        let op = formula::operator_at(rows, Subformula(k));
+        let on = holds_at(op, letter, here, there);
         here = moved(here, k, on, greatest);
         j += 1;
     }
@@ -343,8 +313,7 @@ fn pass(
     greatest: bool,
     all: bool,
 ) -> bool
-    requires { ⌜ Few (now list) count ⌝ }
-    requires { ⌜ Room (length (now letters)) stem (length (now words)) ⌝ }
+    requires { ⌜ ReadyPass (now rows) (now list) count (length (now letters)) stem (length (now words)) ⌝ }
     ensures { λ _. ⌜ Passed (now (rows .entry)) (lasso (now (letters .entry)) stem) (now (list .entry)) count greatest
         (now (words .entry)) (now (words .exit)) ⌝ }
 {
@@ -374,8 +343,7 @@ fn passes(
     count: usize,
     greatest: bool,
 )
-    requires { ⌜ Few (now list) count ⌝ }
-    requires { ⌜ Room (length (now letters)) stem (length (now words)) ⌝ }
+    requires { ⌜ ReadyPass (now rows) (now list) count (length (now letters)) stem (length (now words)) ⌝ }
     ensures { λ _. ⌜ Passed (now (rows .entry)) (lasso (now (letters .entry)) stem) (now (list .entry)) count greatest
         (now (words .entry)) (now (words .exit)) ⌝ }
 {
@@ -400,8 +368,7 @@ fn begin(
     s: Subformula,
     greatest: bool,
 ) -> Moving
-    requires { ⌜ Held (now rows) (s .0) ⌝ }
-    requires { ⌜ Room (length (now letters)) stem (length (now words)) ⌝ }
+    requires { ⌜ Ready (now rows) (s .0) (length (now letters)) stem (length (now words)) ⌝ }
     ensures { λ r. ⌜ Begun (now (rows .entry)) (lasso (now (letters .entry)) stem) greatest (s .0) (r .list) (r .count)
         (now (words .entry)) (now (words .exit)) ⌝ }
 {
@@ -422,8 +389,7 @@ fn label(
     words: &mut [u64],
     s: Subformula,
 )
-    requires { ⌜ Held (now rows) (s .0) ⌝ }
-    requires { ⌜ Room (length (now letters)) stem (length (now words)) ⌝ }
+    requires { ⌜ Ready (now rows) (s .0) (length (now letters)) stem (length (now words)) ⌝ }
     ensures { λ _. ⌜ Evaluated (now (rows .entry)) (lasso (now (letters .entry)) stem) (s .0) (s .0)
         (now (words .entry)) (now (words .exit)) ⌝ }
 {
@@ -442,31 +408,30 @@ fn label_open(
     words: &mut [u64],
     s: Subformula,
 )
-    requires { ⌜ Held (now rows) (s .0) ⌝ }
-    requires { ⌜ Room (length (now letters)) stem (length (now words)) ⌝ }
+    requires { ⌜ Ready (now rows) (s .0) (length (now letters)) stem (length (now words)) ⌝ }
     ensures { λ _. ⌜ Evaluated (now (rows .entry)) (lasso (now (letters .entry)) stem) (s .0 + 1) (s .0)
         (now (words .entry)) (now (words .exit)) ⌝ }
 {
-    let e = s.0;
-    let op = rows[e];
-    let argument = rows[48 + e];
-    let kind = classify(op);
-    match kind {
-        Kind::Leaf => {
-            sweep(letters, stem, words, s, op, argument);
-        }
-        Kind::Next => {
-            label(rows, keys, letters, stem, words, Subformula(e + 1));
-            sweep(letters, stem, words, s, op, argument);
-        }
-        Kind::Pair => {
-            label(rows, keys, letters, stem, words, Subformula(e + 1));
-            let right = Subformula(base::wide(argument));
-            label(rows, keys, letters, stem, words, right);
-            sweep(letters, stem, words, s, op, argument);
-        }
-        Kind::Fixpoint(greatest) => {
+    let op = formula::operator_at(rows, s);
+    match op {
+        Operator::Fixpoint { greatest, body: _ } => {
             label_fixpoint(rows, keys, letters, stem, words, s, greatest);
+        }
+        Operator::Pair {
+            either: _,
+            left,
+            right,
+        } => {
+            label(rows, keys, letters, stem, words, left);
+            label(rows, keys, letters, stem, words, right);
+            sweep(rows, letters, stem, words, s);
+        }
+        Operator::Next(operand) => {
+            label(rows, keys, letters, stem, words, operand);
+            sweep(rows, letters, stem, words, s);
+        }
+        _ => {
+            sweep(rows, letters, stem, words, s);
         }
     }
 }
@@ -481,9 +446,7 @@ fn label_fixpoint(
     s: Subformula,
     greatest: bool,
 )
-    requires { ⌜ Held (now rows) (s .0) ⌝ }
-    requires { ⌜ Room (length (now letters)) stem (length (now words)) ⌝ }
-    requires { ⌜ kind-of (operator-at (now rows) (s .0)) ≡ Kind.Fixpoint greatest ⌝ }
+    requires { ⌜ ReadyFixpoint (now rows) greatest (s .0) (length (now letters)) stem (length (now words)) ⌝ }
     ensures { λ _. ⌜ Evaluated (now (rows .entry)) (lasso (now (letters .entry)) stem) (s .0 + 1) (s .0)
         (now (words .entry)) (now (words .exit)) ⌝ }
 {
@@ -508,10 +471,8 @@ fn rounds(
     moving: Moving,
     left: usize,
 ) -> bool
-    requires { ⌜ Held (now rows) (s .0) ⌝ }
-    requires { ⌜ Room (length (now letters)) stem (length (now words)) ⌝ }
-    requires { ⌜ kind-of (operator-at (now rows) (s .0)) ≡ Kind.Fixpoint greatest ⌝ }
-    requires { ⌜ Movable (now rows) (s .0) (moving .list) (moving .count) ⌝ }
+    requires { ⌜ ReadyRounds (now rows) greatest (s .0) (moving .list) (moving .count) (length (now letters)) stem
+        (length (now words)) ⌝ }
     ensures { λ r. ⌜ Rounded (now (rows .entry)) (lasso (now (letters .entry)) stem) greatest (s .0) left
         (now (words .entry)) (now (words .exit)) r ⌝ }
 {
@@ -540,16 +501,14 @@ fn round(
     greatest: bool,
     moving: Moving,
 ) -> bool
-    requires { ⌜ Held (now rows) (s .0) ⌝ }
-    requires { ⌜ Room (length (now letters)) stem (length (now words)) ⌝ }
-    requires { ⌜ kind-of (operator-at (now rows) (s .0)) ≡ Kind.Fixpoint greatest ⌝ }
-    requires { ⌜ Movable (now rows) (s .0) (moving .list) (moving .count) ⌝ }
+    requires { ⌜ ReadyRounds (now rows) greatest (s .0) (moving .list) (moving .count) (length (now letters)) stem
+        (length (now words)) ⌝ }
     ensures { λ r. ⌜ Rounded (now (rows .entry)) (lasso (now (letters .entry)) stem) greatest (s .0) 1
         (now (words .entry)) (now (words .exit)) r ⌝ }
 {
     let e = s.0;
     label(rows, keys, letters, stem, words, Subformula(e + 1));
-    if sweep(letters, stem, words, s, rows[e], rows[48 + e]) {
+    if sweep(rows, letters, stem, words, s) {
         let list = moving.list;
         passes(rows, letters, stem, words, &list, moving.count, greatest);
         return true;
@@ -577,8 +536,7 @@ fn close(
     words: &mut [u64],
     s: Subformula,
 )
-    requires { ⌜ Held (now rows) (s .0) ⌝ }
-    requires { ⌜ Room (length (now letters)) stem (length (now words)) ⌝ }
+    requires { ⌜ Ready (now rows) (s .0) (length (now letters)) stem (length (now words)) ⌝ }
     ensures { λ _. ⌜ Closing (now (rows .entry)) (lasso (now (letters .entry)) stem) (s .0) (now (words .entry)) (now (words .exit)) ⌝ }
 {
     if closed(rows, s) {
@@ -588,13 +546,12 @@ fn close(
 
 // Labels the whole formula, each closed subformula after those inside it, and tells its truth at position 0.
 fn whole(rows: &[u8; 144], letters: &[u16], stem: usize, words: &mut [u64]) -> bool
-    requires { ⌜ Held (now rows) 0 ⌝ }
-    requires { ⌜ Room (length (now letters)) stem (length (now words)) ⌝ }
+    requires { ⌜ Ready (now rows) 0 (length (now letters)) stem (length (now words)) ⌝ }
     ensures { λ r. ⌜ Answered (now (rows .entry)) (lasso (now (letters .entry)) stem) r (now (words .entry)) (now (words .exit)) ⌝ }
 {
     clear(words, letters.len());
     let keys = order(rows);
-    let mut k = base::wide(rows[96]);
+    let mut k = formula::end(rows, Subformula(0));
     while 0 < k {
         k -= 1;
         close(rows, &keys, letters, stem, words, Subformula(k));

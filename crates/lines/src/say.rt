@@ -31,7 +31,7 @@ pub fn refused(code: u8) {
 
 // A refusal of reading has a place.
 pub fn unread(why: Refusal) {
-    refused(why.code);
+    refused(formula::code_of(why));
     put(b" at");
-    number(b' ', why.at);
+    number(b' ', formula::place_of(why));
 }

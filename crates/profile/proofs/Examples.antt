@@ -19,7 +19,7 @@ use Rattle.profile.specs.Profiles.{Profile, profiles, is-least, rejectin
 
 -- the formula that was read
 abbrev pub formula-of : Reading Formula → Formula
-formula-of (Reading.refused code place) = Formula.leaf (Leaf.constant false)
+formula-of (Reading.refused why) = Formula.leaf (Leaf.constant false)
 formula-of (Reading.accepted f) = f
 
 -- case I of MEANING 5.9, where two triples lead from 4 to 5 and back

@@ -72,12 +72,12 @@ module _ (t : Table) where
 
   edges-of : (p : Profile) {e : Edge Transition Profile} → List·Memᴰ e (profile-edges t p)
       → (s : Transition) × List·Memᴰ s (transitions t (p .last)) × (record { label = s; to = extended t p s } ≡ e)
-  unfolding triples join transitions
+  unfolding triples join
   edges-of p m = Memᴰ·of-map (longer t p) (transitions t (p .last)) m
 
   edges-in : (p : Profile) {s : Transition} → List·Memᴰ s (transitions t (p .last))
       → List·Memᴰ (record { label = s; to = extended t p s }) (profile-edges t p)
-  unfolding triples join transitions
+  unfolding triples join
   edges-in p m = Memᴰ·map (longer t p) m
 
   single-of : (n : Item Transition Subset) {x : Item Transition Profile} → List·Memᴰ x (singles n)

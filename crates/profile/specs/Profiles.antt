@@ -42,7 +42,7 @@ longer t p s = record { label = s; to = extended t p s }
 
 -- all runs that have one transition more
 abbrev pub profile-edges : Table → Profile → List (Edge Transition Profile)
-unfolding triples join transitions
+unfolding triples join
 profile-edges t p = map (longer t p) (transitions t (p .last))
 
 -- more than there can be profiles of k nodes

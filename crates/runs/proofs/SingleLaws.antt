@@ -10,25 +10,22 @@ use Prim.Native.Nat.{ℕ, zero, suc, _+_, _-_, _*_, _^_, _≤_, _<_}
 use native.Mathlib.Nat.{zero-add}
 use native.Mathlib.Omega.{arith}
 use lib.Dec.{T, eqb, eqb→eq, eqb-refl}
-use lib.ListN.{length, getD, length-map}
+use lib.ListN.{length, getD}
 use Rattle.base.specs.Bits.{bit, word}
-use Rattle.base.specs.Lists.{numbers, gather, member, tail}
+use Rattle.base.specs.Lists.{numbers, gather, tail}
 use Rattle.base.proofs.TestLaws.{same-truth}
-use Rattle.base.proofs.AppendLaws.{gather-map, map-gather}
-use Rattle.base.proofs.Inside.{inside-length}
+use Rattle.base.proofs.AppendLaws.{map-gather}
 use Rattle.base.proofs.NumberLaws.{values-length, values-at}
 use Rattle.base.proofs.ShiftLaws.{same-low-bits}
 use Rattle.base.proofs.WordLaws.{word-bit, word-lt, word-inj}
 use Rattle.formula.specs.Table.{Table}
-use Rattle.tableau.specs.Saturation.{Subset, same-subset, nothing, saturate}
-use Rattle.tableau.specs.Transition.{operators-in, requires, letter-of, next-of, ors, choice-of, Transition, transition-of, by-word}
-use Rattle.tableau.specs.Transition.{transitions}
+use Rattle.tableau.specs.Saturation.{Subset, same-subset, saturate}
+use Rattle.tableau.specs.Transition.{ors, choice-of, Transition, by-word}
 use Rattle.tableau.specs.Promise.{table-of, Leads-nowhere, Stepped-by}
 use Rattle.tableau.specs.Area.{eight, words-at, index, Sized}
 use Rattle.tableau.specs.declared.NodeNumber.{NodeNumber}
 use Rattle.tableau.specs.declared.Step.the-variants.{Leads}
-use Rattle.tableau.proofs.SaturationLaws.{add-inside}
-use Rattle.tableau.proofs.TransitionLaws.{transition-with}
+use Rattle.tableau.proofs.TransitionLaws.{transition-with, letter-small, to-length, transitions-by-word}
 use Rattle.tableau.proofs.WordSets.{same-word}
 use Rattle.tableau.proofs.LoopLaws.{table-length}
 use Rattle.tableau.proofs.StepLaws.{Found, a-step}
@@ -103,26 +100,16 @@ module _ {count : ℕ} {l : List Subset} {area : List ℕ} (s : Sized count l) (
   node-sets i h =
       omega (arith, kept-at k i h, word-lt (getD l i []), ap (λ (n : ℕ). 2 ^ n) (at-sized count l i s h))
 
--- what a transition leads to has as many subformulas as the table; a letter has 16 bits
-to-length : (t : Table) (w s : Subset) → length (transition-with t w s .to) ≡ length t
-to-length t w s = sym (inside-length (add-inside (gather next-of (operators-in t s)) (nothing t))) ∙ length-map t (λ _. false)
-
-letter-few : (t : Table) (w s : Subset) → transition-with t w s .letter < 65536
-unfolding letter-of
-letter-few t w s =
-    let q : ℕ → Bool = λ j. member j (gather (requires true) (operators-in t s)) in
-    omega (arith, word-lt (map q (numbers 0 16)), ap (λ (n : ℕ). 2 ^ n) (values-length q 0 16))
-
 -- all choice words make the transitions of a node, and all nodes from i on theirs
 all-choices : (t : Table) (vs : List Subset) (i : ℕ) (v : Subset) → gather (singles-by t vs i v) (numbers 0 (2 ^ ors t)) ≡ ones-of t vs i v
-unfolding triples transitions
+unfolding triples
 all-choices t vs i v =
-    sym (ap (map (single-of t vs i v)) (gather-map (λ w. transition-of t w (saturate t w v)) (choice-of t) (numbers 0 (2 ^ ors t)))
+    sym (ap (map (single-of t vs i v)) (transitions-by-word t v)
     ∙ map-gather (single-of t vs i v) (λ (x : ℕ). by-word t x v) (numbers 0 (2 ^ ors t)))
 
 all-nodes : (t : Table) (vs : List Subset) (count : ℕ) (a : List ℕ) (i n : ℕ)
     → ones-from t vs i (map (subset-of count) (words-at a i n)) ≡ gather (λ j. ones-of t vs j (node-in count a j)) (numbers i n)
-unfolding triples transitions
+unfolding triples
 all-nodes t vs count a i zero = refl
 all-nodes t vs count a i (suc n) = ap (λ (l : List Item). ones-of t vs i (node-in count a i) ++ l) (all-nodes t vs count a (suc i) n)
 
@@ -194,7 +181,7 @@ module _ {rows : List ℕ} {count : ℕ} {r : Ranks} {s : Shelf} {nodes : ℕ} {
       found = a-step t w (saturate t w v) (st .is v long (f ∙ node-is))
 
       pub single-letter : letter < 65536
-      single-letter = omega (arith, found .letter-is, letter-few t w (saturate t w v))
+      single-letter = omega (arith, found .letter-is, letter-small t w (saturate t w v))
 
       pub single-some : {choice had q : ℕ} {d : List ℕ} {number last : NodeNumber} (carried : List ℕ) → number .0 ≡ i
           → last .0 ≡ index to (words-at a 0 nodes) → choice ≡ word w

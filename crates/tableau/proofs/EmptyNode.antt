@@ -11,9 +11,9 @@ use Rattle.base.proofs.MemberLaws.{numbers-in}
 use Rattle.base.proofs.Inside.{inside-refl}
 use Rattle.formula.specs.Table.{Table, is-or}
 use Rattle.tableau.specs.Saturation.{Subset, has, nothing, saturate}
-use Rattle.tableau.specs.Transition.{operators-in, letter-of, ors, choice-of, choices, Transition, transitions}
+use Rattle.tableau.specs.Transition.{operators-in, ors, choice-of, choices, Transition, transitions}
 use Rattle.tableau.proofs.SaturationLaws.{inside-has, subset-ext, nothing-has, saturate-length, saturate-least}
-use Rattle.tableau.proofs.TransitionLaws.{transition-with, transition-is, transition-in}
+use Rattle.tableau.proofs.TransitionLaws.{transition-with, letter-none, transition-is, transition-in}
 
 none-in : (t : Table) → operators-in t (nothing t) ≡ []
 none-in [] = refl
@@ -36,8 +36,7 @@ module _ (t : Table) where
 
   -- the transition of the empty node with a choice
   back : (w : Subset) → transition-with t w (saturate t w (nothing t)) ≡ record { choice = w; letter = 0; to = nothing t }
-  unfolding letter-of
-  back w = ap (transition-with t w) (saturated-nothing w) ∙ rw (none-in t)
+  back w = ap (transition-with t w) (saturated-nothing w) ∙ rw (none-in t, letter-none)
 
   pub empty-step : (x : Transition) → List·Memᴰ x (transitions t (nothing t)) → (x .to ≡ nothing t) × (x .letter ≡ 0)
   empty-step x m =

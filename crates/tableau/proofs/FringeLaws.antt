@@ -12,7 +12,7 @@ use native.Mathlib.Omega.{arith}
 use native.Mathlib.Nat.{zero-add, mod-eq-of-lt}
 use lib.Bits.{bitOr, bitXor, or-add-and}
 use lib.Dec.{T, eqb, not-T}
-use lib.ListN.{length, getD}
+use lib.ListN.{length}
 use lib.Pow.{pow-pos}
 use borrow.Author.Tests.{eqb-true, eqb-false, ne-eqb}
 use Rattle.base.specs.Lists.{member}
@@ -192,7 +192,7 @@ abbrev pub moves-at : List ℕ → (choice e : ℕ) → List ℕ
 moves-at rows choice e = moves (operator-at rows e) (bit choice e)
 
 pub moves-at-below : {rows : List ℕ} {count : ℕ} → Formed rows count → (choice e : ℕ) → e < count → Below count (moves-at rows choice e)
-moves-at-below {rows} {count} f choice e h = moves-below (getD rows e 0) (getD rows (48 + e) 0) e count (bit choice e) (f .row e h)
+moves-at-below {rows} {count} f choice e h = moves-below count (operator-at rows e) (bit choice e) (f .fits e h)
 
 pub moves-same : (rows : List ℕ) (count : ℕ) {choice e : ℕ} (w : Subset) → choice ≡ word w → e < count
     → moves-at rows choice e ≡ moves (operator (table-of rows count) e) (has w e)

@@ -13,7 +13,7 @@ use native.Mathlib.Omega.{arith}
 use lib.Bits.{bitOr, or-zero-r}
 use lib.Dec.{T, eqb}
 use lib.Pow.{shl-exact, shr-shr}
-use lib.ListN.{length, getD}
+use lib.ListN.{length}
 use borrow.Author.Tests.{eqb-false, ne-eqb}
 use Rattle.base.specs.Lists.{gather, any}
 use Rattle.base.specs.Bits.{bit, word, Lowest, Without}
@@ -27,11 +27,10 @@ use Rattle.formula.specs.Table.{Operator, Table, is-or}
 use Rattle.formula.specs.Rows.{operator-at}
 use Rattle.tableau.specs.Saturation.{Subset, has}
 use Rattle.tableau.specs.Transition.{operators-in, requires, is-false, next-of, ors, choice-of}
-use Rattle.tableau.specs.Promise.{table-of, Formed, with-bits, Requires-more, Required, Required-by}
+use Rattle.tableau.specs.Promise.{table-of, with-bits, Requires-more, Required, Required-by}
 use Rattle.tableau.specs.declared.Requirement.{Requirement}
 use Rattle.tableau.proofs.ChoiceLaws.{choice-of-length}
 use Rattle.tableau.proofs.WordSets.{with-bits-append, word-more}
-use Rattle.tableau.proofs.RowLaws.{or-at, other-at}
 
 pub table-length : (rows : List ℕ) (count : ℕ) → length (table-of rows count) ≡ count
 table-length rows count = values-length (operator-at rows) 0 count
@@ -53,11 +52,11 @@ ors-more : (rows : List ℕ) (e : ℕ) → ors (table-of rows (e + 1)) ≡ ors (
 ors-more rows e = ap ors (operators-more rows e) ∙ omega (arith, ors-append (table-of rows e) (operator-at rows e ∷ []))
 
 module _ (rows : List ℕ) (e : ℕ) where
-  pub ors-one : getD rows e 0 ≡ 6 → ors (table-of rows (e + 1)) ≡ ors (table-of rows e) + 1
-  ors-one h = ors-more rows e ∙ rw (or-at rows e h)
+  pub ors-one : is-or (operator-at rows e) ≡ true → ors (table-of rows (e + 1)) ≡ ors (table-of rows e) + 1
+  ors-one h = ors-more rows e ∙ ap (λ (b : Bool). ors (table-of rows e) + cond b 1 0) h
 
-  pub ors-same : {count : ℕ} → Formed rows count → e < count → (getD rows e 0 ≡ 6 → ⊥) → ors (table-of rows (e + 1)) ≡ ors (table-of rows e)
-  ors-same f h n = ors-more rows e ∙ rw (other-at e f h n) (add-zero (ors (table-of rows e)))
+  pub ors-same : is-or (operator-at rows e) ≡ false → ors (table-of rows (e + 1)) ≡ ors (table-of rows e)
+  ors-same h = ors-more rows e ∙ ap (λ (b : Bool). ors (table-of rows e) + cond b 1 0) h ∙ add-zero (ors (table-of rows e))
 
 -- the choice of a choice word: an or takes its last digit and leaves the others
 pub choice-append : (s t : Table) (x : ℕ) → choice-of (s ++ t) x ≡ choice-of s x ++ choice-of t (x / 2 ^ ors s)
@@ -92,6 +91,11 @@ module _ {rows : List ℕ} {e x choice left : ℕ} (c : Chosen rows e x choice l
   long : length (choice-of before x) ≡ e
   long = choice-of-length before x ∙ table-length rows e
 
+  -- the pick of the operator at e
+  pick : (b : Bool) → is-or (operator-at rows e) ≡ b
+      → choice-of (operator-at rows e ∷ []) left ≡ cond b (eqb (left % 2) 1 ∷ []) (false ∷ [])
+  pick b = ap (λ (d : Bool). cond d (eqb (left % 2) 1 ∷ []) (false ∷ []))
+
   -- the choice with a Bool more
   grown : (b : Bool) (r : ℕ) → choice-of (operator-at rows e ∷ []) left ≡ b ∷ [] → ((k : ℕ) → bit r k ≡ cond (eqb k e) b (bit choice k))
       → r ≡ word (choice-of (table-of rows (e + 1)) x)
@@ -104,18 +108,19 @@ module _ {rows : List ℕ} {e x choice left : ℕ} (c : Chosen rows e x choice l
   clear : bit choice e ≡ false
   clear = ap (λ (y : ℕ). bit y e) (c .choice-is) ∙ word-past (choice-of before x) e (omega (arith, long))
 
-  pub chosen-or : getD rows e 0 ≡ 6 → e < 64 → Chosen rows (e + 1) x (bitOr choice (left % 2 * 2 ^ e % 2 ^ 64)) (left / 2)
-  chosen-or h few = let q : is-or (operator-at rows e) ≡ true = or-at rows e h in record {
+  pub chosen-or : is-or (operator-at rows e) ≡ true → e < 64
+      → Chosen rows (e + 1) x (bitOr choice (left % 2 * 2 ^ e % 2 ^ 64)) (left / 2)
+  chosen-or h few = record {
     choice-is =
         ap (bitOr choice) (shl-exact {a = left % 2} 1 e 64 (omega arith) (omega arith))
-        ∙ grown (eqb (left % 2) 1) (bitOr choice (left % 2 * 2 ^ e)) (rw q) (digit-bit choice e (left % 2) (omega arith) clear);
+        ∙ grown (eqb (left % 2) 1) (bitOr choice (left % 2 * 2 ^ e)) (pick true h) (digit-bit choice e (left % 2) (omega arith) clear);
     left-is = ap (λ (y : ℕ). y / 2) (c .left-is) ∙ shr-shr x (ors before) 1 ∙ ap (λ (n : ℕ). x / 2 ^ n) (sym (ors-one rows e h));
   }
 
-  pub chosen-other : {count : ℕ} → Formed rows count → e < count → (getD rows e 0 ≡ 6 → ⊥) → Chosen rows (e + 1) x choice left
-  chosen-other f h n = let q : is-or (operator-at rows e) ≡ false = other-at e f h n in record {
-    choice-is = grown false choice (rw q) (set-none choice e clear);
-    left-is = c .left-is ∙ ap (λ (n : ℕ). x / 2 ^ n) (sym (ors-same rows e f h n));
+  pub chosen-other : is-or (operator-at rows e) ≡ false → Chosen rows (e + 1) x choice left
+  chosen-other h = record {
+    choice-is = grown false choice (pick false h) (set-none choice e clear);
+    left-is = c .left-is ∙ ap (λ (n : ℕ). x / 2 ^ n) (sym (ors-same rows e h));
   }
 
   pub chosen-all : {count : ℕ} → e ≤ count → count ≤ e → choice ≡ word (choice-of (table-of rows count) x)

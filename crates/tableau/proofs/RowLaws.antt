@@ -1,170 +1,145 @@
--- What a row's bytes say: the operator that they decode to moves, requires and leads to what the code does for its opcode, and its
--- operands are in their ranges. A row's opcode is one of ten, so each law is a look at ten cases. Assumes nothing.
-use mathlib.Core.Path.{_≡_, refl, sym, ap, subst⁻¹, _∙_}
-use mathlib.Core.Logic.{_⊎_, inl, inr}
-use mathlib.Core.Bool.{Bool, true, false, cond, _||_}
-use mathlib.Core.List.{List, [], _∷_}
-use Prim.Native.Nat.{ℕ, zero, suc, _+_, _^_, _≤_, _<_}
+-- What an operator asks, as the code does it: where its moves go, what it requires, and where it leads, put into words bit by bit. These
+-- are in range where the operator's numbers are. Each law is a look at the operator. Assumes nothing.
+use mathlib.Core.Path.{_≡_, refl, sym, ap, subst, subst⁻¹, _∙_}
+use mathlib.Core.Bool.{Bool, true, false, cond, not, _||_, or-false}
+use mathlib.Core.List.{List}
+use Prim.Native.Nat.{ℕ, _^_, _<_}
 use native.Mathlib.Omega.{arith}
 use lib.Bits.{bitOr}
-use lib.Dec.{eqb}
-use lib.ListN.{getD}
-use borrow.Author.Tests.{eq-eqb, ne-eqb}
-use Rattle.formula.specs.Table.{Operator, is-or}
-use Rattle.formula.specs.Reading.{opcode}
-use Rattle.formula.specs.Rows.{operator-of, operator-at}
+use Rattle.formula.specs.Formula.{Leaf}
+use Rattle.formula.specs.Table.{Operator}
+use Rattle.formula.specs.Access.{decoded, Fits, Placed}
+use Rattle.formula.specs.declared.Subformula.{Subformula}
+use Rattle.formula.specs.declared.Operator as code
+use Rattle.formula.specs.declared.Operator.the-variants.{Constant, Signal, Variable, Pair, Next, Fixpoint}
+use Rattle.formula.proofs.FitLaws as fits
 use Rattle.tableau.specs.Saturation.{moves}
-use Rattle.tableau.specs.Transition.{requires, is-false, next-of}
-use Rattle.tableau.specs.Promise.{Row, Placed, Formed, with-bits, Requires-more}
+use Rattle.tableau.specs.Transition.{requires, next-of}
+use Rattle.tableau.specs.Promise.{Formed, with-bits, Requires-more}
 use Rattle.tableau.specs.declared.Requirement.{Requirement}
 use Rattle.tableau.proofs.WordSets.{Below, below-none, below-cons, below-one}
 
--- a fact of every opcode
-ten : (P : ℕ → Type 0) → P 1 → P 2 → P 3 → P 4 → P 5 → P 6 → P 7 → P 8 → P 9 → P 10 → (n : ℕ) → 0 < n → n ≤ 10 → P n
-ten P a b c d e f g h i j zero l m = absurd (omega arith)
-ten P a b c d e f g h i j (suc zero) l m = a
-ten P a b c d e f g h i j (suc (suc zero)) l m = b
-ten P a b c d e f g h i j (suc (suc (suc zero))) l m = c
-ten P a b c d e f g h i j (suc (suc (suc (suc zero)))) l m = d
-ten P a b c d e f g h i j (suc (suc (suc (suc (suc zero))))) l m = e
-ten P a b c d e f g h i j (suc (suc (suc (suc (suc (suc zero)))))) l m = f
-ten P a b c d e f g h i j (suc (suc (suc (suc (suc (suc (suc zero))))))) l m = g
-ten P a b c d e f g h i j (suc (suc (suc (suc (suc (suc (suc (suc zero)))))))) l m = h
-ten P a b c d e f g h i j (suc (suc (suc (suc (suc (suc (suc (suc (suc zero))))))))) l m = i
-ten P a b c d e f g h i j (suc (suc (suc (suc (suc (suc (suc (suc (suc (suc zero)))))))))) l m = j
-ten P a b c d e f g h i j (suc (suc (suc (suc (suc (suc (suc (suc (suc (suc (suc n))))))))))) l m = absurd (omega arith)
-
 pub placed : {rows : List ℕ} {count e : ℕ} → Formed rows count → e < count → Placed rows e
-placed {rows} {count} {e} f h =
-    let r = f .row e h in
-    record {
-      place = omega (arith, f .few);
-      row = record {
-        some = r .some;
-        known = r .known;
-        signal = r .signal;
-        argument-below = λ p q. omega (arith, f .few, r .argument-below p q);
-        first-below = λ p. omega (arith, f .few, r .first-below p);
-      };
-    }
+placed {rows} {count} {e} f h = fits.placed rows count e (f .few) h (f .fits e h)
 
--- the word y is x with bit k put in, if the opcode is n
-abbrev pub Put : (op n k x y : ℕ) → Type 0
-Put op n k x y = ((op ≡ n) × (y ≡ bitOr x (2 ^ k))) ⊎ ((op ≡ n → ⊥) × (y ≡ x))
+-- in range
+pub moves-below : (n : ℕ) (o : Operator) (p : Bool) → Fits n o → Below n (moves o p)
+moves-below n (Operator.leaf l) p f = below-none n
+moves-below n (Operator.variable m) p f = below-one n m f
+moves-below n (Operator.pair true l r) true f = below-one n r (f .1)
+moves-below n (Operator.pair true l r) false f = below-one n l (f .0)
+moves-below n (Operator.pair false l r) p f = below-cons (f .0) (below-one n r (f .1))
+moves-below n (Operator.next g) p f = below-none n
+moves-below n (Operator.fix g b) p f = below-one n b f
 
-put-bits : (k : ℕ) {op n x y : ℕ} {ms : List ℕ} → ms ≡ cond (eqb op n) (k ∷ []) [] → Put op n k x y → y ≡ with-bits ms x
-put-bits k {op} {n} {x} q (inl (h, p)) =
-    p ∙ sym (ap (λ (l : List ℕ). with-bits l x) (q ∙ ap (λ (b : Bool). cond b (k ∷ []) []) (eq-eqb op n h)))
-put-bits k {op} {n} {x} q (inr (h, p)) =
-    p ∙ sym (ap (λ (l : List ℕ). with-bits l x) (q ∙ ap (λ (b : Bool). cond b (k ∷ []) []) (ne-eqb op n h)))
+pub next-below : (n : ℕ) (o : Operator) → Fits n o → Below n (next-of o)
+next-below n (Operator.leaf l) f = below-none n
+next-below n (Operator.variable m) f = below-none n
+next-below n (Operator.pair o l r) f = below-none n
+next-below n (Operator.next g) f = below-one n g f
+next-below n (Operator.fix g b) f = below-none n
 
-module _ (op a e : ℕ) where
-  abbrev o : Operator
-  o = operator-of (opcode op) a e
+pub present-below : (n : ℕ) (o : Operator) → Fits n o → Below 16 (requires true o)
+present-below n (Operator.leaf (Leaf.constant b)) f = below-none 16
+present-below n (Operator.leaf (Leaf.signal true j)) f = below-one 16 j (omega arith)
+present-below n (Operator.leaf (Leaf.signal false j)) f = below-none 16
+present-below n (Operator.variable m) f = below-none 16
+present-below n (Operator.pair o l r) f = below-none 16
+present-below n (Operator.next g) f = below-none 16
+present-below n (Operator.fix g b) f = below-none 16
 
-  is-or-6 : op ≡ 6 → is-or o ≡ true
-  is-or-6 q = ap (λ (n : ℕ). is-or (operator-of (opcode n) a e)) q
+-- a requirement with one part more
+abbrev pub with-present : Requirement → ℕ → Requirement
+with-present q a = record { present = bitOr (q .present) a; absent = q .absent; falsum = q .falsum; to = q .to }
 
-  is-or-not : 0 < op → op ≤ 10 → (op ≡ 6 → ⊥) → is-or o ≡ false
-  is-or-not l m =
-      ten (λ (n : ℕ). (n ≡ 6 → ⊥) → is-or (operator-of (opcode n) a e) ≡ false)
-      (λ f. refl) (λ f. refl) (λ f. refl) (λ f. refl) (λ f. refl) (λ f. absurd (f refl)) (λ f. refl) (λ f. refl) (λ f. refl) (λ f. refl)
-      op l m
+abbrev pub with-absent : Requirement → ℕ → Requirement
+with-absent q a = record { present = q .present; absent = bitOr (q .absent) a; falsum = q .falsum; to = q .to }
+
+abbrev pub with-falsum : Requirement → Bool → Requirement
+with-falsum q b = record { present = q .present; absent = q .absent; falsum = q .falsum || b; to = q .to }
+
+abbrev pub with-to : Requirement → ℕ → Requirement
+with-to q a = record { present = q .present; absent = q .absent; falsum = q .falsum; to = bitOr (q .to) a }
+
+-- an operator that requires nothing
+abbrev Idle : Operator → Type 0
+Idle (Operator.leaf l) = ⊥
+Idle (Operator.variable m) = Unit {0}
+Idle (Operator.pair o l r) = Unit {0}
+Idle (Operator.next g) = ⊥
+Idle (Operator.fix g b) = Unit {0}
+
+-- the requirement with what one operator requires, where the code has put it in
+module _ (q : Requirement) where
+  still : q .falsum ≡ (q .falsum || false)
+  still = sym (or-false (q .falsum))
+
+  idle-requires : (o : Operator) → Idle o → Requires-more o q q
+  idle-requires (Operator.leaf l) i = absurd i
+  idle-requires (Operator.variable m) i = record { present-is = refl; absent-is = refl; falsum-is = still; to-is = refl }
+  idle-requires (Operator.pair e l r) i = record { present-is = refl; absent-is = refl; falsum-is = still; to-is = refl }
+  idle-requires (Operator.next g) i = absurd i
+  idle-requires (Operator.fix g b) i = record { present-is = refl; absent-is = refl; falsum-is = still; to-is = refl }
+
+  constant-requires : (b : Bool) → Requires-more (Operator.leaf (Leaf.constant b)) q (with-falsum q (not b))
+  constant-requires b = record { present-is = refl; absent-is = refl; falsum-is = refl; to-is = refl }
+
+  present-requires : (j : ℕ) {a : ℕ} → a ≡ 2 ^ j → Requires-more (Operator.leaf (Leaf.signal true j)) q (with-present q a)
+  present-requires j i = record { present-is = ap (bitOr (q .present)) i; absent-is = refl; falsum-is = still; to-is = refl }
+
+  absent-requires : (j : ℕ) {a : ℕ} → a ≡ 2 ^ j → Requires-more (Operator.leaf (Leaf.signal false j)) q (with-absent q a)
+  absent-requires j i = record { present-is = refl; absent-is = ap (bitOr (q .absent)) i; falsum-is = still; to-is = refl }
+
+  next-requires : (g : ℕ) {a : ℕ} → a ≡ 2 ^ g → Requires-more (Operator.next g) q (with-to q a)
+  next-requires g i = record { present-is = refl; absent-is = refl; falsum-is = still; to-is = ap (bitOr (q .to)) i }
+
+-- What the code read of an operator: o is x, and x was found to be y.
+module _ {o : Operator} {x : code.Operator} (read : o ≡ decoded x) where
+  pub found-fits : (n : ℕ) {y : code.Operator} → x ≡ y → Fits n o → Fits n (decoded y)
+  found-fits n is f = subst (Fits n) (read ∙ ap decoded is) f
 
   -- where the moves go
-  pub moves-below : (n : ℕ) (p : Bool) → Row op a e n → Below n (moves o p)
-  moves-below n p r =
-      ten (λ (op : ℕ). Row op a e n → Below n (moves (operator-of (opcode op) a e) p))
-      (λ r. below-none n) (λ r. below-none n) (λ r. below-none n) (λ r. below-none n)
-      (λ r. below-one n a (r .argument-below (omega arith) (omega arith)))
-      (λ r. either p (r .argument-below (omega arith) (omega arith)) (r .first-below (omega arith)))
-      (λ r. below-cons (r .first-below (omega arith)) (below-one n a (r .argument-below (omega arith) (omega arith))))
-      (λ r. below-none n)
-      (λ r. below-one n (e + 1) (r .first-below (omega arith)))
-      (λ r. below-one n (e + 1) (r .first-below (omega arith)))
-      op (r .some) (r .known) r
-    where
-      either : (p : Bool) → a < n → e + 1 < n → Below n (cond p a (e + 1) ∷ [])
-      either true h k = below-one n a h
-      either false h k = below-one n (e + 1) k
+  module _ (p : Bool) (set : ℕ) where
+    pub found-moves : {y : code.Operator} {r : ℕ} → x ≡ y → r ≡ with-bits (moves (decoded y) p) set → r ≡ with-bits (moves o p) set
+    found-moves is q = q ∙ ap (λ (d : Operator). with-bits (moves d p) set) (sym (read ∙ ap decoded is))
 
-  pub next-below : (n : ℕ) → Row op a e n → Below n (next-of o)
-  next-below n r =
-      ten (λ (op : ℕ). Row op a e n → Below n (next-of (operator-of (opcode op) a e)))
-      (λ r. below-none n) (λ r. below-none n) (λ r. below-none n) (λ r. below-none n) (λ r. below-none n) (λ r. below-none n)
-      (λ r. below-none n)
-      (λ r. below-one n (e + 1) (r .first-below (omega arith)))
-      (λ r. below-none n) (λ r. below-none n)
-      op (r .some) (r .known) r
+    pub found-variable : {m : Subformula} {a : ℕ} → x ≡ Variable m → a ≡ 2 ^ m .0 → bitOr set a ≡ with-bits (moves o p) set
+    found-variable is i = found-moves is (ap (bitOr set) i)
 
-  pub present-below : (n : ℕ) → Row op a e n → Below 16 (requires true o)
-  present-below n r =
-      ten (λ (op : ℕ). Row op a e n → Below 16 (requires true (operator-of (opcode op) a e)))
-      (λ r. below-none 16) (λ r. below-none 16)
-      (λ r. below-one 16 a (r .signal (omega arith) (omega arith)))
-      (λ r. below-none 16) (λ r. below-none 16) (λ r. below-none 16) (λ r. below-none 16) (λ r. below-none 16) (λ r. below-none 16)
-      (λ r. below-none 16)
-      op (r .some) (r .known) r
+    pub found-fixpoint : {g : Bool} {b : Subformula} {a : ℕ} → x ≡ Fixpoint g b → a ≡ 2 ^ b .0 → bitOr set a ≡ with-bits (moves o p) set
+    found-fixpoint is i = found-moves is (ap (bitOr set) i)
 
-  -- the moves, opcode by opcode
-  module _ (p : Bool) (x : ℕ) where
-    abbrev Moved : ℕ → ℕ → Type 0
-    Moved n y = y ≡ with-bits (moves (operator-of (opcode n) a e) p) x
+    module _ {either : Bool} {left right : Subformula} (is : x ≡ Pair either left right) where
+      pub found-and : either ≡ false → {a b : ℕ} → a ≡ 2 ^ left .0 → b ≡ 2 ^ right .0
+          → bitOr (bitOr set a) b ≡ with-bits (moves o p) set
+      found-and e i j = found-moves (is ∙ ap (λ (d : Bool). Pair d left right) e) (λ k. bitOr (bitOr set (i k)) (j k))
 
-    moved-as : {y : ℕ} (n : ℕ) → op ≡ n → Moved n y → Moved op y
-    moved-as {y} n q m = subst⁻¹ (λ (k : ℕ). Moved k y) q m
+      pub found-or : either ≡ true → (b : Bool) → p ≡ b → {a : ℕ} → a ≡ 2 ^ cond b (right .0) (left .0)
+          → bitOr set a ≡ with-bits (moves o p) set
+      found-or e b q i =
+          found-moves (is ∙ ap (λ (d : Bool). Pair d left right) e)
+          (ap (bitOr set) (i ∙ ap (λ (d : Bool). 2 ^ cond d (right .0) (left .0)) (sym q)))
 
-    pub moved-5 : op ≡ 5 → Moved op (bitOr x (2 ^ a))
-    moved-5 q = moved-as 5 q refl
+  -- what is required
+  module _ (q : Requirement) where
+    found-requires : {y : code.Operator} {r : Requirement} → x ≡ y → Requires-more (decoded y) q r → Requires-more o q r
+    found-requires {r = r} is m = subst⁻¹ (λ (d : Operator). Requires-more d q r) (read ∙ ap decoded is) m
 
-    pub moved-6 : op ≡ 6 → (b : Bool) → p ≡ b → Moved op (bitOr x (2 ^ cond b a (e + 1)))
-    moved-6 q b h = moved-as 6 q (ap (λ (c : Bool). bitOr x (2 ^ cond c a (e + 1))) (sym h))
+    pub required-none : {y : code.Operator} → x ≡ y → Idle (decoded y) → Requires-more o q q
+    required-none {y} is i = found-requires is (idle-requires q (decoded y) i)
 
-    pub moved-7 : op ≡ 7 → Moved op (bitOr (bitOr x (2 ^ (e + 1))) (2 ^ a))
-    moved-7 q = moved-as 7 q refl
+    pub required-constant : {b : Bool} → x ≡ Constant b → Requires-more o q (with-falsum q (not b))
+    required-constant {b} is = found-requires is (constant-requires q b)
 
-    pub moved-fix : 8 < op → op ≤ 10 → Moved op (bitOr x (2 ^ (e + 1)))
-    moved-fix h m =
-        ten (λ (n : ℕ). 8 < n → Moved n (bitOr x (2 ^ (e + 1))))
-        (λ h. absurd (omega arith)) (λ h. absurd (omega arith)) (λ h. absurd (omega arith)) (λ h. absurd (omega arith))
-        (λ h. absurd (omega arith)) (λ h. absurd (omega arith)) (λ h. absurd (omega arith)) (λ h. absurd (omega arith))
-        (λ h. refl) (λ h. refl) op (omega arith) m h
+    module _ {present : Bool} {j k a : ℕ} (is : x ≡ Signal present j) (wide : k ≡ j) (power : a ≡ 2 ^ k) where
+      bit-is : a ≡ 2 ^ j
+      bit-is = power ∙ ap (λ (n : ℕ). 2 ^ n) wide
 
-    pub moved-none : 0 < op → op ≤ 8 → (op ≡ 5 → ⊥) → (op ≡ 6 → ⊥) → (op ≡ 7 → ⊥) → Moved op x
-    moved-none l m =
-        ten (λ (n : ℕ). n ≤ 8 → (n ≡ 5 → ⊥) → (n ≡ 6 → ⊥) → (n ≡ 7 → ⊥) → Moved n x)
-        (λ m f g h. refl) (λ m f g h. refl) (λ m f g h. refl) (λ m f g h. refl)
-        (λ m f g h. absurd (f refl)) (λ m f g h. absurd (g refl)) (λ m f g h. absurd (h refl))
-        (λ m f g h. refl) (λ m f g h. absurd (omega arith)) (λ m f g h. absurd (omega arith))
-        op l (omega arith) m
+      pub required-present : present ≡ true → Requires-more o q (with-present q a)
+      required-present e = found-requires (is ∙ ap (λ (b : Bool). Signal b j) e) (present-requires q j bit-is)
 
-  -- what is required: one test of the opcode for each part
-  pub more-at : (q : Requirement) {present absent to : ℕ} → 0 < op → op ≤ 10 → Put op 3 a (q .present) present
-      → Put op 4 a (q .absent) absent
-      → Put op 8 (e + 1) (q .to) to
-      → Requires-more o q (record { present = present; absent = absent; falsum = q .falsum || eqb op 2; to = to })
-  more-at q l m f g h = record {
-    present-is =
-        put-bits a
-        (ten (λ (n : ℕ). requires true (operator-of (opcode n) a e) ≡ cond (eqb n 3) (a ∷ []) []) refl refl refl refl refl refl refl
-        refl refl refl op l m) f;
-    absent-is =
-        put-bits a
-        (ten (λ (n : ℕ). requires false (operator-of (opcode n) a e) ≡ cond (eqb n 4) (a ∷ []) []) refl refl refl refl refl refl refl
-        refl refl refl op l m) g;
-    falsum-is =
-        ap (λ (b : Bool). q .falsum || b)
-        (ten (λ (n : ℕ). eqb n 2 ≡ is-false (operator-of (opcode n) a e)) refl refl refl refl refl refl refl refl refl refl op l m);
-    to-is =
-        put-bits (e + 1)
-        (ten (λ (n : ℕ). next-of (operator-of (opcode n) a e) ≡ cond (eqb n 8) ((e + 1) ∷ []) []) refl refl refl refl refl refl refl
-        refl refl refl op l m) h;
-  }
+      pub required-absent : present ≡ false → Requires-more o q (with-absent q a)
+      required-absent e = found-requires (is ∙ ap (λ (b : Bool). Signal b j) e) (absent-requires q j bit-is)
 
--- whether a row is an or, by its opcode
-pub or-at : (rows : List ℕ) (e : ℕ) → getD rows e 0 ≡ 6 → is-or (operator-at rows e) ≡ true
-or-at rows e = is-or-6 (getD rows e 0) (getD rows (48 + e) 0) e
-
-pub other-at : {rows : List ℕ} {count : ℕ} (e : ℕ) → Formed rows count → e < count → (getD rows e 0 ≡ 6 → ⊥)
-    → is-or (operator-at rows e) ≡ false
-other-at {rows} e f h = is-or-not (getD rows e 0) (getD rows (48 + e) 0) e (f .row e h .some) (f .row e h .known)
+    pub required-next : {g : Subformula} {a : ℕ} → x ≡ Next g → a ≡ 2 ^ g .0 → Requires-more o q (with-to q a)
+    required-next {g} is i = found-requires is (next-requires q (g .0) i)

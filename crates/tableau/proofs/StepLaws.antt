@@ -6,11 +6,11 @@ use mathlib.Core.Path.{_≡_, refl, sym, ap, subst⁻¹, _∙_}
 use mathlib.Core.Logic.{inl, inr}
 use mathlib.Core.Bool.{Bool, true, false, cond, not, _&&_}
 use mathlib.Core.List.{List, [], _∷_, List·Memᴰ, List·Memᴰ·head, List·Memᴰ·tail, List·Memᴰ·not-nil, List·Memᴰ·cases-cons, Memᴰ·of-map}
-use Prim.Native.Nat.{ℕ, _+_}
+use Prim.Native.Nat.{ℕ}
 use native.Mathlib.Omega.{arith}
 use lib.Dec.{eqb}
 use lib.Bits.{bitAnd}
-use lib.ListN.{length, getD, length-map}
+use lib.ListN.{length, length-map}
 use borrow.Author.Tests.{eq-eqb, ne-eqb}
 use Rattle.base.specs.Lists.{numbers, gather}
 use Rattle.base.specs.Bits.{word}
@@ -19,15 +19,16 @@ use Rattle.base.proofs.MemberLaws.{gather-of}
 use Rattle.base.proofs.WordLaws.{word-none}
 use Rattle.formula.specs.Table.{Operator, Table}
 use Rattle.formula.specs.Rows.{operator-at}
+use Rattle.formula.specs.Access.{Fits}
 use Rattle.tableau.specs.Saturation.{Subset, nothing, add, saturate}
 use Rattle.tableau.specs.Transition.{operators-in, requires, next-of, possible, letter-of, choice-of, within, transition-of}
-use Rattle.tableau.specs.Promise.{table-of, Row, Formed, with-bits, Saturated, Leads-nowhere, Required, Required-by, step}
+use Rattle.tableau.specs.Promise.{table-of, Formed, with-bits, Saturated, Leads-nowhere, Required, Required-by, step}
 use Rattle.tableau.specs.Promise.{Stepped, Stepped-by}
 use Rattle.tableau.specs.declared.Requirement.{Requirement}
 use Rattle.tableau.specs.declared.Step.{Step}
 use Rattle.tableau.specs.declared.Step.the-variants.{Leads, Nothing}
 use Rattle.tableau.proofs.SaturationLaws.{saturate-length}
-use Rattle.tableau.proofs.TransitionLaws.{transition-with, no-transition}
+use Rattle.tableau.proofs.TransitionLaws.{transition-with, transition-by, no-transition, one-or-none}
 use Rattle.tableau.proofs.WordSets.{Below, word-add, within-word, clash-word, members-word}
 use Rattle.tableau.proofs.RowLaws.{next-below, present-below}
 use Rattle.tableau.proofs.LoopLaws.{table-length}
@@ -45,11 +46,11 @@ module _ {rows : List ℕ} {count : ℕ} (f : Formed rows count) (s : Subset) wh
 
   -- what is gathered of them is in its range
   gathered-below : (g : Operator → List ℕ) (n : ℕ)
-      → ((e : ℕ) → Row (getD rows e 0) (getD rows (48 + e) 0) e count → Below n (g (operator-at rows e))) → Below n (gather g os)
+      → ((o : Operator) → Fits count o → Below n (g o)) → Below n (gather g os)
   gathered-below g n h m r =
       let (o, q, k) = gather-of g os r in
       let (e, i, p) = Memᴰ·of-map (operator-at rows) (numbers 0 count) (in-table (table-of rows count) s q) in
-      h e (f .row e (omega (arith, numbers-of 0 count i))) m (subst⁻¹ (λ (x : Operator). List·Memᴰ m (g x)) p k)
+      h (operator-at rows e) (f .fits e (omega (arith, numbers-of 0 count i))) m (subst⁻¹ (λ (x : Operator). List·Memᴰ m (g x)) p k)
 
   -- the transition's letter and node, and whether it exists
   module _ (r : Requirement) (q : Required os r) where
@@ -58,7 +59,7 @@ module _ {rows : List ℕ} {count : ℕ} (f : Formed rows count) (s : Subset) wh
     letter-is =
         q .present-is
         ∙ members-word 16 (gather (requires true) os)
-        (gathered-below (requires true) 16 (λ e. present-below (getD rows e 0) (getD rows (48 + e) 0) e count))
+        (gathered-below (requires true) 16 (present-below count))
 
     to-is : r .to ≡ word (add (gather next-of os) (nothing (table-of rows count)))
     to-is =
@@ -66,7 +67,7 @@ module _ {rows : List ℕ} {count : ℕ} (f : Formed rows count) (s : Subset) wh
         ∙ ap (with-bits (gather next-of os)) (sym (word-none (table-of rows count)))
         ∙ sym (word-add (gather next-of os) (nothing (table-of rows count))
         (subst⁻¹ (λ (n : ℕ). Below n (gather next-of os)) (length-map (table-of rows count) (λ _. false) ∙ table-length rows count)
-        (gathered-below next-of count (λ e. next-below (getD rows e 0) (getD rows (48 + e) 0) e count))))
+        (gathered-below next-of count (next-below count))))
 
     test-is : (w : Subset) → (within w s && possible os)
         ≡ (eqb (bitAnd (word w) (word s)) (word w) && (not (r .falsum) && eqb (bitAnd (r .present) (r .absent)) 0))
@@ -92,26 +93,22 @@ module _ {rows : List ℕ} {count choice node set : ℕ} {r : Requirement} (f : 
   test = eqb (bitAnd choice set) choice && (not (r .falsum) && eqb (bitAnd (r .present) (r .absent)) 0)
 
   answer : (x : Step) (b : Bool) → test ≡ b → x ≡ cond b (Leads (r .to) (r .present)) Nothing → Stepped rows count choice node x
-  unfolding possible letter-of
   answer x b h e = record { is = λ w v l c n. go w v l c n }
     where
-      go : (w v : Subset) → length v ≡ count → choice ≡ word w → node ≡ word v
-          → x ≡ step (transition-of (table-of rows count) w (saturate (table-of rows count) w v))
+      t : Table
+      t = table-of rows count
+
+      go : (w v : Subset) → length v ≡ count → choice ≡ word w → node ≡ word v → x ≡ step (transition-of t w (saturate t w v))
       go w v l c n =
-          let t : Table = table-of rows count in
           let s : Subset = saturate t w v in
           let k : set ≡ word s = st .is w v l c n in
           let q : Required (operators-in t s) r = rq .is s (saturate-length t w v ∙ l) k in
-          let p : (within w s && possible (operators-in t s)) ≡ b =
-          test-is f s r q w ∙ ap (λ (y : ℕ). eqb (bitAnd y (word s)) y && (not (r .falsum) && eqb (bitAnd (r .present) (r .absent)) 0))
-          (sym c)
-          ∙ ap (λ (y : ℕ). eqb (bitAnd choice y) choice && (not (r .falsum) && eqb (bitAnd (r .present) (r .absent)) 0)) (sym k) ∙ h in
-          e ∙ by b (letter-is f s r q) (to-is f s r q) ∙ ap (λ (d : Bool). step (cond d (transition-with t w s ∷ []) [])) (sym p)
+          let p : (within w s && possible (operators-in t s)) ≡ b = test-is f s r q w ∙ rw (← c, ← k) h in
+          e ∙ by b (letter-is f s r q) (to-is f s r q) ∙ ap step (sym (transition-by t w s b p))
         where
-          by : (b : Bool) → r .present ≡ letter-of (operators-in (table-of rows count) (saturate (table-of rows count) w v))
-              → r .to ≡ word (transition-with (table-of rows count) w (saturate (table-of rows count) w v) .to)
-              → cond b (Leads (r .to) (r .present)) Nothing ≡ step
-              (cond b (transition-with (table-of rows count) w (saturate (table-of rows count) w v) ∷ []) [])
+          by : (b : Bool) → r .present ≡ letter-of (operators-in t (saturate t w v))
+              → r .to ≡ word (transition-with t w (saturate t w v) .to)
+              → cond b (Leads (r .to) (r .present)) Nothing ≡ step (cond b (transition-with t w (saturate t w v) ∷ []) [])
           by true p t = rw (p, t)
           by false p t = refl
 
@@ -130,12 +127,14 @@ module _ {rows : List ℕ} {count choice node set : ℕ} {r : Requirement} (f : 
 
 -- what the code's answer says of the definition's transition
 no-step : (t : Table) (w s : Subset) → Nothing ≡ step (transition-of t w s) → transition-of t w s ≡ []
-unfolding possible letter-of
-no-step t w s = by (within w s && possible (operators-in t s))
-  where
-    by : (b : Bool) → Nothing ≡ step (cond b (transition-with t w s ∷ []) []) → cond b (transition-with t w s ∷ []) [] ≡ []
-    by true e = let z : _≡_ {A = ℕ} 0 1 = cc in absurd (omega arith)
-    by false e = refl
+no-step t w s e =
+    elim (one-or-none t w s) [
+      | inl p ↦
+          let q : Nothing ≡ step (transition-with t w s ∷ []) = e ∙ ap step p in
+          let z : _≡_ {A = ℕ} 0 1 = cc in
+          absurd (omega arith)
+      | inr p ↦ p
+    ]
 
 module _ {rows : List ℕ} {count x node : ℕ} where
   -- the answer for a choice word: none where it is known to lead nowhere, or that for its choice
@@ -160,13 +159,13 @@ pub record Found (t : Table) (w s : Subset) (to letter : ℕ) : Type 0 where
   pub letter-is : letter ≡ transition-with t w s .letter
 
 pub a-step : {to letter : ℕ} (t : Table) (w s : Subset) → Leads to letter ≡ step (transition-of t w s) → Found t w s to letter
-unfolding possible letter-of
 a-step {to} {letter} t w s e =
-    let (p, q, r) = by (within w s && possible (operators-in t s)) e in
-    record { exists = p; to-is = q; letter-is = r }
-  where
-    by : (b : Bool) → Leads to letter ≡ step (cond b (transition-with t w s ∷ []) [])
-        → (cond b (transition-with t w s ∷ []) [] ≡ transition-with t w s ∷ []) × (to ≡ word (transition-with t w s .to))
-        × (letter ≡ transition-with t w s .letter)
-    by true e = (refl, cc, cc)
-    by false e = let z : _≡_ {A = ℕ} 0 1 = cc in absurd (omega arith)
+    elim (one-or-none t w s) [
+      | inl p ↦
+          let q : Leads to letter ≡ step (transition-with t w s ∷ []) = e ∙ ap step p in
+          record { exists = p; to-is = cc; letter-is = cc }
+      | inr p ↦
+          let q : Leads to letter ≡ Nothing = e ∙ ap step p in
+          let z : _≡_ {A = ℕ} 0 1 = cc in
+          absurd (omega arith)
+    ]

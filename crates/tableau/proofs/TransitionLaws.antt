@@ -1,30 +1,34 @@
 -- When a transition exists, what its letter has and where it leads, as laws: the layers above use the requirement, the existence and
--- the letter of a transition only through these. In one direction (`facts`): the letter of a transition is one that every subformula
--- of the saturated set allows, and it leads to the operands of the next operators there. In the other (`transition-in`): where some
--- letter is allowed by each subformula of the saturated set, the transition exists. Assumes nothing.
+-- the letter of a transition only through these, and none opens `possible` or `letter-of`. In one direction (`facts`): the letter of a
+-- transition is one that every subformula of the saturated set allows, and it leads to the operands of the next operators there. In the
+-- other (`transition-in`): where some letter is allowed by each subformula of the saturated set, the transition exists. A choice word has
+-- one transition or none (`one-or-none`), all choice words make the transitions of a node (`transitions-by-word`, `word-of`, `word-in`),
+-- and a letter has sixteen bits (`letter-small`, `letter-bound`). Assumes nothing.
 use mathlib.Core.Path.{_≡_, refl, sym, ap, subst, subst⁻¹, _∙_}
-use mathlib.Core.Logic.{inl, inr}
+use mathlib.Core.Logic.{_⊎_, inl, inr}
 use mathlib.Core.Bool.{Bool, true, false, not, cond, _&&_}
 use mathlib.Core.List.{List, [], _∷_, map, List·Memᴰ, List·Memᴰ·head, List·Memᴰ·tail, List·Memᴰ·not-nil, List·Memᴰ·cases-cons}
 use mathlib.Core.List.{List·Memᴰ·eq-of-singleton, Memᴰ·cast, Sublistᴰ, Sublistᴰ·slnil, Sublistᴰ·refl, Sublistᴰ·nil-sublist}
 use mathlib.Core.List.{Sublistᴰ·append}
-use Prim.Native.Nat.{ℕ, zero, suc, _<_}
+use Prim.Native.Nat.{ℕ, zero, suc, _^_, _<_}
 use native.Mathlib.Omega.{arith}
 use lib.Dec.{T, T-not, not-T}
 use lib.ListN.{length, length-map}
 use Rattle.base.specs.Lists.{gather, any, member, numbers}
 use Rattle.base.specs.Bits.{bit}
-use Rattle.base.proofs.BoolLaws.{and-left, and-right, and-both}
+use Rattle.base.proofs.BoolLaws.{of-T, and-left, and-right, and-both}
 use Rattle.base.proofs.ListLaws.{getD-map, getD-numbers, length-numbers}
-use Rattle.base.proofs.WordLaws.{word-bit}
-use Rattle.base.proofs.CondLaws.{cond-of, cond-in}
-use Rattle.base.proofs.MemberLaws.{gather-of, gather-in, any-of, any-in, member-of, member-in}
+use Rattle.base.proofs.AppendLaws.{gather-map, numbers-of}
+use Rattle.base.proofs.NumberLaws.{values-length}
+use Rattle.base.proofs.WordLaws.{word-bit, word-lt}
+use Rattle.base.proofs.CondLaws.{cond-of}
+use Rattle.base.proofs.MemberLaws.{gather-of, gather-in, any-of, any-in, member-of, member-in, numbers-in}
 use Rattle.base.proofs.Inside.{inside-length}
 use Rattle.formula.specs.Formula.{Leaf}
 use Rattle.formula.specs.Table.{Operator, Table, operator}
 use Rattle.tableau.specs.Saturation.{Subset, has, nothing, add, saturate}
-use Rattle.tableau.specs.Transition.{operators-in, requires, is-false, possible, letter-of, next-of, choices, within, Transition}
-use Rattle.tableau.specs.Transition.{transition-of, transitions}
+use Rattle.tableau.specs.Transition.{operators-in, requires, is-false, possible, letter-of, next-of, ors, choice-of}
+use Rattle.tableau.specs.Transition.{choices, within, Transition, transition-of, by-word, transitions}
 use Rattle.tableau.specs.Nodes.{operands}
 use Rattle.tableau.proofs.SaturationLaws.{inside-has, has-lt, nothing-has, add-inside, add-has, add-of, Closed, saturate-holds}
 use Rattle.tableau.proofs.SaturationLaws.{saturate-length, saturate-closed}
@@ -158,31 +162,77 @@ transition-with t w s =
     let os = operators-in t s in
     record { choice = w; letter = letter-of os; to = add (gather next-of os) (nothing t) }
 
+-- a choice gives its transition where the choice is met and the saturated set makes one possible, and else none
+pub transition-by : (t : Table) (w s : Subset) (b : Bool) → (within w s && possible (operators-in t s)) ≡ b
+    → transition-of t w s ≡ cond b (transition-with t w s ∷ []) []
+unfolding possible letter-of
+transition-by t w s b q = ap (λ (d : Bool). cond d (transition-with t w s ∷ []) []) q
+
 -- a choice that is not met has no transition
 pub no-transition : (t : Table) (w s : Subset) → within w s ≡ false → transition-of t w s ≡ []
-unfolding possible letter-of
-no-transition t w s p = ap (λ (d : Bool). cond (d && possible (operators-in t s)) (transition-with t w s ∷ []) []) p
+no-transition t w s p = transition-by t w s false (ap (λ (d : Bool). d && possible (operators-in t s)) p)
+
+pub one-or-none : (t : Table) (w s : Subset) → (transition-of t w s ≡ transition-with t w s ∷ []) ⊎ (transition-of t w s ≡ [])
+one-or-none t w s = by (within w s && possible (operators-in t s)) refl
+  where
+    by : (b : Bool) → (within w s && possible (operators-in t s)) ≡ b
+        → (transition-of t w s ≡ transition-with t w s ∷ []) ⊎ (transition-of t w s ≡ [])
+    by true q = inl (transition-by t w s true q)
+    by false q = inr (transition-by t w s false q)
+
+-- a letter has sixteen bits, and none where no signal is to be present
+pub letter-small : (t : Table) (w s : Subset) → transition-with t w s .letter < 65536
+unfolding letter-of
+letter-small t w s =
+    let q : ℕ → Bool = λ j. member j (gather (requires true) (operators-in t s)) in
+    omega (arith, word-lt (map q (numbers 0 16)), ap (λ (n : ℕ). 2 ^ n) (values-length q 0 16))
+
+pub letter-none : letter-of [] ≡ 0
+unfolding letter-of
+letter-none = refl
+
+-- the target has a Bool for each subformula
+pub to-length : (t : Table) (w s : Subset) → length (transition-with t w s .to) ≡ length t
+to-length t w s = sym (inside-length (add-inside (gather next-of (operators-in t s)) (nothing t))) ∙ length-map t (λ (o : Operator). false)
 
 module _ (t : Table) (v : Subset) where
-  -- the transitions of a node are those with a choice that is met, where possible
+  -- the transitions of a node are those of all choice words
+  pub transitions-by-word : transitions t v ≡ gather (λ (x : ℕ). by-word t x v) (numbers 0 (2 ^ ors t))
+  unfolding transitions
+  transitions-by-word = gather-map (λ (w : Subset). transition-of t w (saturate t w v)) (choice-of t) (numbers 0 (2 ^ ors t))
+
+  pub word-of : {s : Transition} → List·Memᴰ s (transitions t v) → (x : ℕ) × (x < 2 ^ ors t) × List·Memᴰ s (by-word t x v)
+  word-of {s} m =
+      let (x, i, r) = gather-of (λ (x : ℕ). by-word t x v) (numbers 0 (2 ^ ors t)) (subst (List·Memᴰ s) transitions-by-word m) in
+      (x, omega (arith, numbers-of 0 (2 ^ ors t) i), r)
+
+  pub word-in : {s : Transition} (x : ℕ) → x < 2 ^ ors t → List·Memᴰ s (by-word t x v) → List·Memᴰ s (transitions t v)
+  word-in {s} x h m =
+      subst⁻¹ (List·Memᴰ s) transitions-by-word
+      (gather-in (λ (x : ℕ). by-word t x v) (numbers-in 0 (2 ^ ors t) x (omega arith) (omega arith)) m)
+
+  -- they are those with a choice that is met, where possible
   transitions-of : (x : Transition) → List·Memᴰ x (transitions t v)
       → (w : Subset) × List·Memᴰ w (choices t) × T (within w (saturate t w v)) × T (possible (operators-in t (saturate t w v)))
       × (x ≡ transition-with t w (saturate t w v))
   unfolding transitions
   transitions-of x m =
       let (w, p, r) = gather-of (λ w. transition-of t w (saturate t w v)) (choices t) m in
-      let met = within w (saturate t w v) in
-      let able = possible (operators-in t (saturate t w v)) in
-      let (h, q) = cond-of (met && able) (transition-with t w (saturate t w v) ∷ []) r in
+      let s = saturate t w v in
+      let met = within w s in
+      let able = possible (operators-in t s) in
+      let (h, q) = cond-of (met && able) (transition-with t w s ∷ []) (subst (List·Memᴰ x) (transition-by t w s (met && able) refl) r) in
       (w, p, and-left met able h, and-right met able h, List·Memᴰ·eq-of-singleton q)
 
   transitions-in : (w : Subset) → List·Memᴰ w (choices t) → T (within w (saturate t w v)) → T (possible (operators-in t (saturate t w v)))
       → List·Memᴰ (transition-with t w (saturate t w v)) (transitions t v)
   unfolding transitions
   transitions-in w p a b =
-      let met = within w (saturate t w v) in
-      let able = possible (operators-in t (saturate t w v)) in
-      gather-in (λ w. transition-of t w (saturate t w v)) p (cond-in (met && able) (and-both met able a b) (List·Memᴰ·head refl))
+      let s = saturate t w v in
+      let both = and-both (within w s) (possible (operators-in t s)) a b in
+      gather-in (λ w. transition-of t w (saturate t w v)) p
+      (subst⁻¹ (List·Memᴰ (transition-with t w s)) (transition-by t w s true (of-T (within w s && possible (operators-in t s)) both))
+      (List·Memᴰ·head refl))
 
 -- What a transition of node v is: its choice is met, and its saturated set holds the node, follows the moves, allows the letter, and
 -- has the next operators whose operands are the node that it leads to.
@@ -234,7 +284,7 @@ module _ (t : Table) (v w : Subset) (len : length v ≡ length t) where
         allows = λ e h small. possible-allows (operators-in t set) p (operator t e) (in-set e h) small;
         nexts = to-in;
         from-next = to-of;
-        long = sym (inside-length (add-inside nexts (nothing t))) ∙ length-map t (λ (o : Operator). false);
+        long = to-length t w set;
       }
 
 -- Theorem: a transition of a node is what `Facts` says.
@@ -260,6 +310,11 @@ pub transition-is : (t : Table) (v : Subset) (x : Transition) → List·Memᴰ x
 transition-is t v x m =
     let (w, c, i, p, e) = transitions-of t v x m in
     e ∙ ap (λ (y : Transition). transition-with t (y .choice) (saturate t (y .choice) v)) (sym e)
+
+-- and so its letter has sixteen bits
+pub letter-bound : (t : Table) (v : Subset) {x : Transition} → List·Memᴰ x (transitions t v) → x .letter < 65536
+letter-bound t v {x} m =
+    subst⁻¹ (λ (y : Transition). y .letter < 65536) (transition-is t v x m) (letter-small t (x .choice) (saturate t (x .choice) v))
 
 -- Theorem: a choice that is met gives a transition if some letter is allowed by each subformula of the saturated set.
 pub transition-in : (t : Table) (v w : Subset) → List·Memᴰ w (choices t) → ((e : ℕ) → T (has w e) → T (has (saturate t w v) e))

@@ -25,14 +25,13 @@ use Rattle.base.proofs.AppendLaws.{numbers-of}
 use Rattle.base.proofs.MemberLaws.{any-of, any-in, numbers-in}
 use Rattle.base.proofs.NumberLaws.{values-add}
 use Rattle.base.proofs.WordLaws.{same-bits, no-bit, bit-zero, bit-suc}
-use Rattle.formula.specs.Table.{Table}
+use Rattle.formula.specs.Table.{Table, is-or}
 use Rattle.formula.specs.Rows.{operator-at, operators-of}
 use Rattle.tableau.specs.Saturation.{Subset, has, saturate}
 use Rattle.tableau.specs.Transition.{ors, choice-of, within}
-use Rattle.tableau.specs.Promise.{table-of, Formed, Between, Widest, Leads-nowhere, Unmet-between, unmet-at, is-unmet, Unmet}
+use Rattle.tableau.specs.Promise.{table-of, Between, Widest, Leads-nowhere, Unmet-between, unmet-at, is-unmet, Unmet}
 use Rattle.tableau.proofs.ChoiceLaws.{choice-of-length}
 use Rattle.tableau.proofs.TransitionLaws.{within-of, no-transition}
-use Rattle.tableau.proofs.RowLaws.{or-at}
 use Rattle.tableau.proofs.LoopLaws.{table-length, at-end, ors-one, ors-same, choice-append}
 
 -- the table as the rows before e, row e, and the rest
@@ -44,23 +43,31 @@ table-split rows {count} {e} h =
     ∙ ap (λ (i : ℕ). table-of rows e ++ operators-of rows i (suc (count - e - 1))) (zero-add e)
 
 -- the choice at an or is the word's bit at the or's number
-choice-at : (rows : List ℕ) {count e : ℕ} (x : ℕ) → e < count → getD rows e 0 ≡ 6
+choice-at : (rows : List ℕ) {count e : ℕ} (x : ℕ) → e < count → is-or (operator-at rows e) ≡ true
     → has (choice-of (table-of rows count) x) e ≡ bit x (ors (table-of rows e))
 choice-at rows {count} {e} x h o =
-    let before = table-of rows e in
-    let rest = operators-of rows (suc e) (count - e - 1) in
-    let left = x / 2 ^ ors before in
-    let here : choice-of (operator-at rows e ∷ rest) left ≡ bit x (ors before) ∷ choice-of rest (left / 2) = rw (or-at rows e o) in
     ap (λ (t : Table). has (choice-of t x) e) (table-split rows h)
     ∙ ap (λ (v : Subset). has v e) (choice-append before (operator-at rows e ∷ rest) x ∙ ap (λ (v : Subset). choice-of before x ++ v) here)
     ∙ getD-at (choice-of before x) (bit x (ors before)) (choice-of rest (left / 2)) false e
     (choice-of-length before x ∙ table-length rows e)
+  where
+    before : Table
+    before = table-of rows e
+
+    rest : Table
+    rest = operators-of rows (suc e) (count - e - 1)
+
+    left : ℕ
+    left = x / 2 ^ ors before
+
+    here : choice-of (operator-at rows e ∷ rest) left ≡ bit x (ors before) ∷ choice-of rest (left / 2)
+    here = ap (λ (b : Bool). cond b (eqb (left % 2) 1 ∷ choice-of rest (left / 2)) (false ∷ choice-of rest left)) o
 
 -- or number j is one of the first e rows, and outside the set
 pub record Or-outside (rows : List ℕ) (e set j : ℕ) : Type 0 where
   pub at : ℕ
   pub early : at < e
-  pub an-or : getD rows at 0 ≡ 6
+  pub an-or : is-or (operator-at rows at) ≡ true
   pub number : j ≡ ors (table-of rows at)
   pub outside : T (bit set at) → ⊥
 
@@ -76,8 +83,8 @@ pub outside-none : (rows : List ℕ) (set : ℕ) → Outside rows 0 set 0 0
 outside-none rows set = record { counted = refl; each = λ j h. absurd (subst T (no-bit j) h) }
 
 module _ {rows : List ℕ} {e set bits n : ℕ} (o : Outside rows e set bits n) where
-  pub outside-or : getD rows e 0 ≡ 6 → {b : Bool} → b ≡ bit set e → (r : ℕ) → ((k : ℕ) → bit r k ≡ cond (eqb k n) (not b) (bit bits k))
-      → Outside rows (e + 1) set r (n + 1)
+  pub outside-or : is-or (operator-at rows e) ≡ true → {b : Bool} → b ≡ bit set e → (r : ℕ)
+      → ((k : ℕ) → bit r k ≡ cond (eqb k n) (not b) (bit bits k)) → Outside rows (e + 1) set r (n + 1)
   outside-or h {b} q r f = record {
     counted = ap (λ (k : ℕ). k + 1) (o .counted) ∙ sym (ors-one rows e h);
     each = λ j k. by j (eqb j n) refl (subst T (f j) k);
@@ -93,8 +100,8 @@ module _ {rows : List ℕ} {e set bits n : ℕ} (o : Outside rows e set bits n) 
       }
       by j false s k = later (o .each j k)
 
-  pub outside-other : {count : ℕ} → Formed rows count → e < count → (getD rows e 0 ≡ 6 → ⊥) → Outside rows (e + 1) set bits n
-  outside-other f h k = record { counted = o .counted ∙ sym (ors-same rows e f h k); each = λ j m. later (o .each j m) }
+  pub outside-other : is-or (operator-at rows e) ≡ false → Outside rows (e + 1) set bits n
+  outside-other h = record { counted = o .counted ∙ sym (ors-same rows e h); each = λ j m. later (o .each j m) }
 
 -- a word that picks at an or outside a set that holds every saturation is not met
 module _ {rows : List ℕ} {count low high node set : ℕ} (wd : Widest rows count low high node set) (x : ℕ)
@@ -189,8 +196,9 @@ unmet-put {rows} {count} {node} {at} {y} {r} j b l h s q f u = record { is = λ 
         (λ e. u .is x i k (λ z. m (ap (bitAnd x) (getD-set-other r at place y 0 e) ∙ z)))
 
 -- the entries for each or and pick
-abbrev pub Entries : List ℕ → (count node : ℕ) → List ℕ → Type 0
-Entries rows count node r = (length r ≡ 24) × Unmet rows count node r
+pub record Entries (rows : List ℕ) (count node : ℕ) (r : List ℕ) : Type 0 where
+  pub long : length r ≡ 24
+  pub right : Unmet rows count node r
 
 module _ (rows : List ℕ) (count : ℕ) {n all : ℕ} (o : n ≡ ors (table-of rows count)) (a : all ≡ 2 ^ n - 1) where
   ones : all ≡ 2 ^ ors (table-of rows count) - 1
@@ -198,25 +206,28 @@ module _ (rows : List ℕ) (count : ℕ) {n all : ℕ} (o : n ≡ ors (table-of 
 
   -- at first those of no pick,
   pub unmet-start : {node y : ℕ} → Unmet-between rows count 0 all node y → Entries rows count node (replicate 24 y)
-  unmet-start {y = y} u = (
-    length-replicate 24 y,
-    record {
+  unmet-start {y = y} u = record {
+    long = length-replicate 24 y;
+    right = record {
       is = λ x j h m. u .is x (between-any ones x)
           (λ z. m (ap (bitAnd x) (getD-replicate 24 (2 * j + x / 2 ^ j % 2) y 0 (omega arith)) ∙ z));
-    },
-  )
+    };
+  }
 
   -- then those of the picks at or j
   pub unmet-turn : {node : ℕ} {r : List ℕ} {left right low high y z : ℕ} (j : ℕ) → j < 12 → left ≡ 2 * j → right ≡ 2 * j + 1
       → ((k : ℕ) → bit high k ≡ cond (eqb k j) false (bit all k)) → Unmet-between rows count 0 high node y
       → low ≡ 2 ^ j → Unmet-between rows count low all node z
       → Entries rows count node r → Entries rows count node (set (set r left y) right z)
-  unmet-turn {r = r} {left} {right} {y = y} {z} j h p q f m e k (l, u) =
-      let half : length (set r left y) ≡ 24 = length-set r left y ∙ l in (
-        length-set (set r left y) right z ∙ half,
+  unmet-turn {r = r} {left} {right} {y = y} {z} j h p q f m e k entries = record {
+    long = length-set (set r left y) right z ∙ half;
+    right =
         unmet-put j 1 half h (omega arith) q (λ x i o. k .is x (between-right ones x j i e) o)
-            (unmet-put j 0 l h (omega arith) (omega arith) (λ x i o. m .is x (between-left ones x j i f) o) u),
-      )
+        (unmet-put j 0 (entries .long) h (omega arith) (omega arith) (λ x i o. m .is x (between-left ones x j i f) o) (entries .right));
+  }
+    where
+      half : length (set r left y) ≡ 24
+      half = length-set r left y ∙ entries .long
 
 -- the test of a word
 module _ (r : List ℕ) (x : ℕ) where

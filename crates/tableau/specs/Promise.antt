@@ -11,7 +11,8 @@ use lib.ListN.{length, getD}
 use Rattle.base.specs.Lists.{gather, any, numbers}
 use Rattle.base.specs.Bits.{bit, word}
 use Rattle.formula.specs.Table.{Operator, Table}
-use Rattle.formula.specs.Rows.{operators-of}
+use Rattle.formula.specs.Rows.{operator-at, operators-of}
+use Rattle.formula.specs.Access.{Fits}
 use Rattle.tableau.specs.Saturation.{Subset, has, saturate}
 use Rattle.tableau.specs.Transition.{operators-in, requires, is-false, next-of, ors, choice-of, Transition, transition-of, by-word}
 use Rattle.tableau.specs.declared.Requirement.{Requirement}
@@ -22,24 +23,11 @@ use Rattle.tableau.specs.declared.Step.the-variants.{Leads, Nothing}
 abbrev pub table-of : List ℕ → ℕ → Table
 table-of rows count = operators-of rows 0 count
 
--- What is asked of a row: an opcode of MEANING 1.1, and operands in their ranges. The number n is above all subformulas.
-pub record Row (op argument e n : ℕ) : Type 0 where
-  pub some : 0 < op
-  pub known : op ≤ 10
-  pub signal : 2 < op → op < 5 → argument < 16
-  pub argument-below : 4 < op → op < 8 → argument < n
-  pub first-below : 5 < op → e + 1 < n
-
--- subformula e has a place in the rows, and its row is right
-pub record Placed (rows : List ℕ) (e : ℕ) : Type 0 where
-  pub place : e < 48
-  pub row : Row (getD rows e 0) (getD rows (48 + e) 0) e 48
-
 -- What is asked of the rows. Those of an accepted formula are so (proofs/FormedLaws.antt).
 pub record Formed (rows : List ℕ) (count : ℕ) : Type 0 where
   pub some : 0 < count
   pub few : count ≤ 48
-  pub row : (e : ℕ) → e < count → Row (getD rows e 0) (getD rows (48 + e) 0) e count
+  pub fits : (e : ℕ) → e < count → Fits count (operator-at rows e)
   pub few-ors : ors (table-of rows count) ≤ 12
 
 -- a word with the bits of a list put in

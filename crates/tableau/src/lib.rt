@@ -1,4 +1,5 @@
 // The tableau of a formula: sets of subformulas as words, bit e for subformula e; transitions by choice words; nodes.
+use formula::Operator;
 use formula::Subformula;
 ghost use mathlib.Core.Path.{_≡_};
 ghost use mathlib.Core.List.{_++_};
@@ -7,9 +8,10 @@ ghost use lib.ListN.{length, drop};
 ghost use Rattle.base.specs.Bits.{bit, word};
 ghost use Rattle.base.specs.Lists.{member};
 ghost use Rattle.formula.specs.Rows.{operator-at};
+ghost use Rattle.formula.specs.Access.{Placed};
 ghost use Rattle.tableau.specs.Saturation.{moves};
 ghost use Rattle.tableau.specs.Transition.{ors, choice-of};
-ghost use Rattle.tableau.specs.Promise.{table-of, Formed, Placed, with-bits, Saturated, Requires-more, Required-by, Stepped};
+ghost use Rattle.tableau.specs.Promise.{table-of, Formed, with-bits, Saturated, Requires-more, Required-by, Stepped};
 ghost use Rattle.tableau.specs.Promise.{Stepped-by, Widest, Unmet-between, is-unmet, Unmet};
 ghost use Rattle.tableau.specs.Area.{eight, words-at, index, zeros, Room, Holds, reachable, slot-of, Marked, Added};
 ghost use Rattle.tableau.specs.Area.{Followed, Expanded};
@@ -18,11 +20,11 @@ ghost use Rattle.tableau.specs.Area.{Followed, Expanded};
 pub struct NodeNumber(pub usize);
 
 // What a saturated set requires: the signals present and absent, whether it holds false, and the operands of its nexts.
-pub struct Requirement {
-    pub present: u64,
-    pub absent: u64,
-    pub falsum: bool,
-    pub to: u64,
+struct Requirement {
+    present: u64,
+    absent: u64,
+    falsum: bool,
+    to: u64,
 }
 
 // Where a transition leads, with its letter, if it exists.
@@ -39,7 +41,7 @@ pub fn ors(rows: &[u8; 144], count: usize) -> usize
     let mut n = 0;
     let mut e = 0;
     while e < count {
-        if rows[e] == 6 {
+        if formula::is_or(rows, Subformula(e)) {
             n += 1;
         }
         e += 1;
@@ -56,7 +58,7 @@ pub fn choice_of(rows: &[u8; 144], count: usize, choice_word: u64) -> u64
     let mut left = choice_word;
     let mut e = 0;
     while e < count {
-        if rows[e] == 6 {
+        if formula::is_or(rows, Subformula(e)) {
             choice = choice | ((left % 2) << e);
             left = left / 2;
         }
@@ -70,25 +72,27 @@ fn moved(rows: &[u8; 144], choice: u64, s: Subformula, set: u64) -> u64
     requires { ⌜ Placed (now rows) (s .0) ⌝ }
     ensures { λ r. ⌜ r ≡ with-bits (moves (operator-at (now (rows .entry)) (s .0)) (bit choice (s .0))) set ⌝ }
 {
-    let e = s.0;
-    let op = rows[e];
-    let argument = base::wide(rows[48 + e]);
-    if op == 5 {
-        return set | base::power(argument);
-    }
-    if op == 6 {
-        if base::has(choice, e) {
-            return set | base::power(argument);
+    let o = formula::operator_at(rows, s);
+    match o {
+        Operator::Constant(_) => set,
+        Operator::Signal { .. } => set,
+        Operator::Variable(binder) => set | base::power(binder.0),
+        Operator::Pair {
+            either,
+            left,
+            right,
+        } => {
+            if !either {
+                return set | base::power(left.0) | base::power(right.0);
+            }
+            if base::has(choice, s.0) {
+                return set | base::power(right.0);
+            }
+            set | base::power(left.0)
         }
-        return set | base::power(e + 1);
+        Operator::Next(_) => set,
+        Operator::Fixpoint { body, .. } => set | base::power(body.0),
     }
-    if op == 7 {
-        return set | base::power(e + 1) | base::power(argument);
-    }
-    if 8 < op {
-        return set | base::power(e + 1);
-    }
-    set
 }
 
 // The least set around the node that no move leaves. The fringe has the subformulas whose moves are still to be followed. A node has
@@ -138,7 +142,7 @@ fn unmet_between(rows: &[u8; 144], count: usize, low: u64, high: u64, node: u64)
     let mut n = 0;
     let mut e = 0;
     while e < count {
-        if rows[e] == 6 {
+        if formula::is_or(rows, Subformula(e)) {
             bits = base::with(bits, n, !base::has(wide, e));
             n += 1;
         }
@@ -192,29 +196,29 @@ fn with_required(rows: &[u8; 144], s: Subformula, q: Requirement) -> Requirement
     requires { ⌜ Placed (now rows) (s .0) ⌝ }
     ensures { λ r. ⌜ Requires-more (operator-at (now (rows .entry)) (s .0)) q r ⌝ }
 {
-    let e = s.0;
-    let op = rows[e];
-    let argument = base::wide(rows[48 + e]);
-    let present = if op == 3 {
-        q.present | base::power(argument)
-    } else {
-        q.present
-    };
-    let absent = if op == 4 {
-        q.absent | base::power(argument)
-    } else {
-        q.absent
-    };
-    let to = if op == 8 {
-        q.to | base::power(e + 1)
-    } else {
-        q.to
-    };
-    Requirement {
-        present: present,
-        absent: absent,
-        falsum: q.falsum | (op == 2),
-        to: to,
+    let o = formula::operator_at(rows, s);
+    let mut r = q;
+    match o {
+        Operator::Constant(holds) => {
+            r.falsum = q.falsum | !holds;
+            r
+        }
+        Operator::Signal { present, signal } => {
+            let bit = base::power(base::wide(signal));
+            if present {
+                r.present = q.present | bit;
+                return r;
+            }
+            r.absent = q.absent | bit;
+            r
+        }
+        Operator::Next(operand) => {
+            r.to = q.to | base::power(operand.0);
+            r
+        }
+        Operator::Variable(_) => q,
+        Operator::Pair { .. } => q,
+        Operator::Fixpoint { .. } => q,
     }
 }
 

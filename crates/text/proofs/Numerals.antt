@@ -1,6 +1,5 @@
 -- The laws of numerals: the last digit stands behind the numeral of the quotient, which is smaller; so one is written, and so a number
--- below
--- base ^ d has at most d digits. Assumes nothing.
+-- below base ^ d has at most d digits. Assumes nothing.
 use mathlib.Core.Path.{_≡_, refl, sym, ap, subst, _∙_}
 use mathlib.Core.Bool.{Bool, true, false, true≢false, cond, _&&_}
 use mathlib.Core.List.{List, [], _∷_, _++_}
@@ -10,7 +9,7 @@ use native.Mathlib.Omega.{arith}
 use lib.Dec.{ltb, leb}
 use lib.ListN.{length, length-append}
 use borrow.Author.Tests.{lt-ltb, ltb-false, le-leb, leb-false}
-use Rattle.text.specs.Text.{Buffer, Wrote, glyph, is-last, numeral-by, numeral}
+use Rattle.text.specs.Text.{Buffer, Wrote, Radix, glyph, is-last, numeral-by, numeral}
 use Rattle.text.proofs.Writing.{then}
 
 shrinks-by : (base width n : ℕ) → 1 < base → (a : Bool) → ltb n base ≡ a → (a && leb width 1) ≡ false → n / base + (width - 1) < n + width
@@ -24,8 +23,8 @@ shrinks-by base width n h false p e =
     omega arith
 
 -- a digit's value in a base up to 16
-pub digit-value : (n : ℕ) {base : ℕ} → 1 < base → base ≤ 16 → n % base < 16
-digit-value n {base} h k = let z = mod-lt n {m = base} (omega arith) in omega arith
+pub digit-value : (n : ℕ) {base : ℕ} → Radix base → n % base < 16
+digit-value n {base} r = omega (arith, r .few, mod-lt n {m = base} (omega (arith, r .some)))
 
 module _ (base : ℕ) (h : 1 < base) where
   -- the quotient and the width of what stands in front are less

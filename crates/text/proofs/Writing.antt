@@ -1,6 +1,5 @@
 -- The laws of writing into a buffer. A text may be written in parts; the buffer keeps its length, and the place stays within it; and a
--- text that has
--- room stands at the place whole, with the rest of the buffer as it was. Assumes nothing.
+-- text that has room stands at the place whole, with the rest of the buffer as it was. Assumes nothing.
 use mathlib.Core.Path.{_≡_, refl, sym, ap, subst, _∙_}
 use mathlib.Core.Bool.{Bool, true, false, cond}
 use mathlib.Core.List.{List, [], _∷_, _++_}
@@ -53,8 +52,9 @@ put-kept : (s : Buffer) (b : ℕ) → Kept s (put s b)
 put-kept s b = by (ltb (s .at) (length (s .bytes))) refl
   where
     by : (t : Bool) → ltb (s .at) (length (s .bytes)) ≡ t → Kept s (cond t (buffer (set (s .bytes) (s .at) b) (s .at + 1)) s)
-    by true e = let h = ltb-true (s .at) (length (s .bytes)) e in record
-        { long = length-set (s .bytes) (s .at) b; within = λ _. simp length-set (omega arith) }
+    by true e =
+        let h = ltb-true (s .at) (length (s .bytes)) e in
+        record { long = length-set (s .bytes) (s .at) b; within = λ _. simp length-set (omega arith) }
     by false e = record { long = refl; within = λ w. w }
 
 pub written-kept : (s : Buffer) (text : List ℕ) → Kept s (written s text)
@@ -67,9 +67,24 @@ written-kept s (b ∷ text) =
 pub keeps-length : {s t : Buffer} {text : List ℕ} → Wrote s text t → length (t .bytes) ≡ length (s .bytes)
 keeps-length {s} {t} {text} p = ap (λ (u : Buffer). length (u .bytes)) (p .is) ∙ written-kept s text .long
 
+-- A loop that writes a text for each of some members has passed i of them: what it has written so far.
+pub record Passed (members i : ℕ) (text : List ℕ) (s t : Buffer) : Type 0 where
+  pub inside : i ≤ members
+  pub same-length : length (t .bytes) ≡ length (s .bytes)
+  pub wrote : Wrote s text t
+
+pub none-passed : {members : ℕ} {s : Buffer} → Passed members 0 [] s s
+none-passed = record { inside = omega arith; same-length = refl; wrote = nothing }
+
+pub one-passed : {members i : ℕ} {text more : List ℕ} {s t u : Buffer} → i < members → Passed members i text s t → length (u .bytes) ≡ length
+    (t .bytes) → Wrote s more u → Passed members (i + 1) more s u
+one-passed h p e w = record { inside = omega arith; same-length = e ∙ p .same-length; wrote = w }
+
 -- the place behind a text
 pub place-within : {s t : Buffer} {text : List ℕ} → Wrote s text t → s .at ≤ length (s .bytes) → t .at ≤ length (t .bytes)
-place-within {s} {t} {text} p h = let kept : Kept s t = subst (Kept s) (sym (p .is)) (written-kept s text) in kept .within h
+place-within {s} {t} {text} p h =
+    let kept : Kept s t = subst (Kept s) (sym (p .is)) (written-kept s text) in
+    kept .within h
 
 written-sets : (text out : List ℕ) (at : ℕ) → at + length text ≤ length out → written (buffer out at) text ≡ buffer (sets out at text)
     (at + length text)

@@ -2,7 +2,7 @@
 use mathlib.Core.Bool.{Bool, cond, _&&_}
 use mathlib.Core.Path.{_≡_}
 use mathlib.Core.List.{List, [], _∷_, _++_}
-use Prim.Native.Nat.{ℕ, zero, suc, _+_, _-_, _/_, _%_}
+use Prim.Native.Nat.{ℕ, zero, suc, _+_, _-_, _/_, _%_, _≤_, _<_}
 use lib.Dec.{ltb, leb}
 use lib.ListN.{length, set}
 
@@ -35,6 +35,11 @@ within s = cond (leb (s .at) (length (s .bytes))) s (buffer (s .bytes) 0)
 -- The line's end, behind a text.
 abbrev pub ended : Buffer → Buffer
 ended s = within (put s 10)
+
+-- A base whose digits have a glyph each.
+pub record Radix (base : ℕ) : Type 0 where
+  pub some : 1 < base
+  pub few : base ≤ 16
 
 -- The ASCII code of a digit below 16: `0` to `9`, then `a` to `f`.
 abbrev pub glyph : ℕ → ℕ

@@ -1,10 +1,10 @@
 // Text into a buffer. Each function writes from a place on, as far as there is room, and answers the place behind what it wrote.
 ghost use mathlib.Core.Path.{_≡_};
 ghost use mathlib.Core.List.{[], _∷_};
-ghost use Prim.Native.Nat.{_-_, _<_, _≤_};
+ghost use Prim.Native.Nat.{_-_, _<_};
 ghost use lib.ListN.{take, drop};
 ghost use Rattle.io.specs.Counts.{Counts};
-ghost use Rattle.text.specs.Text.{buffer, Wrote, each, letter-text, number-text, is-last};
+ghost use Rattle.text.specs.Text.{buffer, Wrote, Radix, each, letter-text, number-text, is-last};
 ghost use Rattle.text.specs.Text.{glyph as Text·glyph, decimal as Text·decimal, hex as Text·hex, numeral as Text·numeral};
 ghost use Rattle.text.specs.Text.{ended as Text·ended};
 
@@ -65,7 +65,7 @@ pub fn hex(out: &mut [u8], at: usize, n: u64, width: usize) -> usize
 
 // The digits in front of the last one are those of the quotient.
 fn numeral(out: &mut [u8], at: usize, n: u64, base: u64, width: usize) -> usize
-    requires { ⌜ (1 < base) × (base ≤ 16) ⌝ }
+    requires { ⌜ Radix base ⌝ }
     ensures { λ r. ⌜ Wrote (buffer (now (out .entry)) at) (Text·numeral base width n) (buffer (now (out .exit)) r) ⌝ }
 {
     let last = glyph(n % base);

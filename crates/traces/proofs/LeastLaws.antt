@@ -1,25 +1,26 @@
 -- The mask of the least fixpoints, built subformula by subformula: its bits below the rank are the definition's, and what is left of the
 -- definition's list belongs to the subformulas that are left. Assumes nothing.
 use mathlib.Core.Path.{_≡_, refl, sym, ap, subst⁻¹, _∙_}
-use mathlib.Core.Bool.{Bool, true, false, cond, not}
+use mathlib.Core.Bool.{Bool, true, false, cond}
 use mathlib.Core.List.{List, _∷_}
 use Prim.Native.Nat.{ℕ, suc, _+_, _-_, _≤_, _<_}
 use native.Mathlib.Omega.{arith}
 use native.Mathlib.Decide.{decLt, ℕ-discrete}
 use native.Mathlib.Numerals.{add-one}
-use borrow.Author.Tests.{eq-eqb, ne-eqb, lt-ltb, le-ltb}
+use borrow.Author.Tests.{eq-eqb, ne-eqb}
 use lib.Dec.{eqb}
 use lib.ListN.{getD}
 use Rattle.base.specs.Bits.{bit}
 use Rattle.base.proofs.WordLaws.{no-bit}
 use Rattle.formula.specs.Table.{Operator, is-fix}
 use Rattle.formula.specs.Rows.{operator-at, operators-of}
+use Rattle.formula.specs.Access.{decoded}
+use Rattle.formula.specs.declared.Operator as code
 use Rattle.tableau.specs.Promise.{table-of}
 use Rattle.profile.specs.Profiles.{is-least}
 use Rattle.coded.specs.Marks.{leasts}
-use Rattle.traces.specs.Promise.{fix-at, fix-rank}
-use Rattle.traces.proofs.OperatorLaws.{is-9, is-10, not-fix}
-use Rattle.traces.proofs.RankLaws.{before-suc, Opcodes}
+use Rattle.traces.specs.Promise.{fix-at, fix-rank, With-least}
+use Rattle.traces.proofs.RankLaws.{before-suc}
 
 -- what the mask says of the subformulas before e, and what is left
 pub record Masked (rows : List ℕ) (count e mask : ℕ) : Type 0 where
@@ -51,10 +52,19 @@ mask-end rows count e mask h m k = at (decLt k (fix-rank rows e))
         ∙ m .rest (k - fix-rank rows e)
         ∙ ap (λ (i : ℕ). getD (leasts (operators-of rows e i)) (k - fix-rank rows e) false) {x = count - e} {y = 0} (omega arith))
 
-module _ (rows : List ℕ) (count e mask : ℕ) (known : Opcodes rows count) (h : e < count) (m : Masked rows count e mask) where
-  abbrev op : ℕ
-  op = getD rows e 0
+-- what was read of an operator o, and found to be y
+pub is-as : {o : Operator} {x y : code.Operator} → o ≡ decoded x → x ≡ y → is-least (decoded y) ≡ is-least o
+is-as read is = sym (ap is-least (read ∙ ap decoded is))
 
+-- a least fixpoint is a fixpoint
+pub least-fix : (o : Operator) → is-least o ≡ true → is-fix o ≡ true
+least-fix (Operator.leaf l) q = q
+least-fix (Operator.variable m) q = q
+least-fix (Operator.pair o l r) q = q
+least-fix (Operator.next g) q = q
+least-fix (Operator.fix g b) q = refl
+
+module _ (rows : List ℕ) (count e mask : ℕ) (h : e < count) (m : Masked rows count e mask) where
   abbrev after : List Bool
   after = leasts (operators-of rows (e + 1) (count - (e + 1)))
 
@@ -68,9 +78,9 @@ module _ (rows : List ℕ) (count e mask : ℕ) (known : Opcodes rows count) (h 
       ∙ ap (λ (j : ℕ). let r = leasts (operators-of rows j (count - (e + 1))) in cond b (c ∷ r) r) (sym (add-one e))
 
   -- no fixpoint
-  mask-same : op ≤ 8 → Masked rows count (e + 1) mask
+  mask-same : fix-at rows e ≡ false → Masked rows count (e + 1) mask
   mask-same o =
-      let rank : fix-rank rows (e + 1) ≡ fix-rank rows e = before-suc (fix-at rows) e false (le-ltb 8 op o) in
+      let rank : fix-rank rows (e + 1) ≡ fix-rank rows e = before-suc (fix-at rows) e false o in
       record {
         past = λ k l. m .past k (omega arith);
         none = λ k l. m .none k (omega arith);
@@ -78,14 +88,14 @@ module _ (rows : List ℕ) (count e mask : ℕ) (known : Opcodes rows count) (h 
             ap (λ (i : ℕ). getD (leasts (table-of rows count)) (i + k) false) rank
             ∙ m .rest k
             ∙ ap (λ (l : List Bool). getD l k false)
-            (from false (is-least (operator-at rows e)) (not-fix op (getD rows (48 + e) 0) e (known e h .0) o) refl);
+            (from false (is-least (operator-at rows e)) o refl);
       }
 
   -- a fixpoint whose bit the new mask has
-  mask-fix : (new : ℕ) (b : Bool) → 8 < op → operator-at rows e ≡ Operator.fix (not b) (e + 1)
+  mask-fix : (new : ℕ) (b : Bool) → fix-at rows e ≡ true → is-least (operator-at rows e) ≡ b
       → ((k : ℕ) → bit new k ≡ cond (eqb k (fix-rank rows e)) b (bit mask k)) → Masked rows count (e + 1) new
   mask-fix new b o is w =
-      let rank : fix-rank rows (e + 1) ≡ suc (fix-rank rows e) = before-suc (fix-at rows) e true (lt-ltb 8 op o) in
+      let rank : fix-rank rows (e + 1) ≡ suc (fix-rank rows e) = before-suc (fix-at rows) e true o in
       record {
         past = λ k l. w k ∙ at k (omega arith) (ℕ-discrete k (fix-rank rows e));
         none = λ k l. w k ∙ ap (λ (t : Bool). cond t b (bit mask k)) (ne-eqb k (fix-rank rows e) (λ q. omega arith))
@@ -97,12 +107,8 @@ module _ (rows : List ℕ) (count e mask : ℕ) (known : Opcodes rows count) (h 
             ∙ ap (λ (l : List Bool). getD l (suc k) false) whole;
       }
     where
-      twice : (b : Bool) → not (not b) ≡ b
-      twice true = refl
-      twice false = refl
-
       whole : leasts (operators-of rows e (count - e)) ≡ b ∷ after
-      whole = from true b (ap is-fix is) (ap is-least is ∙ twice b)
+      whole = from true b o is
 
       at : (k : ℕ) → k < suc (fix-rank rows e) → Dec (k ≡ fix-rank rows e)
           → cond (eqb k (fix-rank rows e)) b (bit mask k) ≡ getD (leasts (table-of rows count)) k false
@@ -115,10 +121,9 @@ module _ (rows : List ℕ) (count e mask : ℕ) (known : Opcodes rows count) (h 
       at k i (no q) = ap (λ (t : Bool). cond t b (bit mask k)) (ne-eqb k (fix-rank rows e) q) ∙ m .past k (omega arith)
 
   -- by what the code has read and built
-  pub mask-more : (new k : ℕ) → k ≡ fix-rank rows e → (op ≡ 9 → (i : ℕ) → bit new i ≡ cond (eqb i k) true (bit mask i))
-      → ((op ≡ 9 → ⊥) → new ≡ mask)
+  pub mask-more : (new k : ℕ) {least : Bool} → k ≡ fix-rank rows e → least ≡ is-least (operator-at rows e) → With-least least mask k new
       → Masked rows count (e + 1) new
-  mask-more new k ek is not = go (ℕ-discrete op 9) (decLt 8 op)
+  mask-more new k {least} ek is w = go least (fix-at rows e) refl refl
     where
       still : (i : ℕ) → bit mask i ≡ cond (eqb i (fix-rank rows e)) false (bit mask i)
       still i = at (ℕ-discrete i (fix-rank rows e))
@@ -127,11 +132,9 @@ module _ (rows : List ℕ) (count e mask : ℕ) (known : Opcodes rows count) (h 
           at (yes q) = m .none i (omega arith) ∙ sym (ap (λ (t : Bool). cond t false (bit mask i)) (eq-eqb i (fix-rank rows e) q))
           at (no q) = sym (ap (λ (t : Bool). cond t false (bit mask i)) (ne-eqb i (fix-rank rows e) q))
 
-      go : Dec (op ≡ 9) → Dec (8 < op) → Masked rows count (e + 1) new
-      go (yes q) o =
-          mask-fix new true (omega arith) (is-9 op (getD rows (48 + e) 0) e q)
-          (λ i. is q i ∙ ap (λ (r : ℕ). cond (eqb i r) true (bit mask i)) ek)
-      go (no q) (yes o) =
-          subst⁻¹ (Masked rows count (e + 1)) (not q)
-          (mask-fix mask false o (is-10 op (getD rows (48 + e) 0) e (omega (arith, known e h .1))) still)
-      go (no q) (no o) = subst⁻¹ (Masked rows count (e + 1)) (not q) (mask-same (omega arith))
+      go : (b c : Bool) → least ≡ b → fix-at rows e ≡ c → Masked rows count (e + 1) new
+      go true c p q =
+          mask-fix new true (least-fix (operator-at rows e) (sym is ∙ p)) (sym is ∙ p)
+          (λ i. w .put p i ∙ ap (λ (r : ℕ). cond (eqb i r) true (bit mask i)) ek)
+      go false true p q = subst⁻¹ (Masked rows count (e + 1)) (w .kept p) (mask-fix mask false q (sym is ∙ p) still)
+      go false false p q = subst⁻¹ (Masked rows count (e + 1)) (w .kept p) (mask-same q)

@@ -1,4 +1,3 @@
-pub mod OperatorLaws
 pub mod RankLaws
 pub mod MarkLaws
 pub mod NextLaws

@@ -1,7 +1,7 @@
--- Marks in bytes: what is put into one byte, what one operator passes on by its opcode, and that it is nothing where there are no marks;
+-- Marks in bytes: what is put into one byte, what one operator passes on, and that it is nothing where there are no marks;
 -- what a sweep over the rows makes of them; and sweeping until nothing changes, which is what the definition reaches by a fixed number of
 -- rounds. Assumes nothing.
-use mathlib.Core.Path.{_≡_, refl, sym, ap, subst, _∙_}
+use mathlib.Core.Path.{_≡_, refl, sym, ap, subst, subst⁻¹, _∙_}
 use mathlib.Core.Bool.{Bool, true, false, cond, _||_, or-false}
 use mathlib.Core.List.{List, [], _∷_, map}
 use Prim.Native.Nat.{ℕ, zero, suc, _+_, _-_, _*_, _^_, _≤_, _<_}
@@ -21,15 +21,17 @@ use Rattle.base.proofs.BitLaws.{bit-or, bit-same, bit-other}
 use Rattle.base.proofs.WordLaws.{no-bit, word-bit}
 use Rattle.formula.specs.Table.{Operator, is-fix}
 use Rattle.formula.specs.Rows.{operator-at, operators-of}
+use Rattle.formula.specs.Access.{decoded}
+use Rattle.formula.specs.declared.Subformula.{Subformula}
+use Rattle.formula.specs.declared.Operator as code
+use Rattle.formula.specs.declared.Operator.the-variants.{Variable, Pair, Fixpoint}
 use Rattle.tableau.specs.Saturation.{Subset, has, moves}
-use Rattle.tableau.specs.Promise.{Row, table-of}
+use Rattle.tableau.specs.Promise.{table-of}
 use Rattle.coded.specs.Triples.{smaller}
 use Rattle.coded.specs.Marks.{Marks, weighs, bit-of, passed, mark, sweep, blank, reached}
 use Rattle.coded.proofs.TriplesLaws.{smaller-same}
 use Rattle.triples.specs.Promise.{Bits}
 use Rattle.traces.specs.Promise.{marks-of, fix-rank, Marked, Passed}
-use Rattle.traces.proofs.OperatorLaws.{decoded, is-5, is-6, is-7, is-8, is-fixpoint, is-leaf}
-use Rattle.traces.proofs.RankLaws.{fix-same}
 
 pub bit-weighs : (q : ℕ → Bool) (x : ℕ) → x < 8 → bit-of (weighs q) x ≡ q x
 bit-weighs q x h = values-at q 0 8 x false h ∙ ap q (omega arith)
@@ -106,79 +108,68 @@ pub marked-one : (b : List ℕ) (m w : ℕ) → m < length b → Marked (m ∷ [
 marked-one b m w k n h =
     marks-set n b m (bitOr (getD b m 0) w) k ∙ marked n b (bit w) m (bitOr (getD b m 0) w) (λ x l. bit-or (getD b m 0) w x)
 
--- the operands that `passing` marks are among the n that have marks
-module _ {op a e n : ℕ} (row : Row op a e 48) (all : n ≡ 48) where
-  pub argument-in : {m : ℕ} → 4 < op → op < 8 → m ≡ a → m < n
-  argument-in h k q = omega (arith, row .argument-below h k)
+-- what was found to be a fixpoint is one
+pub found-fix : {o : Operator} {x : code.Operator} {greatest : Bool} {body : Subformula} → o ≡ decoded x → x ≡ Fixpoint greatest body
+    → is-fix o ≡ true
+found-fix read is = ap is-fix (read ∙ ap decoded is)
 
-  pub first-in : 5 < op → e + 1 < n
-  first-in h = omega (arith, row .first-below h)
+-- the marks with those of subformula e at some more
+abbrev with-own : List ℕ → (e : ℕ) → List ℕ → (n : ℕ) → Marks
+with-own b e ms n = mark ms (weighs (bit (getD b e 0))) (marks-of n b)
 
--- what `passing` does, by the opcode
-module _ (op a e : ℕ) (p : Bool) (k : ℕ) (b r : List ℕ) where
-  abbrev here : ℕ
-  here = getD b e 0
-
-  abbrev With : (n : ℕ) → List ℕ → ℕ → Marks
-  With n ms w = mark ms (weighs (bit w)) (marks-of n b)
+-- what `passing` does, by the operator that was read: o is x
+module _ {o : Operator} {x : code.Operator} (read : o ≡ decoded x) (p : Bool) (e k : ℕ) (b r : List ℕ) where
+  passed-as : {y : code.Operator} → x ≡ y → Passed (decoded y) p e k b r → Passed o p e k b r
+  passed-as is = subst⁻¹ (λ (d : Operator). Passed d p e k b r) (read ∙ ap decoded is)
 
   -- an operator that is no fixpoint passes on what it has
-  plain : (o : Operator) (ms : List ℕ) → decoded op a e ≡ o → moves o p ≡ ms → is-fix o ≡ false
-      → ((n : ℕ) → n ≤ 48 → marks-of n r ≡ With n ms here) → Passed (decoded op a e) p e k b r
+  plain : {y : code.Operator} (ms : List ℕ) → x ≡ y → moves (decoded y) p ≡ ms → is-fix (decoded y) ≡ false
+      → ((n : ℕ) → n ≤ 48 → marks-of n r ≡ with-own b e ms n) → Passed o p e k b r
   unfolding passed
-  plain o ms q m f g n h l =
+  plain {y} ms is m f g =
+      passed-as is (λ n h l.
       g n l
-      ∙ ap (λ (xs : List ℕ). With n xs here) (sym m)
-      ∙ ap (λ (x : List Bool). mark (moves o p) x (marks-of n b))
+      ∙ ap (λ (xs : List ℕ). with-own b e xs n) (sym m)
+      ∙ ap (λ (x : List Bool). mark (moves (decoded y) p) x (marks-of n b))
       (sym (marks-at n b e h)
-      ∙ ap (λ (t : Bool). cond t (weighs (smaller (bit-of (getD (marks-of n b) e [])) (eqb k))) (getD (marks-of n b) e [])) (sym f))
-      ∙ ap (λ (d : Operator). mark (moves d p) (passed d k (getD (marks-of n b) e [])) (marks-of n b)) (sym q)
-
-  module _ (argument : ℕ) (ea : argument ≡ a) where
-    pub pass-5 : op ≡ 5 → Marked (argument ∷ []) here b r → Passed (decoded op a e) p e k b r
-    pass-5 o g =
-        plain (Operator.variable a) (a ∷ []) (is-5 op a e o) refl refl (λ n l. g n l ∙ ap (λ (m : ℕ). With n (m ∷ []) here) ea)
-
-    pub pass-6 : op ≡ 6 → (c : Bool) → p ≡ c → (m : ℕ) → m ≡ cond c a (e + 1) → Marked (m ∷ []) here b r → Passed (decoded op a e) p e k b r
-    pass-6 o c q m em g =
-        plain (Operator.pair true (e + 1) a) (m ∷ []) (is-6 op a e o)
-        (ap (λ (t : Bool). cond t a (e + 1) ∷ []) q ∙ ap (λ (i : ℕ). i ∷ []) (sym em)) refl g
-
-    pub pass-7 : op ≡ 7 → (l : List ℕ) → Marked ((e + 1) ∷ []) here b l → Marked (argument ∷ []) here l r
-        → Passed (decoded op a e) p e k b r
-    pass-7 o l f g =
-        plain (Operator.pair false (e + 1) a) ((e + 1) ∷ a ∷ []) (is-7 op a e o) refl refl
-        (λ n h.
-        g n h
-        ∙ ap (λ (v : Marks). mark (argument ∷ []) (weighs (bit here)) v) (f n h)
-        ∙ ap (λ (m : ℕ). With n ((e + 1) ∷ m ∷ []) here) ea)
+      ∙ ap (λ (t : Bool). cond t (weighs (smaller (bit-of (getD (marks-of n b) e [])) (eqb k))) (getD (marks-of n b) e [])) (sym f)))
 
   -- nothing moves from a leaf or a next
-  pub pass-none : 0 < op → op ≤ 8 → (op ≡ 5 → ⊥) → (op ≡ 6 → ⊥) → (op ≡ 7 → ⊥) → ((n : ℕ) → n ≤ 48 → marks-of n r ≡ marks-of n b)
-      → Passed (decoded op a e) p e k b r
-  pass-none s h x y z g = go (ℕ-discrete op 8)
-    where
-      go : Dec (op ≡ 8) → Passed (decoded op a e) p e k b r
-      go (yes q) = plain (Operator.next (e + 1)) [] (is-8 op a e q) refl refl g
-      go (no d) = let (l, q) = is-leaf op a e s (omega arith) in plain (Operator.leaf l) [] q refl refl g
+  pub pass-none : {y : code.Operator} → x ≡ y → moves (decoded y) p ≡ [] → is-fix (decoded y) ≡ false → r ≡ b → Passed o p e k b r
+  pass-none is m f q = plain [] is m f (λ n l. ap (marks-of n) q)
+
+  pub pass-variable : {m : Subformula} → x ≡ Variable m → Marked (m .0 ∷ []) (getD b e 0) b r → Passed o p e k b r
+  pass-variable {m} is g = plain (m .0 ∷ []) is refl refl g
+
+  module _ {either : Bool} {left right : Subformula} (is : x ≡ Pair either left right) where
+    pub pass-or : either ≡ true → (c : Bool) → p ≡ c → Marked (cond c (right .0) (left .0) ∷ []) (getD b e 0) b r → Passed o p e k b r
+    pass-or i c q g =
+        plain (cond c (right .0) (left .0) ∷ []) (is ∙ ap (λ (d : Bool). Pair d left right) i)
+        (ap (λ (d : Bool). cond d (right .0) (left .0) ∷ []) q) refl g
+
+    pub pass-and : either ≡ false → (m : List ℕ) → Marked (left .0 ∷ []) (getD b e 0) b m → Marked (right .0 ∷ []) (getD b e 0) m r → Passed o p e k b r
+    pass-and i m f g =
+        plain (left .0 ∷ right .0 ∷ []) (is ∙ ap (λ (d : Bool). Pair d left right) i) refl refl
+        (λ n h. g n h ∙ ap (λ (v : Marks). mark (right .0 ∷ []) (weighs (bit (getD b e 0))) v) (f n h))
 
   -- a fixpoint passes on the smaller of its own priority and of those that it has
-  pub pass-fix : 8 < op → op ≤ 10 → (rank one low : ℕ) → rank ≡ k → one ≡ 2 ^ rank → Bits low (smaller (bit here) (bit one))
-      → Marked ((e + 1) ∷ []) low b r → Passed (decoded op a e) p e k b r
+  pub pass-fixpoint : {greatest : Bool} {body : Subformula} → x ≡ Fixpoint greatest body → (rank one low : ℕ) → rank ≡ k → one ≡ 2 ^ rank
+      → Bits low (smaller (bit (getD b e 0)) (bit one)) → Marked (body .0 ∷ []) low b r → Passed o p e k b r
   unfolding passed
-  pass-fix o j rank one low er eo q g n h l =
-      let (gr, is) = is-fixpoint op a e o j in
-      let power : one ≡ 2 ^ k = eo ∙ ap (λ (i : ℕ). 2 ^ i) er in
-      let w : weighs (bit low) ≡ weighs (smaller (bit-of (getD (marks-of n b) e [])) (eqb k)) =
-      weighs-same (bit low) (smaller (bit-of (getD (marks-of n b) e [])) (eqb k))
-      (λ x hx.
-      q x hx
-      ∙ smaller-same (bit here) (bit one) (bit-of (getD (marks-of n b) e [])) (eqb k) x
-      (λ i hi. sym (mark-bit n b e i h hi))
-      (λ i hi. ap (λ (v : ℕ). bit v i) power ∙ one-bit k i)) in
-      g n l
-      ∙ ap (λ (s : List Bool). mark ((e + 1) ∷ []) s (marks-of n b)) w
-      ∙ ap (λ (d : Operator). mark (moves d p) (passed d k (getD (marks-of n b) e [])) (marks-of n b)) (sym is)
+  pass-fixpoint {body = body} is rank one low er eo q g =
+      passed-as is (λ n h l. g n l ∙ ap (λ (s : List Bool). mark (body .0 ∷ []) s (marks-of n b)) (smaller-one n h))
+    where
+      power : one ≡ 2 ^ k
+      power = eo ∙ ap (λ (i : ℕ). 2 ^ i) er
+
+      smaller-one : (n : ℕ) → e < n → weighs (bit low) ≡ weighs (smaller (bit-of (getD (marks-of n b) e [])) (eqb k))
+      smaller-one n h =
+          weighs-same (bit low) (smaller (bit-of (getD (marks-of n b) e [])) (eqb k))
+          (λ x hx.
+          q x hx
+          ∙ smaller-same (bit (getD b e 0)) (bit one) (bit-of (getD (marks-of n b) e [])) (eqb k) x
+          (λ i hi. sym (mark-bit n b e i h hi))
+          (λ i hi. ap (λ (v : ℕ). bit v i) power ∙ one-bit k i))
 
 -- a subformula without marks passes on nothing: what an operator makes of the blank mark is blank, and marking with it changes nothing
 passed-blank : (o : Operator) (k : ℕ) → passed o k blank ≡ blank
@@ -219,10 +210,10 @@ module _ (rows : List ℕ) (count choice : ℕ) (b₀ : List ℕ) where
   pub swept-start : Sweeping rows count 0 choice b₀ b₀
   swept-start w q = ap (λ (k : ℕ). sweep (operators-of rows 0 k) w 0 0 (marks-of count b₀)) {x = count} {y = count - 0} (omega arith)
 
-  pub swept-more : (e k : ℕ) (b r : List ℕ) → e < count → count ≤ 48 → 0 < getD rows e 0 → getD rows e 0 ≤ 10 → k ≡ fix-rank rows e
+  pub swept-more : (e k : ℕ) (b r : List ℕ) → e < count → count ≤ 48 → k ≡ fix-rank rows e
       → Sweeping rows count e choice b₀ b → Passed (operator-at rows e) (bit choice e) e k b r → Sweeping rows count (e + 1) choice b₀ r
   unfolding passed
-  swept-more e k b r h few s j ek p q w c =
+  swept-more e k b r h few ek p q w c =
       let o = operator-at rows e in
       let right : bit choice e ≡ has w e = ap (λ (x : ℕ). bit x e) c ∙ word-bit w e in
       let one : marks-of count r ≡ mark (moves o (has w e)) (passed o (fix-rank rows e) (getD (marks-of count b) e [])) (marks-of count b) =
@@ -232,9 +223,6 @@ module _ (rows : List ℕ) (count choice : ℕ) (b₀ : List ℕ) where
       {y = suc (count - (e + 1))} (omega arith)
       ∙ ap (sweep (operators-of rows (suc e) (count - (e + 1))) w (suc e) (cond (is-fix o) (suc (fix-rank rows e)) (fix-rank rows e)))
       (sym one)
-      ∙ ap (λ (t : Bool). sweep (operators-of rows (suc e) (count - (e + 1))) w (suc e)
-      (cond t (suc (fix-rank rows e)) (fix-rank rows e)) (marks-of count r))
-      (fix-same (getD rows e 0) (getD rows (48 + e) 0) e s j)
       ∙ ap (λ (i : ℕ). sweep (operators-of rows i (count - (e + 1))) w i (fix-rank rows i) (marks-of count r)) (sym (add-one e))
 
   pub swept-end : (e : ℕ) (b : List ℕ) → count ≤ e → Sweeping rows count e choice b₀ b

@@ -5,21 +5,18 @@ use mathlib.Core.Bool.{Bool, true, false, cond}
 use mathlib.Core.List.{List, [], _∷_, _++_, map}
 use Prim.Native.Nat.{ℕ, zero, suc, _+_, _-_, _%_, _≤_, _<_}
 use native.Mathlib.Omega.{arith}
-use native.Mathlib.Decide.{decLt, ℕ-discrete}
+use native.Mathlib.Decide.{ℕ-discrete}
 use native.Mathlib.Numerals.{add-one}
-use borrow.Author.Tests.{eq-eqb, ne-eqb, lt-ltb, le-ltb}
-use lib.Dec.{ltb}
 use lib.ListN.{length, getD, set, length-set, length-map, length-append}
 use lib.Seq.{getD-set-same, getD-set-other}
-use Rattle.formula.specs.Table.{Table, is-fix}
+use Rattle.formula.specs.Table.{Operator, Table, is-next}
 use Rattle.formula.specs.Rows.{operator-at, operators-of}
 use Rattle.tableau.specs.Transition.{next-of}
 use Rattle.tableau.specs.Nodes.{operands}
-use Rattle.tableau.specs.Promise.{table-of, Formed}
+use Rattle.tableau.specs.Promise.{table-of}
 use Rattle.profile.specs.Profiles.{is-least}
 use Rattle.coded.specs.Marks.{nexts-from, leasts}
 use Rattle.traces.specs.Promise.{before, next-at, fix-at, next-rank, fix-rank, Ranked, Limited, Ranks-of}
-use Rattle.traces.proofs.OperatorLaws.{decoded, is-8, is-fixpoint, not-fix, not-next}
 
 -- a number that counts where a test holds
 count-one : (b : Bool) (k : ℕ) → cond b (suc k) k ≡ k + cond b 1 0
@@ -29,6 +26,10 @@ count-one false k = omega arith
 one-most : (b : Bool) → cond b 1 0 ≤ 1
 one-most true = omega arith
 one-most false = omega arith
+
+-- the same of a test that was read
+pub one-of : {a b : Bool} {n : ℕ} → a ≡ b → n ≡ cond a 1 0 → n ≡ cond b 1 0
+one-of q h = h ∙ ap (λ (t : Bool). cond t 1 0) q
 
 -- numbers that a test holds of
 module _ (q : ℕ → Bool) where
@@ -65,19 +66,13 @@ ranked-more rank e n l h q s r d k = go (ℕ-discrete d e)
         subst⁻¹ (λ (i : ℕ). getD (set l e (n % 256)) i 0 ≡ rank i) p (getD-set-same l e (n % 256) 0 h ∙ omega arith)
     go (no p) = getD-set-other l e d (n % 256) 0 p ∙ r d (omega arith)
 
--- the operators have opcodes
-abbrev pub Opcodes : List ℕ → ℕ → Type 0
-Opcodes rows count = (d : ℕ) → d < count → (0 < getD rows d 0) × (getD rows d 0 ≤ 10)
-
-pub opcodes : {rows : List ℕ} {count : ℕ} → Formed rows count → Opcodes rows count
-opcodes f d h = (f .row d h .some, f .row d h .known)
-
-pub fix-same : (op a e : ℕ) → 0 < op → op ≤ 10 → is-fix (decoded op a e) ≡ ltb 8 op
-fix-same op a e s k = go (decLt 8 op)
-  where
-    go : Dec (8 < op) → is-fix (decoded op a e) ≡ ltb 8 op
-    go (yes h) = let (g, q) = is-fixpoint op a e h k in ap is-fix q ∙ sym (lt-ltb 8 op h)
-    go (no h) = not-fix op a e s (omega arith) ∙ sym (le-ltb 8 op (omega arith))
+-- one element for a next, none for another operator
+next-one : (o : Operator) (b : Bool) → is-next o ≡ b → (e : ℕ) → map (λ (g : ℕ). e) (next-of o) ≡ cond b (e ∷ []) []
+next-one (Operator.leaf l) b q e = ap (λ (d : Bool). cond d (e ∷ []) []) q
+next-one (Operator.variable m) b q e = ap (λ (d : Bool). cond d (e ∷ []) []) q
+next-one (Operator.pair o l r) b q e = ap (λ (d : Bool). cond d (e ∷ []) []) q
+next-one (Operator.next g) b q e = ap (λ (d : Bool). cond d (e ∷ []) []) q
+next-one (Operator.fix g l) b q e = ap (λ (d : Bool). cond d (e ∷ []) []) q
 
 -- as many nexts as operands
 nexts-operands : (e : ℕ) (t : Table) → length (nexts-from e t) ≡ length (operands t)
@@ -88,9 +83,6 @@ nexts-operands e (o ∷ t) =
     ∙ sym (length-append (next-of o) (operands t))
 
 module _ (rows : List ℕ) where
-  abbrev code : ℕ → ℕ
-  code e = getD rows e 0
-
   -- the nexts among the n subformulas from e on
   abbrev pub nexts-of : ℕ → ℕ → List ℕ
   nexts-of e n = nexts-from e (operators-of rows e n)
@@ -99,107 +91,87 @@ module _ (rows : List ℕ) where
   pub record Next-in (e n i d : ℕ) : Type 0 where
     pub low : e ≤ d
     pub high : d < e + n
-    pub op : getD rows d 0 ≡ 8
+    pub is : next-at rows d ≡ true
     pub rank : next-rank rows d ≡ next-rank rows e + i
 
-  next-suc : (e : ℕ) → code e ≡ 8 → next-rank rows (suc e) ≡ suc (next-rank rows e)
-  next-suc e o = ap (λ (t : Bool). cond t (suc (next-rank rows e)) (next-rank rows e)) (eq-eqb (code e) 8 o)
+  -- a next counts one, another operator nothing
+  next-suc : (e : ℕ) → next-at rows e ≡ true → next-rank rows (suc e) ≡ suc (next-rank rows e)
+  next-suc e o = ap (λ (t : Bool). cond t (suc (next-rank rows e)) (next-rank rows e)) o
 
-  next-same : (e : ℕ) → (code e ≡ 8 → ⊥) → next-rank rows (suc e) ≡ next-rank rows e
-  next-same e o = ap (λ (t : Bool). cond t (suc (next-rank rows e)) (next-rank rows e)) (ne-eqb (code e) 8 o)
+  next-same : (e : ℕ) → next-at rows e ≡ false → next-rank rows (suc e) ≡ next-rank rows e
+  next-same e o = ap (λ (t : Bool). cond t (suc (next-rank rows e)) (next-rank rows e)) o
 
-  pub next-after : (e : ℕ) → code e ≡ 8 → next-rank rows (e + 1) ≡ next-rank rows e + 1
+  pub next-after : (e : ℕ) → next-at rows e ≡ true → next-rank rows (e + 1) ≡ next-rank rows e + 1
   next-after e o = ap (next-rank rows) (add-one e) ∙ next-suc e o ∙ sym (add-one (next-rank rows e))
 
-  pub other-after : (e : ℕ) → (code e ≡ 8 → ⊥) → next-rank rows (e + 1) ≡ next-rank rows e
+  pub other-after : (e : ℕ) → next-at rows e ≡ false → next-rank rows (e + 1) ≡ next-rank rows e
   other-after e o = ap (next-rank rows) (add-one e) ∙ next-same e o
 
-  nexts-one : (e n : ℕ) → code e ≡ 8 → nexts-of e (suc n) ≡ e ∷ nexts-of (suc e) n
-  nexts-one e n o =
-      ap (λ (l : List ℕ). map (λ (g : ℕ). e) l ++ nexts-of (suc e) n) (ap next-of (is-8 (code e) (getD rows (48 + e) 0) e o))
+  nexts-by : (e n : ℕ) (b : Bool) → next-at rows e ≡ b → nexts-of e (suc n) ≡ cond b (e ∷ []) [] ++ nexts-of (suc e) n
+  nexts-by e n b q = ap (λ (l : List ℕ). l ++ nexts-of (suc e) n) (next-one (operator-at rows e) b q e)
 
-  nexts-none : (e n : ℕ) → (0 < code e) × (code e ≤ 10) → (code e ≡ 8 → ⊥) → nexts-of e (suc n) ≡ nexts-of (suc e) n
-  nexts-none e n k o =
-      ap (λ (l : List ℕ). map (λ (g : ℕ). e) l ++ nexts-of (suc e) n) (not-next (code e) (getD rows (48 + e) 0) e (k .0) (k .1) o)
+  nexts-length : (e n : ℕ) → next-rank rows e + length (nexts-of e n) ≡ next-rank rows (e + n)
+  nexts-length e zero = subst (λ (k : ℕ). next-rank rows e + 0 ≡ next-rank rows k) {x = e} {y = e + 0} (omega arith) (omega arith)
+  nexts-length e (suc n) =
+      subst (λ (k : ℕ). next-rank rows e + length (nexts-of e (suc n)) ≡ next-rank rows k) {x = suc e + n} {y = e + suc n} (omega arith)
+      (go (next-at rows e) refl (nexts-length (suc e) n))
+    where
+      go : (b : Bool) → next-at rows e ≡ b → next-rank rows (suc e) + length (nexts-of (suc e) n) ≡ next-rank rows (suc e + n)
+          → next-rank rows e + length (nexts-of e (suc n)) ≡ next-rank rows (suc e + n)
+      go true o h = omega (arith, ap length (nexts-by e n true o), next-suc e o)
+      go false o h = omega (arith, ap length (nexts-by e n false o), next-same e o)
 
-  module _ (count : ℕ) (known : Opcodes rows count) where
-    nexts-length : (e n : ℕ) → e + n ≤ count → next-rank rows e + length (nexts-of e n) ≡ next-rank rows (e + n)
-    nexts-length e zero l = subst (λ (k : ℕ). next-rank rows e + 0 ≡ next-rank rows k) {x = e} {y = e + 0} (omega arith) (omega arith)
-    nexts-length e (suc n) l =
-        subst (λ (k : ℕ). next-rank rows e + length (nexts-of e (suc n)) ≡ next-rank rows k) {x = suc e + n} {y = e + suc n} (omega arith)
-        (go (ℕ-discrete (code e) 8) (nexts-length (suc e) n (omega arith)))
-      where
-        go : Dec (code e ≡ 8) → next-rank rows (suc e) + length (nexts-of (suc e) n) ≡ next-rank rows (suc e + n)
-            → next-rank rows e + length (nexts-of e (suc n)) ≡ next-rank rows (suc e + n)
-        go (yes o) h = omega (arith, ap length (nexts-one e n o), next-suc e o)
-        go (no o) h = omega (arith, ap length (nexts-none e n (known e (omega arith)) o), next-same e o)
+  pub nexts-at : (e n i : ℕ) → i < length (nexts-of e n) → Next-in e n i (getD (nexts-of e n) i 0)
+  nexts-at e zero i h = absurd (omega arith)
+  nexts-at e (suc n) i h = go (next-at rows e) refl i h (nexts-at (suc e) n)
+    where
+      wider : (i j d : ℕ) → next-rank rows (suc e) + i ≡ next-rank rows e + j → Next-in (suc e) n i d → Next-in e (suc n) j d
+      wider i j d q k = record { low = omega (arith, k .low); high = omega (arith, k .high); is = k .is; rank = k .rank ∙ q }
 
-    pub nexts-at : (e n i : ℕ) → e + n ≤ count → i < length (nexts-of e n) → Next-in e n i (getD (nexts-of e n) i 0)
-    nexts-at e zero i l h = absurd (omega arith)
-    nexts-at e (suc n) i l h = go (ℕ-discrete (code e) 8) i h (λ j k. nexts-at (suc e) n j (omega arith) k)
-      where
-        wider : (i j d : ℕ) → next-rank rows (suc e) + i ≡ next-rank rows e + j → Next-in (suc e) n i d → Next-in e (suc n) j d
-        wider i j d q k = record { low = omega (arith, k .low); high = omega (arith, k .high); op = k .op; rank = k .rank ∙ q }
+      go : (b : Bool) → next-at rows e ≡ b → (i : ℕ) → i < length (nexts-of e (suc n))
+          → ((i : ℕ) → i < length (nexts-of (suc e) n) → Next-in (suc e) n i (getD (nexts-of (suc e) n) i 0))
+          → Next-in e (suc n) i (getD (nexts-of e (suc n)) i 0)
+      go false o i h f =
+          let q = nexts-by e n false o in
+          subst⁻¹ (λ (l : List ℕ). Next-in e (suc n) i (getD l i 0)) q
+          (wider i i (getD (nexts-of (suc e) n) i 0) (omega (arith, next-same e o)) (f i (omega (arith, ap length q))))
+      go true o zero h f =
+          subst⁻¹ (λ (l : List ℕ). Next-in e (suc n) 0 (getD l 0 0)) (nexts-by e n true o)
+          (record { low = omega arith; high = omega arith; is = o; rank = omega arith })
+      go true o (suc i) h f =
+          let q = nexts-by e n true o in
+          subst⁻¹ (λ (l : List ℕ). Next-in e (suc n) (suc i) (getD l (suc i) 0)) q
+          (wider i (suc i) (getD (nexts-of (suc e) n) i 0) (omega (arith, next-suc e o)) (f i (omega (arith, ap length q))))
 
-        go : Dec (code e ≡ 8) → (i : ℕ) → i < length (nexts-of e (suc n))
-            → ((i : ℕ) → i < length (nexts-of (suc e) n) → Next-in (suc e) n i (getD (nexts-of (suc e) n) i 0))
-            → Next-in e (suc n) i (getD (nexts-of e (suc n)) i 0)
-        go (no o) i h f =
-            let q = nexts-none e n (known e (omega arith)) o in
-            subst⁻¹ (λ (l : List ℕ). Next-in e (suc n) i (getD l i 0)) q
-            (wider i i (getD (nexts-of (suc e) n) i 0) (omega (arith, next-same e o)) (f i (omega (arith, ap length q))))
-        go (yes o) zero h f =
-            subst⁻¹ (λ (l : List ℕ). Next-in e (suc n) 0 (getD l 0 0)) (nexts-one e n o)
-            (record { low = omega arith; high = omega arith; op = o; rank = omega arith })
-        go (yes o) (suc i) h f =
-            subst⁻¹ (λ (l : List ℕ). Next-in e (suc n) (suc i) (getD l (suc i) 0)) (nexts-one e n o)
-            (wider i (suc i) (getD (nexts-of (suc e) n) i 0) (omega (arith, next-suc e o))
-            (f i (omega (arith, ap length (nexts-one e n o)))))
+  fixes-length : (e n : ℕ) → fix-rank rows e + length (leasts (operators-of rows e n)) ≡ fix-rank rows (e + n)
+  fixes-length e zero = subst (λ (k : ℕ). fix-rank rows e + 0 ≡ fix-rank rows k) {x = e} {y = e + 0} (omega arith) (omega arith)
+  fixes-length e (suc n) =
+      longer (fix-at rows e) (fix-rank rows e) (is-least (operator-at rows e)) (leasts (operators-of rows (suc e) n))
+      ∙ fixes-length (suc e) n
+      ∙ ap (fix-rank rows) {x = suc e + n} {y = e + suc n} (omega arith)
+    where
+      longer : (b : Bool) (k : ℕ) (x : Bool) (r : List Bool) → k + length (cond b (x ∷ r) r) ≡ cond b (suc k) k + length r
+      longer true k x r = omega arith
+      longer false k x r = refl
 
-    -- all of them
+  -- all of them
+  module _ (count : ℕ) where
     pub nexts-all : length (nexts-of 0 count) ≡ next-rank rows count
-    nexts-all = omega (arith, nexts-length 0 count (omega arith), ap (next-rank rows) {x = 0 + count} {y = count} (omega arith))
+    nexts-all = omega (arith, nexts-length 0 count, ap (next-rank rows) {x = 0 + count} {y = count} (omega arith))
 
     pub operands-all : length (operands (table-of rows count)) ≡ next-rank rows count
     operands-all = sym (nexts-operands 0 (table-of rows count)) ∙ nexts-all
 
-    fixes-length : (e n : ℕ) → e + n ≤ count → fix-rank rows e + length (leasts (operators-of rows e n)) ≡ fix-rank rows (e + n)
-    fixes-length e zero l = subst (λ (k : ℕ). fix-rank rows e + 0 ≡ fix-rank rows k) {x = e} {y = e + 0} (omega arith) (omega arith)
-    fixes-length e (suc n) l =
-        let rest = leasts (operators-of rows (suc e) n) in
-        let (s, k) = known e (omega arith) in
-        ap (λ (t : Bool). fix-rank rows e + length (cond t (is-least (operator-at rows e) ∷ rest) rest))
-        (fix-same (code e) (getD rows (48 + e) 0) e s k)
-        ∙ longer (fix-at rows e) (fix-rank rows e) (is-least (operator-at rows e)) rest
-        ∙ fixes-length (suc e) n (omega arith)
-        ∙ ap (fix-rank rows) {x = suc e + n} {y = e + suc n} (omega arith)
-      where
-        longer : (b : Bool) (k : ℕ) (x : Bool) (r : List Bool) → k + length (cond b (x ∷ r) r) ≡ cond b (suc k) k + length r
-        longer true k x r = omega arith
-        longer false k x r = refl
-
     pub fixes-all : length (leasts (table-of rows count)) ≡ fix-rank rows count
-    fixes-all = omega (arith, fixes-length 0 count (omega arith), ap (fix-rank rows) {x = 0 + count} {y = count} (omega arith))
+    fixes-all = omega (arith, fixes-length 0 count, ap (fix-rank rows) {x = 0 + count} {y = count} (omega arith))
 
 -- ranks are small
 module _ {rows : List ℕ} {count : ℕ} (limited : Limited rows count) (e : ℕ) (h : e < count) where
-  pub next-small : getD rows e 0 ≡ 8 → next-rank rows e < 12
-  next-small o =
-      omega (
-        arith,
-        before-less (next-at rows) e count h (eq-eqb (getD rows e 0) 8 o),
-        operands-all rows count (opcodes (limited .formed)),
-        limited .few-nexts,
-      )
+  pub next-small : next-at rows e ≡ true → next-rank rows e < 12
+  next-small o = omega (arith, before-less (next-at rows) e count h o, operands-all rows count, limited .few-nexts)
 
-  pub fix-small : 8 < getD rows e 0 → fix-rank rows e < 7
-  fix-small o =
-      omega (
-        arith,
-        before-less (fix-at rows) e count h (lt-ltb 8 (getD rows e 0) o),
-        fixes-all rows count (opcodes (limited .formed)),
-        limited .few-fixes,
-      )
+  pub fix-small : fix-at rows e ≡ true → fix-rank rows e < 7
+  fix-small o = omega (arith, before-less (fix-at rows) e count h o, fixes-all rows count, limited .few-fixes)
 
 -- what counting over the rows has made after e of them
 pub record Ranking (rows : List ℕ) (e : ℕ) (next fix : List ℕ) (nexts fixes : ℕ) : Type 0 where
@@ -239,12 +211,12 @@ ranking-more rows e next fix nexts fixes n m h en em r =
       fixes-are = ap (λ (k : ℕ). k + m) (r .fixes-are) ∙ before-one (fix-at rows) e m em;
     }
 
-pub ranking-end : (rows : List ℕ) (count e : ℕ) (next fix : List ℕ) (nexts fixes : ℕ) → Formed rows count → e ≤ count → count ≤ e
+pub ranking-end : (rows : List ℕ) (count e : ℕ) (next fix : List ℕ) (nexts fixes : ℕ) → e ≤ count → count ≤ e
     → Ranking rows e next fix nexts fixes → Ranks-of rows count (record { nexts = nexts; next = next; fix = fix })
-ranking-end rows count e next fix nexts fixes f h k r =
+ranking-end rows count e next fix nexts fixes h k r =
     let q : e ≡ count = omega arith in
     record {
-      nexts-are = r .nexts-are ∙ ap (next-rank rows) q ∙ sym (operands-all rows count (opcodes f));
+      nexts-are = r .nexts-are ∙ ap (next-rank rows) q ∙ sym (operands-all rows count);
       next-is = λ d l. r .next-ranked d (omega arith);
       fix-is = λ d l. r .fix-ranked d (omega arith);
     }

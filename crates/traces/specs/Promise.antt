@@ -2,14 +2,15 @@
 -- the priority x. Operands of next and fixpoints go by their rank: how many begin before them. A reader of the decision's contract need not
 -- read it. Assumes nothing.
 use mathlib.Core.Path.{_≡_}
-use mathlib.Core.Bool.{Bool, cond}
+use mathlib.Core.Bool.{Bool, true, false, cond}
+use lib.Dec.{eqb}
 use mathlib.Core.List.{List, [], map}
 use Prim.Native.Nat.{ℕ, zero, suc, _+_, _*_, _≤_, _<_}
-use lib.Dec.{eqb, ltb}
-use lib.ListN.{length, getD}
+use lib.ListN.{length, getD, set}
 use Rattle.base.specs.Lists.{numbers}
 use Rattle.base.specs.Bits.{bit, word}
-use Rattle.formula.specs.Table.{Operator}
+use Rattle.formula.specs.Table.{Operator, is-next, is-fix}
+use Rattle.formula.specs.Rows.{operator-at}
 use Rattle.tableau.specs.Saturation.{Subset, has, moves}
 use Rattle.tableau.specs.Nodes.{operands}
 use Rattle.tableau.specs.Promise.{table-of, Formed}
@@ -22,13 +23,13 @@ abbrev pub before : (ℕ → Bool) → ℕ → ℕ
 before q zero = 0
 before q (suc e) = let r = before q e in cond (q e) (suc r) r
 
--- whether subformula e is a next, by its opcode
+-- whether subformula e is a next
 abbrev pub next-at : List ℕ → ℕ → Bool
-next-at rows e = eqb (getD rows e 0) 8
+next-at rows e = is-next (operator-at rows e)
 
 -- whether it is a fixpoint
 abbrev pub fix-at : List ℕ → ℕ → Bool
-fix-at rows e = ltb 8 (getD rows e 0)
+fix-at rows e = is-fix (operator-at rows e)
 
 -- how many next begin before it
 abbrev pub next-rank : List ℕ → ℕ → ℕ
@@ -38,15 +39,27 @@ next-rank rows = before (next-at rows)
 abbrev pub fix-rank : List ℕ → ℕ → ℕ
 fix-rank rows = before (fix-at rows)
 
--- What is asked of the rows beside their form: not more next and fixpoints than bytes have room for.
+-- What is asked of the rows beside their form: a subformula behind each next, which is its operand (MEANING 1.3), and not more next and
+-- fixpoints than bytes have room for. Those of an accepted formula are so (proofs/LimitLaws.antt).
 pub record Limited (rows : List ℕ) (count : ℕ) : Type 0 where
   pub formed : Formed rows count
+  pub behind : (e : ℕ) → e < count → next-at rows e ≡ true → e + 1 < count
   pub few-nexts : length (operands (table-of rows count)) ≤ 12
   pub few-fixes : length (leasts (table-of rows count)) ≤ 7
 
 -- An array has the ranks of the first e subformulas.
 abbrev pub Ranked : (ℕ → ℕ) → (e : ℕ) → List ℕ → Type 0
 Ranked rank e l = (d : ℕ) → d < e → getD l d 0 ≡ rank d
+
+-- What is asked where an array of ranks comes with the rows: the rows' limits, and that the ranks are theirs; of fixpoints,
+pub record Fixes-ranked (rows : List ℕ) (count : ℕ) (fix : List ℕ) : Type 0 where
+  pub limited : Limited rows count
+  pub ranked : Ranked (fix-rank rows) count fix
+
+-- and of next.
+pub record Nexts-ranked (rows : List ℕ) (count : ℕ) (next : List ℕ) : Type 0 where
+  pub limited : Limited rows count
+  pub ranked : Ranked (next-rank rows) count next
 
 -- The ranks r are those of the rows.
 pub record Ranks-of (rows : List ℕ) (count : ℕ) (r : Ranks) : Type 0 where
@@ -76,18 +89,28 @@ Swept-marks rows count choice b r =
 abbrev pub Reached : List ℕ → (count choice f : ℕ) → List ℕ → Type 0
 Reached rows count choice f r = (w : Subset) → choice ≡ word w → marks-of count r ≡ reached (table-of rows count) w f
 
+-- Where it is on, the list r is t with w stored at a place; else it is t.
+pub record Stored (on : Bool) (at w : ℕ) (t r : List ℕ) : Type 0 where
+  pub put : on ≡ true → r ≡ set t at w
+  pub kept : on ≡ false → r ≡ t
+
 -- Row f has the marks of each next before e.
 abbrev pub Row-of : List ℕ → List ℕ → (e f : ℕ) → List ℕ → Type 0
-Row-of rows marks e f t = (d : ℕ) → d < e → getD rows d 0 ≡ 8 → getD t (f * 12 + next-rank rows d) 0 ≡ getD marks d 0
+Row-of rows marks e f t = (d : ℕ) → d < e → next-at rows d ≡ true → getD t (f * 12 + next-rank rows d) 0 ≡ getD marks d 0
 
 -- Only row f differs.
 abbrev pub Other-rows : ℕ → List ℕ → List ℕ → Type 0
 Other-rows f t r = (i : ℕ) → (i < f * 12 → getD r i 0 ≡ getD t i 0) × (f * 12 + 12 ≤ i → getD r i 0 ≡ getD t i 0)
 
+-- Row f has the marks of each next before e, and only row f of t changed.
+pub record Row-filled (rows marks : List ℕ) (e f : ℕ) (t r : List ℕ) : Type 0 where
+  pub filled : Row-of rows marks e f r
+  pub others : Other-rows f t r
+
 -- The rows of the nexts before e are those of the definition,
 abbrev pub Done : List ℕ → (count choice node e : ℕ) → List ℕ → Type 0
 Done rows count choice node e t =
-    (v w : Subset) → node ≡ word v → choice ≡ word w → (i d : ℕ) → i < e → getD rows i 0 ≡ 8 → d < count → getD rows d 0 ≡ 8
+    (v w : Subset) → node ≡ word v → choice ≡ word w → (i d : ℕ) → i < e → next-at rows i ≡ true → d < count → next-at rows d ≡ true
     → weighs (bit (getD t (next-rank rows i * 12 + next-rank rows d) 0))
     ≡ cond (has v (suc i)) (getD (reached (table-of rows count) w (suc i)) d []) blank
 
@@ -96,8 +119,21 @@ abbrev pub Empty : ℕ → List ℕ → Type 0
 Empty k t = (i : ℕ) → k * 12 ≤ i → i < 144 → getD t i 0 ≡ 0
 
 -- Both.
-abbrev pub Done-to : List ℕ → (count choice node e : ℕ) → List ℕ → Type 0
-Done-to rows count choice node e t = Done rows count choice node e t × Empty (next-rank rows e) t
+pub record Done-to (rows : List ℕ) (count choice node e : ℕ) (t : List ℕ) : Type 0 where
+  pub done : Done rows count choice node e t
+  pub empty : Empty (next-rank rows e) t
+
+-- What is asked to fill the row of subformula e: the ranks, and the rows of the nexts before it.
+pub record Row-asked (rows : List ℕ) (count choice node : ℕ) (next fix : List ℕ) (e : ℕ) (t : List ℕ) : Type 0 where
+  pub nexts : Nexts-ranked rows count next
+  pub fixes : Fixes-ranked rows count fix
+  pub in-table : e < count
+  pub before : Done-to rows count choice node e t
+
+-- Where it is a least fixpoint's, the mask r is the mask with the priority k too; else it is the mask.
+pub record With-least (least : Bool) (mask k r : ℕ) : Type 0 where
+  pub put : least ≡ true → (i : ℕ) → bit r i ≡ cond (eqb i k) true (bit mask i)
+  pub kept : least ≡ false → r ≡ mask
 
 -- The bytes r have the triples of the transition of a node under a choice.
 abbrev pub Triples-of : List ℕ → (count choice node : ℕ) → List ℕ → Type 0

@@ -1,18 +1,20 @@
 // The traces of a transition: for each subformula a byte with the priorities with which traces reach it, bit x for the x-th fixpoint and
 // bit 7 for none; and from these the triples.
+use formula::Operator;
 use formula::Subformula;
 ghost use mathlib.Core.Path.{_≡_};
-ghost use mathlib.Core.Bool.{true, false, cond};
+ghost use mathlib.Core.Bool.{true, false};
 ghost use mathlib.Core.List.{[], _∷_};
 ghost use Prim.Native.Nat.{ℕ, _+_, _*_, _^_, _<_};
-ghost use lib.Dec.{eqb};
-ghost use lib.ListN.{length, getD, set};
+ghost use lib.ListN.{length, getD};
 ghost use Rattle.base.specs.Bits.{bit};
 ghost use Rattle.formula.specs.Rows.{operator-at};
-ghost use Rattle.tableau.specs.Promise.{table-of, Placed, Formed};
+ghost use Rattle.formula.specs.Access.{Placed};
+ghost use Rattle.tableau.specs.Promise.{table-of, Formed};
+ghost use Rattle.profile.specs.Profiles.{is-least};
 ghost use Rattle.coded.specs.Marks.{leasts};
-ghost use Rattle.traces.specs.Promise.{next-rank, fix-rank, Limited, Ranked, Ranks-of, Marked, Passed, Swept-marks, Reached};
-ghost use Rattle.traces.specs.Promise.{Row-of, Other-rows, Done-to, Triples-of};
+ghost use Rattle.traces.specs.Promise.{fix-at, fix-rank, Limited, Ranked, Fixes-ranked, Nexts-ranked, Ranks-of, Marked, Passed};
+ghost use Rattle.traces.specs.Promise.{Swept-marks, Reached, Stored, Row-filled, Done-to, Row-asked, Triples-of, With-least};
 
 // The ranks of the subformulas: how many next, or fixpoints, begin before each one; and how many next there are in all.
 pub struct Ranks {
@@ -33,8 +35,8 @@ pub fn ranked(rows: &[u8; 144], count: usize) -> Ranks
     while e < count {
         next[e] = (nexts % 256) as u8;
         fix[e] = (fixes % 256) as u8;
-        nexts += base::one_if(rows[e] == 8);
-        fixes += base::one_if(8 < rows[e]);
+        nexts += base::one_if(formula::is_next(rows, Subformula(e)));
+        fixes += base::one_if(formula::is_fixpoint(rows, Subformula(e)));
         e += 1;
     }
     Ranks {
@@ -64,7 +66,7 @@ fn bit8(k: usize) -> u8
 // Marks what subformula s passes on: nothing where it has no marks itself, as most have none.
 fn passing(rows: &[u8; 144], fix: &[u8; 48], choice: u64, s: Subformula, marks: &mut [u8; 48])
     requires { ⌜ Placed (now rows) (s .0) ⌝ }
-    requires { ⌜ (8 < getD (now rows) (s .0) 0 → getD (now fix) (s .0) 0 < 8) ⌝ }
+    requires { ⌜ (fix-at (now rows) (s .0) ≡ true → getD (now fix) (s .0) 0 < 8) ⌝ }
     ensures { λ r. ⌜ Passed (operator-at (now (rows .entry)) (s .0)) (bit choice (s .0)) (s .0) (getD (now (fix .entry)) (s .0) 0)
         (now (marks .entry)) (now (marks .exit)) ⌝ }
 {
@@ -73,38 +75,39 @@ fn passing(rows: &[u8; 144], fix: &[u8; 48], choice: u64, s: Subformula, marks: 
     if w == 0 {
         return;
     }
-    let op = rows[e];
-    let argument = base::wide(rows[48 + e]);
-    let first = e + 1;
-    if op == 5 {
-        mark(marks, Subformula(argument), w);
-        return;
-    }
-    if op == 6 {
-        if base::has(choice, e) {
-            mark(marks, Subformula(argument), w);
-            return;
+    let o = formula::operator_at(rows, s);
+    match o {
+        Operator::Constant(_) => {}
+        Operator::Signal { .. } => {}
+        Operator::Variable(binder) => mark(marks, binder, w),
+        Operator::Pair {
+            either,
+            left,
+            right,
+        } => {
+            if !either {
+                mark(marks, left, w);
+                mark(marks, right, w);
+                return;
+            }
+            if base::has(choice, e) {
+                mark(marks, right, w);
+                return;
+            }
+            mark(marks, left, w);
         }
-        mark(marks, Subformula(first), w);
-        return;
+        Operator::Next(_) => {}
+        Operator::Fixpoint { body, .. } => {
+            let k = base::wide(fix[e]);
+            let low = triples::minima(w, bit8(k));
+            mark(marks, body, low);
+        }
     }
-    if op == 7 {
-        mark(marks, Subformula(first), w);
-        mark(marks, Subformula(argument), w);
-        return;
-    }
-    if op <= 8 {
-        return;
-    }
-    let k = base::wide(fix[e]);
-    let low = triples::minima(w, bit8(k));
-    mark(marks, Subformula(first), low);
 }
 
 // Marks what each subformula passes on, taken in rising order.
 fn passed(rows: &[u8; 144], count: usize, fix: &[u8; 48], choice: u64, marks: &mut [u8; 48])
-    requires { ⌜ Limited (now rows) count ⌝ }
-    requires { ⌜ Ranked (fix-rank (now rows)) count (now fix) ⌝ }
+    requires { ⌜ Fixes-ranked (now rows) count (now fix) ⌝ }
     ensures { λ r. ⌜ Swept-marks (now (rows .entry)) count choice (now (marks .entry)) (now (marks .exit)) ⌝ }
 {
     let mut e = 0;
@@ -129,8 +132,7 @@ fn same48(a: &[u8; 48], b: &[u8; 48]) -> bool
 
 // The priorities with which traces from subformula s reach each one.
 fn reaching(rows: &[u8; 144], count: usize, fix: &[u8; 48], choice: u64, s: Subformula) -> [u8; 48]
-    requires { ⌜ Limited (now rows) count ⌝ }
-    requires { ⌜ Ranked (fix-rank (now rows)) count (now fix) ⌝ }
+    requires { ⌜ Fixes-ranked (now rows) count (now fix) ⌝ }
     requires { ⌜ s .0 < 48 ⌝ }
     ensures { λ r. ⌜ Reached (now (rows .entry)) count choice (s .0) r ⌝ }
 {
@@ -149,12 +151,13 @@ fn reaching(rows: &[u8; 144], count: usize, fix: &[u8; 48], choice: u64, s: Subf
     w
 }
 
-// Stores the byte (f, g), where the opcode is that of next.
-fn place(t: &mut [u8], op: u8, f: usize, g: usize, w: u8)
-    requires { ⌜ (f < 12) × (op ≡ 8 → f * 12 + g < length (now t)) ⌝ }
-    ensures { λ r. ⌜ (op ≡ 8 → now (t .exit) ≡ set (now (t .entry)) (f * 12 + g) w) × ((op ≡ 8 → ⊥) → now (t .exit) ≡ now (t .entry)) ⌝ }
+// Stores the byte (f, g), where there is one to store.
+fn place(t: &mut [u8], on: bool, f: usize, g: usize, w: u8)
+    requires { ⌜ f < 12 ⌝ }
+    requires { ⌜ (on ≡ true → f * 12 + g < length (now t)) ⌝ }
+    ensures { λ r. ⌜ Stored on (f * 12 + g) w (now (t .entry)) (now (t .exit)) ⌝ }
 {
-    if op != 8 {
+    if !on {
         return;
     }
     t[f * 12 + g] = w;
@@ -169,15 +172,14 @@ fn triple_row(
     marks: &[u8; 48],
     t: &mut [u8; 144],
 )
-    requires { ⌜ Limited (now rows) count ⌝ }
-    requires { ⌜ Ranked (next-rank (now rows)) count (now next) ⌝ }
+    requires { ⌜ Nexts-ranked (now rows) count (now next) ⌝ }
     requires { ⌜ f < 12 ⌝ }
-    ensures { λ r. ⌜ Row-of (now (rows .entry)) (now (marks .entry)) count f (now (t .exit)) ⌝ }
-    ensures { λ r. ⌜ Other-rows f (now (t .entry)) (now (t .exit)) ⌝ }
+    ensures { λ r. ⌜ Row-filled (now (rows .entry)) (now (marks .entry)) count f (now (t .entry)) (now (t .exit)) ⌝ }
 {
     let mut e = 0;
     while e < count {
-        place(t, rows[e], f, base::wide(next[e]), marks[e]);
+        let on = formula::is_next(rows, Subformula(e));
+        place(t, on, f, base::wide(next[e]), marks[e]);
         e += 1;
     }
 }
@@ -193,17 +195,13 @@ fn with_row(
     s: Subformula,
     t: &mut [u8; 144],
 )
-    requires { ⌜ Limited (now rows) count ⌝ }
-    requires { ⌜ Ranked (next-rank (now rows)) count (now next) ⌝ }
-    requires { ⌜ Ranked (fix-rank (now rows)) count (now fix) ⌝ }
-    requires { ⌜ s .0 < count ⌝ }
-    requires { ⌜ Done-to (now rows) count choice node (s .0) (now t) ⌝ }
+    requires { ⌜ Row-asked (now rows) count choice node (now next) (now fix) (s .0) (now t) ⌝ }
     ensures { λ r. ⌜ Done-to (now (rows .entry)) count choice node (s .0 + 1) (now (t .exit)) ⌝ }
 {
-    let e = s.0;
-    if rows[e] != 8 {
+    if !formula::is_next(rows, s) {
         return;
     }
+    let e = s.0;
     if !base::has(node, e + 1) {
         return;
     }
@@ -230,15 +228,31 @@ pub fn triples_of(rows: &[u8; 144], count: usize, r: Ranks, choice: u64, node: u
     t
 }
 
-// The priority k too, where the opcode is that of a least fixpoint.
-fn with_least(mask: u8, op: u8, k: usize) -> u8
-    requires { ⌜ (8 < op → k < 8) ⌝ }
-    ensures { λ r. ⌜ (op ≡ 9 → (i : ℕ) → bit r i ≡ cond (eqb i k) true (bit mask i)) × ((op ≡ 9 → ⊥) → r ≡ mask) ⌝ }
+// Whether s is a least fixpoint.
+fn is_least(rows: &[u8; 144], s: Subformula) -> bool
+    requires { ⌜ Placed (now rows) (s .0) ⌝ }
+    ensures { λ r. ⌜ r ≡ is-least (operator-at (now (rows .entry)) (s .0)) ⌝ }
 {
-    if op == 9 {
-        return mask | bit8(k);
+    let o = formula::operator_at(rows, s);
+    match o {
+        Operator::Constant(_) => false,
+        Operator::Signal { .. } => false,
+        Operator::Variable(_) => false,
+        Operator::Pair { .. } => false,
+        Operator::Next(_) => false,
+        Operator::Fixpoint { greatest, .. } => !greatest,
     }
-    mask
+}
+
+// The mask with the priority k too, where it is that of a least fixpoint.
+fn with_least(mask: u8, least: bool, k: usize) -> u8
+    requires { ⌜ (least ≡ true → k < 8) ⌝ }
+    ensures { λ r. ⌜ With-least least mask k r ⌝ }
+{
+    if !least {
+        return mask;
+    }
+    mask | bit8(k)
 }
 
 // The priorities that are least fixpoints.
@@ -250,7 +264,8 @@ pub fn least_mask(rows: &[u8; 144], count: usize, fix: &[u8; 48]) -> u8
     let mut mask = 0u8;
     let mut e = 0;
     while e < count {
-        mask = with_least(mask, rows[e], base::wide(fix[e]));
+        let least = is_least(rows, Subformula(e));
+        mask = with_least(mask, least, base::wide(fix[e]));
         e += 1;
     }
     mask

@@ -58,8 +58,8 @@ fn asked(line: &[u8]) -> Case {
     Case {
         n: n,
         m: m,
-        work: unbroken(n, m, lent(said, 1, 3, bytes_asked(n, m))),
-        course: lent(said, 2, 3, letters_asked(n, m)),
+        work: unbroken(n, m, lent(said, 1, 3, decision::workspace_size(n, m))),
+        course: lent(said, 2, 3, decision::witness_size(n, m)),
         shown: is_lent(said),
     }
 }
@@ -137,22 +137,4 @@ fn second(sizes: &[u8]) -> usize {
         return BROKEN;
     }
     number(part(sizes, b' ', 1))
-}
-
-fn bytes_asked(n: usize, m: usize) -> usize {
-    if n <= 1024 {
-        if m <= 4096 {
-            return 8 * n + 192 * m;
-        }
-    }
-    0
-}
-
-fn letters_asked(n: usize, m: usize) -> usize {
-    if n <= 1024 {
-        if m <= 4096 {
-            return n + m;
-        }
-    }
-    0
 }

@@ -8,6 +8,7 @@ use lib.ListN.{length, length-append, take, drop}
 use lib.Seq.{take-append-seam, drop-append-seam}
 use Rattle.text.specs.Text.{hex, number-text, each, letter-text}
 use Rattle.text.proofs.Numerals.{few-digits}
+use Rattle.formula.specs.Refusal.{code-of, place-of}
 use Rattle.decision.specs.Verdict.{Verdict, verdict}
 use Rattle.decision.specs.Promise.{says, Buffered, Decided}
 use Rattle.decision.specs.declared.Verdict as code
@@ -36,8 +37,10 @@ verdict-short (Unsatisfiable K P) s =
     numbered 15 a P (omega arith) (omega (arith, s .profiles-few))
 verdict-short (Refused code) h = omega (arith, refused-short code h)
 verdict-short (Unread why) (h, k) =
-    numbered 15 (refused-text (why .code) ++ (32 ∷ 97 ∷ 116 ∷ [])) (why .at)
-    (omega (arith, refused-short (why .code) (omega arith), length-append (refused-text (why .code)) (32 ∷ 97 ∷ 116 ∷ []))) (omega arith)
+    let refused = refused-text (code-of why) in
+    let short = refused-short (code-of why) (omega arith) in
+    numbered 15 (refused ++ (32 ∷ 97 ∷ 116 ∷ [])) (place-of why)
+    (omega (arith, short, length-append refused (32 ∷ 97 ∷ 116 ∷ []))) (omega arith)
 
 -- some letters
 module _ (front back : List ℕ) (h : length front + length back ≤ 3) where
@@ -87,10 +90,8 @@ line-and line rest h k = omega (arith, length-append (line ++ (10 ∷ [])) rest,
 
 program-by : (bytes b b′ : List ℕ) (o : Verdict) → Bounded 256 300 (says o) → Buffered bytes o b b′ → length (program-text (says o) b′)
     ≤ 4095
-program-by bytes b b′ (Verdict.unread c p) h k = line-and (verdict-text (says (Verdict.unread c p))) []
-    (verdict-short (says (Verdict.unread c p)) h) (omega arith)
-program-by bytes b b′ (Verdict.refused c) h k = line-and (verdict-text (says (Verdict.refused c))) []
-    (verdict-short (says (Verdict.refused c)) h) (omega arith)
+program-by bytes b b′ (Verdict.unread why) h k = line-and (verdict-text (Unread why)) [] (verdict-short (Unread why) h) (omega arith)
+program-by bytes b b′ (Verdict.refused c) h k = line-and (verdict-text (Refused c)) [] (verdict-short (Refused c) h) (omega arith)
 program-by bytes b b′ (Verdict.satisfiable stem cycle K P letters) h k =
     line-and (verdict-text (Satisfiable stem cycle K P)) _ (verdict-short (Satisfiable stem cycle K P) h)
     (omega (arith, h .stem-few, h .cycle-few, lasso-short K P (drop (stem + cycle) b) (witness-parted (k .met .witness)) (k .filled)))

@@ -3,6 +3,7 @@ use mathlib.Core.List.{List, [], _∷_, _++_}
 use Prim.Native.Nat.{ℕ}
 use lib.ListN.{take, drop}
 use Rattle.text.specs.Text.{number-text, each, letter-text}
+use Rattle.formula.specs.Refusal.{code-of, place-of}
 use Rattle.formula.specs.declared.Refusal.{Refusal}
 use Rattle.decision.specs.declared.Verdict.{Verdict}
 use Rattle.decision.specs.declared.Verdict.the-variants.{Satisfiable, Unsatisfiable, Refused, Unread}
@@ -18,7 +19,7 @@ abbrev pub refused-text : ℕ → List ℕ
 refused-text code = (82 ∷ 69 ∷ 70 ∷ 85 ∷ 83 ∷ 69 ∷ 68 ∷ []) ++ number-text code
 
 abbrev pub unread-text : Refusal → List ℕ
-unread-text why = refused-text (why .code) ++ (32 ∷ 97 ∷ 116 ∷ []) ++ number-text (why .at)
+unread-text why = refused-text (code-of why) ++ (32 ∷ 97 ∷ 116 ∷ []) ++ number-text (place-of why)
 
 abbrev pub verdict-text : Verdict → List ℕ
 verdict-text (Satisfiable stem cycle K P) = met-text stem cycle K P

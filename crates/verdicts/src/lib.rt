@@ -50,9 +50,9 @@ pub fn refused(out: &mut [u8], at: usize, code: u8) -> usize
 pub fn unread(out: &mut [u8], at: usize, why: Refusal) -> usize
     ensures { λ r. ⌜ Wrote (buffer (now (out .entry)) at) (unread-text why) (buffer (now (out .exit)) r) ⌝ }
 {
-    let a = refused(out, at, why.code);
+    let a = refused(out, at, formula::code_of(why));
     let b = text::put_all(out, a, b" at");
-    text::number(out, b, why.at as u64)
+    text::number(out, b, formula::place_of(why) as u64)
 }
 
 fn met_text(out: &mut [u8], at: usize, stem: u64, cycle: u64, nodes: u64, profiles: u64) -> usize

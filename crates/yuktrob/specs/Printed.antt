@@ -4,11 +4,20 @@ use mathlib.Core.List.{List}
 use Prim.Native.Nat.{ℕ, _≤_}
 use lib.ListN.{length, take}
 use Rattle.text.specs.Text.{buffer}
+use Rattle.decision.specs.Verdict.{workspace-size, witness-size}
 use Rattle.verdicts.specs.Texts.{program-text}
 use Rattle.verdicts.specs.Shown.{Shown}
 
--- The formula's bytes, the buffer before and after, and the end of what was written. The capacities are those of MEANING
--- 6.1; in a buffer of 4,096 bytes the text of every verdict stands whole.
+-- The capacities of MEANING 6.1.
+abbrev pub nodes : ℕ
+nodes = 256
+
+abbrev pub profiles : ℕ
+profiles = 300
+
+-- The formula's bytes, the buffer before and after, and the end of what was written. The areas are as large as the questions 12 and 13
+-- ask; in a buffer of 4,096 bytes the text of every verdict stands whole.
 pub record Printed (bytes out out′ : List ℕ) (end : ℕ) : Type 0 where
-  pub shown : Shown program-text bytes 256 300 59648 556 (buffer out 0) (buffer out′ end)
+  pub shown : Shown program-text bytes nodes profiles (workspace-size nodes profiles) (witness-size nodes profiles) (buffer out 0)
+      (buffer out′ end)
   pub whole : 4096 ≤ length out → take end out′ ≡ program-text (shown .answer) (shown .witness′)

@@ -2,6 +2,15 @@
 ghost use Rattle.io.specs.Counts.{Counts};
 ghost use Rattle.yuktrob.specs.Printed.{Printed};
 
+// The capacities, and what the decision asks for them.
+const NODES: usize = 256;
+
+const PROFILES: usize = 300;
+
+const WORKSPACE: usize = decision::NODE_BYTES * NODES + decision::PROFILE_BYTES * PROFILES;
+
+const LETTERS: usize = NODES + PROFILES;
+
 // The first 97 bytes settle the outcome.
 fn main() {
     let mut bytes = [0u8; 97];
@@ -16,8 +25,8 @@ fn decided(out: &mut [u8], bytes: &[u8]) -> usize
     ensures { λ r. ⌜ Counts r (now (out .exit)) ⌝ }
     ensures { λ r. ⌜ Printed (now (bytes .entry)) (now (out .entry)) (now (out .exit)) r ⌝ }
 {
-    let mut workspace = [0u8; 59648];
-    let mut letters = [0u16; 556];
-    let verdict = decision::decide(bytes, 256, 300, &mut workspace, &mut letters);
+    let mut workspace = [0u8; WORKSPACE];
+    let mut letters = [0u16; LETTERS];
+    let verdict = decision::decide(bytes, NODES, PROFILES, &mut workspace, &mut letters);
     verdicts::program_text(out, verdict, &letters)
 }

@@ -5,8 +5,9 @@ use Prim.Native.Nat.{ℕ, _+_, _*_, _/_, _%_, _≤_, _<_}
 use native.Mathlib.Omega.{arith}
 use native.Mathlib.Nat.{mod-eq-of-lt, div-eq-of-lt, add-mul-mod-self-left, add-mul-div-left}
 use Rattle.formula.specs.Table.{Operator}
+use Rattle.formula.specs.Rows.{command-of}
 use Rattle.yuktrob_c.specs.Numbers.{number, found, Small}
-use Rattle.yuktrob_c.specs.Entry.{command-of, argument-of, packed}
+use Rattle.yuktrob_c.specs.Entry.{argument-of, packed}
 
 module _ (a b m : ℕ) (h : a < b) where
   low : (a + b * m) % b ≡ a

@@ -1,68 +1,33 @@
--- The bytes of a row are the command and the argument of the operator that they decode to, as every command of an accepted formula is
--- known; so the number made of them is the definition's. Assumes nothing.
-use mathlib.Core.Path.{_≡_, refl, sym, ap, _∙_}
+-- An entry's number: it has room in 64 bits, as the numbers in an operator of a table are small; and the operator and the end at a number
+-- of the table are those of the definition's list. Assumes nothing.
+use mathlib.Core.Path.{_≡_, sym, ap, _∙_}
 use mathlib.Core.Bool.{Bool, cond}
 use mathlib.Core.List.{List, map}
-use Prim.Native.Nat.{ℕ, _+_, _*_, _≤_, _<_}
+use Prim.Native.Nat.{ℕ, _+_, _≤_, _<_}
 use native.Mathlib.Omega.{arith}
 use lib.ListN.{length, getD}
 use borrow.Author.Tests.{lt-ltb, le-ltb}
 use Rattle.base.specs.Lists.{numbers}
 use Rattle.base.proofs.NumberLaws.{values-length, values-at}
+use Rattle.formula.specs.Formula.{Leaf}
 use Rattle.formula.specs.Table.{Operator, operator}
-use Rattle.formula.specs.Reading.{Opcode, opcode, Reading, reading}
-use Rattle.formula.specs.Rows.{operator-of, operator-at, end-at, operators-of, entries-of, reading-by, reading-of}
+use Rattle.formula.specs.Reading.{Reading, reading}
+use Rattle.formula.specs.Rows.{length-at, operator-at, end-at, operators-of, entries-of, reading-by, reading-of}
+use Rattle.formula.specs.Access.{Fits}
 use Rattle.formula.specs.declared.Table.{Table}
 use Rattle.formula.specs.declared.Outcome.{Outcome}
 use Rattle.formula.specs.declared.Outcome.the-variants.{Accepted}
 use Rattle.formula.specs.declared.Reading as code
-use Rattle.formula.proofs.RowLaws.{reading-held, held-row, held-few}
-use Rattle.lasso.proofs.CodeOperators.{by-opcode}
 use Rattle.yuktrob_c.specs.Numbers.{number}
-use Rattle.yuktrob_c.specs.Entry.{command-of, argument-of, packed, entry-number, Commands}
+use Rattle.yuktrob_c.specs.Entry.{argument-of, packed, entry-number}
 
-abbrev Right : ℕ → Opcode → Type 0
-Right op k = 0 < op → op < 11 → (a e : ℕ) → op ≡ command-of (operator-of k a e)
-
-pub command-right : (op : ℕ) → Right op (opcode op)
-command-right =
-    by-opcode Right (λ i j. absurd (omega arith)) (λ i j a e. refl) (λ i j a e. refl) (λ i j a e. refl) (λ i j a e. refl) (λ i j a e. refl)
-    (λ i j a e. refl) (λ i j a e. refl) (λ i j a e. refl) (λ i j a e. refl) (λ i j a e. refl) (λ op l i j. absurd (omega arith))
-
-abbrev With : ℕ → Opcode → Type 0
-With op k = 2 < op → op < 8 → (a e : ℕ) → a ≡ argument-of (operator-of k a e)
-
-pub argument-kept : (op : ℕ) → With op (opcode op)
-argument-kept =
-    by-opcode With (λ i j. absurd (omega arith)) (λ i j. absurd (omega arith)) (λ i j. absurd (omega arith)) (λ i j a e. refl)
-    (λ i j a e. refl)
-    (λ i j a e. refl) (λ i j a e. refl) (λ i j a e. refl) (λ i j. absurd (omega arith)) (λ i j. absurd (omega arith))
-    (λ i j. absurd (omega arith)) (λ op l i j. absurd (omega arith))
-
-abbrev Before : ℕ → Opcode → Type 0
-Before op k = 0 < op → op < 3 → (a e : ℕ) → 0 ≡ argument-of (operator-of k a e)
-
-pub none-before : (op : ℕ) → Before op (opcode op)
-none-before =
-    by-opcode Before (λ i j. absurd (omega arith)) (λ i j a e. refl) (λ i j a e. refl) (λ i j. absurd (omega arith))
-    (λ i j. absurd (omega arith))
-    (λ i j. absurd (omega arith)) (λ i j. absurd (omega arith)) (λ i j. absurd (omega arith)) (λ i j. absurd (omega arith))
-    (λ i j. absurd (omega arith)) (λ i j. absurd (omega arith)) (λ op l i j. absurd (omega arith))
-
-abbrev Behind : ℕ → Opcode → Type 0
-Behind op k = 7 < op → op < 11 → (a e : ℕ) → 0 ≡ argument-of (operator-of k a e)
-
-pub none-behind : (op : ℕ) → Behind op (opcode op)
-none-behind =
-    by-opcode Behind (λ i j. absurd (omega arith)) (λ i j. absurd (omega arith)) (λ i j. absurd (omega arith)) (λ i j. absurd (omega arith))
-    (λ i j. absurd (omega arith)) (λ i j. absurd (omega arith)) (λ i j. absurd (omega arith)) (λ i j. absurd (omega arith))
-    (λ i j a e. refl)
-    (λ i j a e. refl) (λ i j a e. refl) (λ op l i j. absurd (omega arith))
-
-pub packed-number : (op a end k x y z r : ℕ) → 0 < op → op < 11 → ((e : ℕ) → k ≡ argument-of (operator-of (opcode op) a e)) → x ≡ k
-    → y ≡ end
-    → z ≡ op → r ≡ number 0 (z + 256 * (x + 256 * y)) → (e : ℕ) → r ≡ number 0 (packed (operator-of (opcode op) a e) end)
-packed-number op a end k x y z r i j h p q s t e = omega (arith, command-right op i j a e, h e)
+pub argument-fits : (o : Operator) → Fits 48 o → argument-of o < 48
+argument-fits (Operator.leaf (Leaf.constant b)) f = omega arith
+argument-fits (Operator.leaf (Leaf.signal present j)) f = omega arith
+argument-fits (Operator.variable m) f = f
+argument-fits (Operator.pair o l r) f = f .1
+argument-fits (Operator.next g) f = omega arith
+argument-fits (Operator.fix g b) f = omega arith
 
 -- the number of an entry that is there or not
 abbrev chosen : ℕ → Bool → ℕ
@@ -76,14 +41,14 @@ module _ (t : Table) (e r : ℕ) where
   entry-none l q =
       q ∙ sym (ap (chosen _) (le-ltb e (length (operators-of (t .rows) 0 (t .count))) (omega (arith, count))))
 
-  pub entry-there : e < t .count
-      → ((k : ℕ) → r ≡ number 0
-      (packed (operator-of (opcode (getD (t .rows) e 0)) (getD (t .rows) (48 + e) 0) k) (getD (t .rows) (96 + e) 0)))
+  -- the operator o and the end z are what the rows have at e
+  pub entry-there : (o : Operator) (z : ℕ) → e < t .count → operator-at (t .rows) e ≡ o → z ≡ end-at (t .rows) e → r ≡ number 0 (packed o z)
       → r ≡ entry-number (Reading.accepted (entries-of t)) e
-  entry-there l h =
-      h e
-      ∙ sym (ap (λ (o : Operator). number 0 (packed o (end-at (t .rows) e))) (at (operator-at (t .rows)) _))
-      ∙ sym (ap (λ (n : ℕ). number 0 (packed (operator (operators-of (t .rows) 0 (t .count)) e) n)) (at (end-at (t .rows)) 0))
+  entry-there o z l p q h =
+      h
+      ∙ sym (ap (λ (x : Operator). number 0 (packed x z)) (at (operator-at (t .rows)) _ ∙ p))
+      ∙ sym (ap (λ (n : ℕ). number 0 (packed (operator (operators-of (t .rows) 0 (t .count)) e) n))
+      (ap (λ (n : ℕ). e + n) (at (length-at (t .rows)) 0) ∙ sym q))
       ∙ sym (ap (chosen _) (lt-ltb e (length (operators-of (t .rows) 0 (t .count))) (omega (arith, count))))
     where
       at : {A : Type 0} (g : ℕ → A) (d : A) → getD (map g (numbers 0 (t .count))) e d ≡ g e
@@ -91,11 +56,6 @@ module _ (t : Table) (e r : ℕ) where
 
 -- what callers of the reader have of an accepted formula
 module _ (bytes : List ℕ) (r : code.Reading) (is : reading-of r ≡ reading bytes) (o : r .outcome ≡ Accepted) where
-  pub accepted-commands : Commands (r .table)
-  accepted-commands =
-      let h = reading-held bytes r is o in
-      record { few = held-few h; some = λ e l. held-row h e l .some; known = λ e l. held-row h e l .known }
-
   pub reading-accepted : Reading.accepted (entries-of (r .table)) ≡ reading bytes
   reading-accepted = sym (ap (λ (x : Outcome). reading-by x (r .table)) o) ∙ is
 

@@ -14,10 +14,10 @@ small : {N M stem cycle K P : ℕ} → Sized N M stem cycle K P → Small stem c
 small s =
     let c = s .capacity in
     record {
-      stem-fits = omega (arith, s .stem-few, c .nodes-fit);
-      cycle-fits = omega (arith, s .cycle-few, c .profiles-fit);
-      nodes-fit = omega (arith, s .nodes-few, c .nodes-fit);
-      profiles-fit = omega (arith, s .profiles-few, c .profiles-fit);
+      stem-fits = omega (arith, s .stem-few, c .few-nodes);
+      cycle-fits = omega (arith, s .cycle-few, c .few-profiles);
+      nodes-fit = omega (arith, s .nodes-few, c .few-nodes);
+      profiles-fit = omega (arith, s .profiles-few, c .few-profiles);
     }
 
 bounded-fits : (N M : ℕ) (v : code.Verdict) → Bounded N M v → VerdictFits v

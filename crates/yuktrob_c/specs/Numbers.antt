@@ -5,10 +5,12 @@ use mathlib.Core.List.{List}
 use Prim.Native.Nat.{ℕ, _+_, _*_, _≤_, _<_}
 use lib.ListN.{length}
 use Rattle.formula.specs.Table.{Entries}
+use Rattle.formula.specs.Refusal.{code-of, place-of}
 use Rattle.formula.specs.Reading.{Reading}
+use Rattle.formula.specs.declared.Refusal.{Refusal}
 use Rattle.lasso.specs.declared.Truth.{Truth}
 use Rattle.lasso.specs.declared.Truth.the-variants as truth
-use Rattle.decision.specs.Verdict.{verdict}
+use Rattle.decision.specs.Verdict.{max-nodes, max-profiles, verdict}
 use Rattle.decision.specs.Promise.{says}
 use Rattle.decision.specs.declared.Verdict.{Verdict}
 use Rattle.decision.specs.declared.Verdict.the-variants as decision
@@ -17,16 +19,20 @@ use Rattle.decision.specs.declared.Verdict.the-variants as decision
 abbrev pub number : (code carried : ℕ) → ℕ
 number code carried = code + 256 * carried
 
--- reading: a refusal carries its place, an accepted formula how many subformulas it has
+-- a refusal of reading carries its place
+abbrev pub refusal-number : Refusal → ℕ
+refusal-number why = number (code-of why) (place-of why)
+
+-- reading: a refusal, or how many subformulas an accepted formula has
 abbrev pub reading-number : Reading Entries → ℕ
-reading-number (Reading.refused code place) = number code place
+reading-number (Reading.refused why) = refusal-number why
 reading-number (Reading.accepted x) = number 0 (length (x .operators))
 
--- truth: 1 for true, 0 for false; a refusal of reading carries its place, another nothing (MEANING 7.1)
+-- truth: 1 for true, 0 for false; a refusal of reading, or another, which carries nothing (MEANING 7.1)
 abbrev pub truth-number : Truth → ℕ
 truth-number (truth.Told b) = number 0 (cond b 1 0)
 truth-number (truth.Refused code) = number code 0
-truth-number (truth.Unread why) = number (why .code) (why .at)
+truth-number (truth.Unread why) = refusal-number why
 
 -- 1 for MET or 0 for NOT, then the lengths of stem and cycle, K and P with 13 bits each, the first lowest
 abbrev pub found : (met stem cycle K P : ℕ) → ℕ
@@ -37,7 +43,7 @@ abbrev pub verdict-number : Verdict → ℕ
 verdict-number (decision.Satisfiable stem cycle K P) = number 0 (found 1 stem cycle K P)
 verdict-number (decision.Unsatisfiable K P) = number 0 (found 0 0 0 K P)
 verdict-number (decision.Refused code) = number code 0
-verdict-number (decision.Unread why) = number (why .code) (why .at)
+verdict-number (decision.Unread why) = refusal-number why
 
 -- the decision's answer, by the formula's bytes, the capacities and the lent areas
 abbrev pub answer-of : (bytes : List ℕ) (N M : ℕ) (workspace buffer : List ℕ) → Verdict
@@ -45,20 +51,24 @@ answer-of bytes N M workspace buffer = says (verdict N M (length workspace) (len
 
 -- Why the numbers fit into 64 bits: by question 11 and MEANING 5.6 the sizes of a verdict have room in 13 bits each.
 pub record Small (stem cycle K P : ℕ) : Type 0 where
-  pub stem-fits : stem < 1024
-  pub cycle-fits : cycle ≤ 4096
-  pub nodes-fit : K ≤ 1024
-  pub profiles-fit : P ≤ 4096
+  pub stem-fits : stem < max-nodes
+  pub cycle-fits : cycle ≤ max-profiles
+  pub nodes-fit : K ≤ max-nodes
+  pub profiles-fit : P ≤ max-profiles
 
--- By MEANING 1.6 the place of a refusal of reading is at most 97: of truth's answer.
+-- By MEANING 1.6 the place of a refusal of reading is at most 97:
+abbrev pub Early : Refusal → Type 0
+Early why = place-of why ≤ 97
+
+-- of truth's answer,
 abbrev pub TruthFits : Truth → Type 0
 TruthFits (truth.Told b) = Unit {0}
 TruthFits (truth.Refused code) = Unit {0}
-TruthFits (truth.Unread why) = why .at ≤ 97
+TruthFits (truth.Unread why) = Early why
 
--- the same of the decision's, and its sizes are small
+-- and of the decision's, whose sizes are small, too
 abbrev pub VerdictFits : Verdict → Type 0
 VerdictFits (decision.Satisfiable stem cycle K P) = Small stem cycle K P
 VerdictFits (decision.Unsatisfiable K P) = Small 0 0 K P
 VerdictFits (decision.Refused code) = Unit {0}
-VerdictFits (decision.Unread why) = why .at ≤ 97
+VerdictFits (decision.Unread why) = Early why

@@ -1,19 +1,23 @@
 // The operations with the C calling convention: a slice comes as a pointer and a length, and each answer is one number.
 use decision::Verdict;
+use formula::Operator;
 use formula::Outcome;
+use formula::Subformula;
+use formula::Refusal;
 use formula::Table;
 use lasso::Truth;
 ghost use mathlib.Core.Path.{_≡_};
-ghost use Prim.Native.Nat.{ℕ, _≤_, _<_};
+ghost use Prim.Native.Nat.{_≤_, _<_};
 ghost use lib.ListN.{length};
-ghost use Rattle.formula.specs.Reading.{opcode, Reading, reading};
-ghost use Rattle.formula.specs.Rows.{operator-of, entries-of};
+ghost use Rattle.formula.specs.Reading.{Reading, reading};
+ghost use Rattle.formula.specs.Rows.{entries-of};
+ghost use Rattle.formula.specs.Access.{decoded, Fits, Readable};
 ghost use Rattle.lasso.specs.Truth.{truth, written};
 ghost use Rattle.lasso.specs.Answer.{lasso, answer};
 ghost use Rattle.decision.specs.Promise.{Decided};
-ghost use Rattle.yuktrob_c.specs.Numbers.{number, Small, TruthFits, VerdictFits};
+ghost use Rattle.yuktrob_c.specs.Numbers.{number, refusal-number, Small, Early, TruthFits, VerdictFits};
 ghost use Rattle.yuktrob_c.specs.Numbers.{reading-number, truth-number, found, verdict-number, answer-of};
-ghost use Rattle.yuktrob_c.specs.Entry.{argument-of, packed, entry-number, Commands};
+ghost use Rattle.yuktrob_c.specs.Entry.{argument-of, packed, entry-number};
 
 // The lowest byte is a refusal's code or 0; what the answer carries stands above it.
 fn number(code: u8, carried: usize) -> u64
@@ -23,12 +27,20 @@ fn number(code: u8, carried: usize) -> u64
     (base::wide(code) + 256 * carried) as u64
 }
 
+// A refusal of reading with its place.
+fn refusal_number(why: Refusal) -> u64
+    requires { ⌜ Early why ⌝ }
+    ensures { λ r. ⌜ r ≡ refusal-number why ⌝ }
+{
+    number(formula::code_of(why), formula::place_of(why))
+}
+
 fn truth_number(t: Truth) -> u64
     requires { ⌜ TruthFits t ⌝ }
     ensures { λ r. ⌜ r ≡ truth-number t ⌝ }
 {
     match t {
-        Truth::Unread(why) => number(why.code, why.at),
+        Truth::Unread(why) => refusal_number(why),
         Truth::Refused(code) => number(code, 0),
         Truth::Told(on) => number(0, base::one_if(on)),
     }
@@ -36,7 +48,8 @@ fn truth_number(t: Truth) -> u64
 
 // A verdict with its sizes.
 fn found(met: usize, stem: usize, cycle: usize, nodes: usize, profiles: usize) -> u64
-    requires { ⌜ (met ≤ 1) × Small stem cycle nodes profiles ⌝ }
+    requires { ⌜ met ≤ 1 ⌝ }
+    requires { ⌜ Small stem cycle nodes profiles ⌝ }
     ensures { λ r. ⌜ r ≡ number 0 (found met stem cycle nodes profiles) ⌝ }
 {
     let sizes = stem + 8192 * (cycle + 8192 * (nodes + 8192 * profiles));
@@ -48,7 +61,7 @@ fn verdict_number(v: Verdict) -> u64
     ensures { λ r. ⌜ r ≡ verdict-number v ⌝ }
 {
     match v {
-        Verdict::Unread(why) => number(why.code, why.at),
+        Verdict::Unread(why) => refusal_number(why),
         Verdict::Refused(code) => number(code, 0),
         Verdict::Satisfiable {
             stem,
@@ -60,38 +73,46 @@ fn verdict_number(v: Verdict) -> u64
     }
 }
 
-// The argument of a command that has one, else 0.
-fn kept(op: u8, argument: u8) -> u8
-    requires { ⌜ (0 < op) × (op < 11) ⌝ }
-    ensures { λ r. ⌜ ((e : ℕ) → r ≡ argument-of (operator-of (opcode op) argument e)) ⌝ }
+// The number in an operator that is not the next subformula's: a signal, a binder or the right operand; 0 where there is none.
+fn argument(operator: Operator) -> usize
+    ensures { λ r. ⌜ r ≡ argument-of (decoded operator) ⌝ }
 {
-    if op < 3 {
-        return 0;
+    match operator {
+        Operator::Constant(_) => 0,
+        Operator::Signal { present: _, signal } => base::wide(signal),
+        Operator::Variable(binder) => binder.0,
+        Operator::Pair {
+            either: _,
+            left: _,
+            right,
+        } => right.0,
+        Operator::Next(_) => 0,
+        Operator::Fixpoint {
+            greatest: _,
+            body: _,
+        } => 0,
     }
-    if op > 7 {
-        return 0;
-    }
-    argument
 }
 
-fn packed(op: u8, argument: u8, end: u8) -> u64
-    requires { ⌜ (0 < op) × (op < 11) ⌝ }
-    ensures { λ r. ⌜ ((e : ℕ) → r ≡ number 0 (packed (operator-of (opcode op) argument e) end)) ⌝ }
+fn packed(operator: Operator, end: usize) -> u64
+    requires { ⌜ Fits 48 (decoded operator) × (end ≤ 48) ⌝ }
+    ensures { λ r. ⌜ r ≡ number 0 (packed (decoded operator) end) ⌝ }
 {
-    let behind = base::wide(kept(op, argument)) + 256 * base::wide(end);
-    number(0, base::wide(op) + 256 * behind)
+    let behind = argument(operator) + 256 * end;
+    number(0, base::wide(formula::opcode_byte(operator)) + 256 * behind)
 }
 
 // Subformula e of a table, or 0 if it has no such subformula.
 fn entry(t: Table, e: usize) -> u64
-    requires { ⌜ Commands t ⌝ }
+    requires { ⌜ Readable t ⌝ }
     ensures { λ r. ⌜ r ≡ entry-number (Reading.accepted (entries-of t)) e ⌝ }
 {
     if e >= t.count {
         return 0;
     }
     let rows = t.rows;
-    packed(rows[e], rows[48 + e], rows[96 + e])
+    let s = Subformula(e);
+    packed(formula::operator_at(&rows, s), formula::end(&rows, s))
 }
 
 // Reads a formula: how many subformulas it has.
@@ -103,7 +124,7 @@ pub extern "C" fn yuktrob_read(rule: &[u8]) -> u64
     let outcome = r.outcome;
     let t = r.table;
     match outcome {
-        Outcome::Refused(why) => number(why.code, why.at),
+        Outcome::Refused(why) => refusal_number(why),
         Outcome::Accepted => number(0, t.count),
     }
 }
@@ -117,7 +138,7 @@ pub extern "C" fn yuktrob_entry(rule: &[u8], e: usize) -> u64
     let outcome = r.outcome;
     let t = r.table;
     match outcome {
-        Outcome::Refused(why) => number(why.code, why.at),
+        Outcome::Refused(why) => refusal_number(why),
         Outcome::Accepted => entry(t, e),
     }
 }

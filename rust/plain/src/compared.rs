@@ -4,7 +4,7 @@ use crate::random::{nesting, Random};
 use crate::reading::{self, Unreadable};
 use crate::truth::{self, Truth};
 use crate::{decision, decision::Verdict};
-use yuktrob::{course_len, work_len, Command, Refusal, Rule};
+use yuktrob::{course_len, work_len, Command, Refusal, Rule, MOST_NODES, MOST_PROFILES};
 
 /// A refusal's number, with the byte's place where it has one.
 type Refused = (u8, Option<usize>);
@@ -138,7 +138,8 @@ pub struct Areas {
 impl Areas {
     #[allow(clippy::new_without_default)]
     pub fn new() -> Self {
-        Areas { work: vec![0; work_len(1025, 4097) + 64], course: vec![0; course_len(1025, 4097) + 64] }
+        let (n, m) = (MOST_NODES + 1, MOST_PROFILES + 1);
+        Areas { work: vec![0; work_len(n, m) + 64], course: vec![0; course_len(n, m) + 64] }
     }
 }
 
@@ -161,7 +162,7 @@ fn room(random: &mut Random, most: usize) -> usize {
 }
 
 fn lent(random: &mut Random) -> Lent {
-    let (n, m) = (room(random, 1024), room(random, 4096));
+    let (n, m) = (room(random, MOST_NODES), room(random, MOST_PROFILES));
     let short = |random: &mut Random, need: usize, more: usize| if random.one_in(30) { need.saturating_sub(1) } else { need + random.below(more) };
     Lent { n, m, work: short(random, work_len(n, m), 40), course: short(random, course_len(n, m), 4) }
 }

@@ -1,8 +1,8 @@
 -- `decision::decide` passes a refusal of reading on; else the table is that of the formula in the bytes, and the answer over it is the
 -- decision's.
 use borrow.Author.Needs.{needs}
-use Rattle.formula.proofs.RowLaws.{reading-held}
-use Rattle.decision.proofs.SettleLaws.{held-decided, unread-decided, reading-refused, held-decoded}
+use Rattle.formula.proofs.RowLaws.{reading-held, reading-refused}
+use Rattle.decision.proofs.SettleLaws.{held-decided, unread-decided, held-decoded}
 use Rattle.decision.proofs.decide.Statement.{statement}
 use Rattle.decision.proofs.decide.Tie as tie
 
@@ -27,9 +27,7 @@ returns c =
     let read = c .before .before .before .before .read in
     let u = c .before .before .before .before .before .before .before .before in
     unread-decided (u .args .s .now) (u .args .n) (u .args .m) (u .args .workspace .now) (u .args .letters .now)
-    (c .before .outcome .given .0 .0)
-    (reading-refused (u .args .s .now) (read .result) (c .before .outcome .given .0 .0) (read .ensures .0)
-    (c .before .outcome .given .1))
+    (reading-refused (u .args .s .now) (read .result) (read .ensures .0) (c .before .outcome .given .1))
 
 same-length : tie.Need-same-length
 same-length c = search needs

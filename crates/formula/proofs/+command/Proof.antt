@@ -8,8 +8,8 @@ use borrow.Fn.Kinds.{In}
 use borrow.Fn.PlainCycle.{Measures, is, falls, and}
 use Rattle.formula.specs.Reading.{formula}
 use Rattle.formula.specs.Promise.{Opened}
-use Rattle.formula.proofs.CodeFormula.{agrees-from}
-use Rattle.formula.proofs.CodeCommand.{opened-of, ready-on, may-enter, ready-inside, command-further, stopped-command}
+use Rattle.formula.proofs.CodeFormula.{further-trans, agrees-from}
+use Rattle.formula.proofs.CodeCommand.{opened-of, ready-on, may-enter, ready-inside, is-behind, command-further, stopped-command}
 use Rattle.formula.proofs.CodeCommand.{opened-command, unary-command, refused-command, pair-command}
 use Rattle.formula.proofs.command.Reads as command
 use Rattle.formula.proofs.command.Kinds as command-kinds
@@ -69,7 +69,7 @@ command-leaf-requires : (t : ℕ) → command-lts.Need-leaf-requires (command-ca
 command-leaf-requires t c κs =
     let start = c .before .before .before .before .before .before in
     let o = command-opened t (c .before .before) in
-    (o .some, c .if1 .taken, ready-on (o .further) (start .pre .1), o .count)
+    record { least = o .some; most = c .if1 .taken; count = o .count; ready = ready-on (o .further) (start .pre .1) }
 
 command-returns : (t : ℕ) → command-lts.Need-returns (command-calls t) (command-at t) command.Post
 command-returns t c =
@@ -92,14 +92,10 @@ command-command-requires t c κs =
 
 command-complete-requires : (t : ℕ) → command-lts.Need-complete-requires (command-calls t) (command-at t) command.Post
 command-complete-requires t c κs =
-    let before2 = c .before .before .before .before .before in
-    let inside = c .before .before .inside in
-    let u = c .before .before .before .before .before .before .before .before .before in (
-      may-enter (command-opened t (before2)) (u .pre .1) .0,
-      omega arith,
-      λ q. command-further (u .args .s .now) (u .args .rows)
-          (inside .result) (c .before .command .ensures) q .limits .commands,
-    )
+    let one = c .before in
+    let u = one .before .before .before .before .before .before .before .before in
+    let o = command-opened t (one .before .before .before .before) in
+    λ q. is-behind o (command-further (u .args .s .now) (u .args .rows) (one .before .inside .result) (one .command .ensures) q)
 
 command-returns-2 : (t : ℕ) → command-lts.Need-returns-2 (command-calls t) (command-at t) command.Post
 command-returns-2 t c =
@@ -127,13 +123,11 @@ command-complete-requires-2 : (t : ℕ) → command-lts.Need-complete-requires-2
 command-complete-requires-2 t c κs =
     let one = c .before .before .before .before .before .before in
     let u = one .before .before .before .before .before .before .before .before in
-    let inner = one .before .inside .result in (
-      may-enter (command-opened t (one .before .before .before .before)) (u .pre .1) .0,
-      command-further (u .args .s .now)
-          (u .args .rows) inner (one .command .ensures) (c .before .enum-told2 .given .1) .limits .commands,
-      λ q. command-further
-          (u .args .s .now) (one .command .result .rows) inner (c .command2 .ensures) q .limits .commands,
-    )
+    let o = command-opened t (one .before .before .before .before) in
+    let s = u .args .s .now in
+    let inner = one .before .inside .result in
+    let left = command-further s (u .args .rows) inner (one .command .ensures) (c .before .enum-told2 .given .1) in
+    λ q. is-behind o (further-trans left (command-further s (one .command .result .rows) inner (c .command2 .ensures) q))
 
 command-returns-3 : (t : ℕ) → command-lts.Need-returns-3 (command-calls t) (command-at t) command.Post
 command-returns-3 t c =

@@ -9,7 +9,7 @@ use Rattle.formula.proofs.argument_at.Tie as tie
 returns : tie.Need-returns
 returns c = λ e self.
     let u = c .before .before in
-    no-argument _ (u .args .h) (u .args .op) (u .args .t4) self (u .pre .0) (u .pre .1) (c .if1 .taken)
+    no-argument _ (u .args .h) (u .args .op) (u .args .t4) self (u .pre .least) (u .pre .most) (c .if1 .taken)
 
 shared-slice-read-value : tie.Need-shared-slice-read-value
 shared-slice-read-value c = search needs
@@ -20,13 +20,13 @@ passed-requires c κs = search needs
 returns-2 : tie.Need-returns-2
 returns-2 c = λ e self.
     let u = c .before .before .before .before .before .before in
-    no-signal _ (u .args .h) (u .args .op) (u .args .t4) self (omega arith) (u .pre .0) (omega arith) (c .if3 .taken)
+    no-signal _ (u .args .h) (u .args .op) (u .args .t4) self (omega arith) (u .pre .least) (omega arith) (c .if3 .taken)
 
 returns-3 : tie.Need-returns-3
 returns-3 c = λ e self.
     let u = c .before .before .before .before .before .before in
-    signal-argued _ (u .args .h) (u .args .op) (u .args .t4) self (omega arith) e _ _ (u .pre .0) (omega arith)
-    (c .if3 .left) (c .before .before .passed .ensures) (u .pre .2 .limits)
+    signal-argued _ (u .args .h) (u .args .op) (u .args .t4) self (omega arith) e _ _ (u .pre .least) (omega arith)
+    (c .if3 .left) (c .before .before .passed .ensures) (u .pre .ready .limits)
 
 wide-requires : tie.Need-wide-requires
 wide-requires c κs = search needs
@@ -56,7 +56,7 @@ returns-6 c = λ e self.
     let u = c .before .before .before .before .before .before .before .before .before in
     let up = c .before .before .before .wide .ensures in
     variable-argued _ (u .args .h) (u .args .op) (u .args .t4) self (omega arith) (omega arith) (omega arith) e _ _ up (omega arith)
-    (c .before .before .before .before .before .passed .ensures) (u .pre .2 .limits)
+    (c .before .before .before .before .before .passed .ensures) (u .pre .ready .limits)
 
 pub argument-at-spec : {M : Type 1} → statement M
 argument-at-spec =

@@ -10,20 +10,15 @@ enum-told c = search needs
 enum-told-2 : tie.Need-enum-told-2
 enum-told-2 c = search needs
 
-cast-finished : tie.Need-cast-finished
-cast-finished c = search needs
-
 finished-requires : tie.Need-finished-requires
-finished-requires c κs =
-    let u = c .before .before .before .before in
-    (u .pre .0, u .pre .2 (c .enum-told2 .given .1))
+finished-requires c κs = c .before .before .before .before .pre (c .enum-told2 .given .1)
 
 returns : tie.Need-returns
 returns c = not-complete (c .enum-told .given .1)
 
 returns-2 : tie.Need-returns-2
-returns-2 c = is-complete (c .before .before .before .before .before .pre .1) (c .before .enum-told2 .given .1) (c .finished .ensures)
+returns-2 c = is-complete (c .before .enum-told2 .given .1) (c .finished .ensures)
 
 pub complete-spec : {M : Type 1} → statement M
 complete-spec =
-    tie.close (tie.spec enum-told enum-told-2 cast-finished finished-requires returns returns-2)
+    tie.close (tie.spec enum-told enum-told-2 finished-requires returns returns-2)

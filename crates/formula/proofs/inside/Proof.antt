@@ -9,27 +9,27 @@ use Rattle.formula.proofs.inside.Tie as tie
 returns : tie.Need-returns
 returns c =
     let u = c .before in
-    inside-next (u .args .scope) (u .args .me .0) (u .args .op) (u .pre .1) (c .if1 .taken)
+    inside-next (u .args .scope) (u .args .me .0) (u .args .op) (u .pre .guarded) (c .if1 .taken)
 
 cast-inner : tie.Need-cast-inner
 cast-inner c = search needs
 
 element-write-inner : tie.Need-element-write-inner
-element-write-inner c = c .before .before .pre .2 (c .if2 .taken)
+element-write-inner c = c .before .before .pre .room (c .if2 .taken)
 
 add-inner : tie.Need-add-inner
-add-inner c = omega (arith, c .before .before .pre .2 (c .if2 .taken))
+add-inner c = omega (arith, c .before .before .pre .room (c .if2 .taken))
 
 returns-2 : tie.Need-returns-2
 returns-2 c =
     let u = c .before .before in
-    inside-fix (u .args .scope) (u .args .me .0) (u .args .op) (u .pre .1) (c .if2 .taken) (u .pre .0)
-    (u .pre .2 (c .if2 .taken)) (search needs)
+    inside-fix (u .args .scope) (u .args .me .0) (u .args .op) (u .pre .guarded) (c .if2 .taken) (u .pre .place)
+    (u .pre .room (c .if2 .taken)) (search needs)
 
 returns-3 : tie.Need-returns-3
 returns-3 c =
     let u = c .before .before in
-    inside-pair (u .args .scope) (u .args .me .0) (u .args .op) (u .pre .1) (omega arith)
+    inside-pair (u .args .scope) (u .args .me .0) (u .args .op) (u .pre .guarded) (omega arith)
 
 pub inside-spec : {M : Type 1} → statement M
 inside-spec =

@@ -14,8 +14,8 @@ finished-requires c κs = search needs
 returns : tie.Need-returns
 returns c =
     let u = c .before .before .before in
-    λ self. constant-leaf self (enclosing (u .args .scope)) (u .pre .0) (c .before .if1 .taken) (u .pre .2 .limits) (u .pre .3)
-    (c .finished .ensures)
+    λ self. constant-leaf self (enclosing (u .args .scope)) (u .pre .least) (c .before .if1 .taken) (u .pre .ready .limits)
+    (u .pre .count) (c .finished .ensures)
 
 argument-at-requires : tie.Need-argument-at-requires
 argument-at-requires c κs = search needs
@@ -32,21 +32,23 @@ enum-known-argument-2 c = search needs
 finished-requires-2 : tie.Need-finished-requires-2
 finished-requires-2 c κs =
     let argument-at = c .before .before .before .argument-at in
-    (omega arith, byte-of (c .before .argument2 .given .1) (argument-at .ensures 0 (formula 0)) .further .limits .commands)
+    let read = byte-of (c .before .argument2 .given .1) (argument-at .ensures 0 (formula 0)) in
+    record { after = omega (arith, read .count); few = read .further .limits .commands }
 
 returns-2 : tie.Need-returns-2
 returns-2 c =
     let argument = c .before .before .argument in
     let argument-at = c .before .before .before .before .argument-at in
-    λ self. let u = c .before .before .before .before .before .before .before in refused-leaf (u .args .op) (argument .given .1) (argument-at .ensures (u .args .me .0) self)
-    (c .stopped .ensures)
+    let u = c .before .before .before .before .before .before .before in
+    λ self. refused-leaf (u .args .op) (argument .given .1) (argument-at .ensures (u .args .me .0) self) (c .stopped .ensures)
 
 returns-3 : tie.Need-returns-3
 returns-3 c =
     let argument2 = c .before .before .argument2 in
     let argument-at = c .before .before .before .before .argument-at in
-    λ self. let u = c .before .before .before .before .before .before .before in argued-leaf (u .pre .3)
-    (byte-of (argument2 .given .1) (argument-at .ensures (u .args .me .0) self)) (c .finished2 .ensures)
+    let u = c .before .before .before .before .before .before .before in
+    λ self. argued-leaf (u .pre .count) (byte-of (argument2 .given .1) (argument-at .ensures (u .args .me .0) self))
+    (c .finished2 .ensures)
 
 pub leaf-spec : {M : Type 1} → statement M
 leaf-spec =

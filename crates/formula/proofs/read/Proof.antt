@@ -3,8 +3,7 @@
 -- from byte 0 is the definition of reading.
 -- The machine value that `new` returns is stored and passed on as it is. In a local of a body MIR erases the lifetime of the struct's type,
 -- so the value is shown to have the type at `erased`: what the struct owns does not say the lifetime's name. Assumes nothing.
--- a goal with two clauses: both are shown
-use mathlib.Core.Path.{_≡_, refl, subst, _∙_}
+use mathlib.Core.Path.{_≡_, refl, subst}
 use Prim.Native.Nat.{ℕ}
 use mathlib.Core.List.{List, [], _∷_}
 use lib.ListN.{length}
@@ -44,7 +43,7 @@ use denote.Triple.Clauses.{Clauses, ensured, lasts}
 use Rattle.formula.specs.Promise.{Answered}
 use Rattle.formula.specs.declared.Reader.{Reader}
 use Rattle.formula.specs.declared.Reading.{Reading}
-use Rattle.formula.proofs.From.{reading-from-start}
+use Rattle.formula.proofs.CodeWhole.{clauses-of}
 use Rattle.formula.proofs.Reader as T
 use Rattle.formula.proofs.Reader.Laws as T′
 use Rattle.formula.proofs.Reading as S
@@ -62,9 +61,17 @@ use Rattle.formula.proofs.read as read
 use Rattle.formula.proofs.read.Statement as stated
 use Rattle.formula.proofs.read.Code as code
 
+-- a goal of two clauses: both are shown
 says-both : {M : Type 1} {𝓤 : URA M} {H : Heap 𝓤} {A : Atoms 𝓤} {K : Type 0} {W : Given 𝓤 H A} {Γ : List (Item 𝓤)} → K →
     {φ ψ : Type 0} {P : SProp 𝓤} → φ → ψ → Step K W Γ (prop P) Γ (prop (sep 𝓤 P (sep 𝓤 (fact 𝓤 φ) (fact 𝓤 ψ))))
 says-both {𝓤 = 𝓤} k {φ} {ψ} {P} x y = step (λ s. suffices k _ (assoc∗ 𝓤 P (fact 𝓤 φ) (fact 𝓤 ψ)) $ says k y $ says k x $ s)
+
+-- and of three
+says-three : {M : Type 1} {𝓤 : URA M} {H : Heap 𝓤} {A : Atoms 𝓤} {K : Type 0} {W : Given 𝓤 H A} {Γ : List (Item 𝓤)} → K →
+    {φ ψ χ : Type 0} {P : SProp 𝓤} → φ → ψ → χ →
+    Step K W Γ (prop P) Γ (prop (sep 𝓤 P (sep 𝓤 (fact 𝓤 φ) (sep 𝓤 (fact 𝓤 ψ) (fact 𝓤 χ)))))
+says-three {𝓤 = 𝓤} k {φ} {ψ} {χ} {P} x y z =
+    step (λ s. suffices k _ (assoc∗ 𝓤 P (fact 𝓤 φ) (sep 𝓤 (fact 𝓤 ψ) (fact 𝓤 χ))) $ says-both k y z $ says k x $ s)
 
 -- the reader's type, over the signature's lifetimes
 abbrev B : Lfts 1 → RattleType
@@ -157,7 +164,7 @@ module _ {M : Type 1} (𝓤 : URA M) (H : Heap 𝓤) (A : Atoms 𝓤) (W : Given
     exits t u e =
         qed W (‵ (S.the-row .own t (u ∷ [])) ∷ token ∷ ‵ Own ∷ []) ∵
         suffices ! _ (ends-at 𝓤 H A read.ended stayed clauses W here u t (tt, tt) (tt, tt)) $
-        says-both ! (e .reading ∙ reading-from-start (now s)) (e .table) $
+        says-three ! (clauses-of (now s) t e .0) (clauses-of (now s) t e .1) (clauses-of (now s) t e .2) $
         move ! (1 ∷ []) $ frame ! $ nothing ! $ move ! (2 ∷ 0 ∷ []) $ fjoin ! $ frame ! $ done !
 
     -- the reader's type as a local of a body has it

@@ -23,7 +23,8 @@ array-write-r-3 : tie.Need-array-write-r-3
 array-write-r-3 c = search needs
 
 returns : tie.Need-returns
-returns c = placed (c .args .rows) (c .args .me .0) (c .args .op) (c .args .argument) (c .args .end) (search needs) (c .pre .0) (c .pre .1)
+returns c =
+    placed (c .args .rows) (c .args .me .0) (c .args .op) (c .args .operand) (c .args .length) (search needs) (c .pre .0) (c .pre .1)
 
 pub written-spec : {M : Type 1} → statement M
 written-spec =

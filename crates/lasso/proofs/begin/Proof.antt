@@ -2,7 +2,7 @@
 -- nothing.
 use borrow.Author.Needs.{needs}
 use native.Mathlib.Omega.{arith}
-use Rattle.lasso.proofs.CodeWritten.{held-end, same-room}
+use Rattle.lasso.proofs.CodeWritten.{same-room}
 use Rattle.lasso.proofs.CodeOpen.{movable, movable-few}
 use Rattle.lasso.proofs.CodeRounds.{begun}
 use Rattle.lasso.proofs.begin.Statement.{statement}
@@ -19,28 +19,35 @@ fill-requires c κs = search needs
 
 passes-requires : tie.Need-passes-requires
 passes-requires c κs =
-    let start = c .before .before .before .before .before .before .before .before .before .before .before in
-    let open-in = c .before .before .before .before .before .before .before .before .open-in in
-    let listed = c .before .before .before .before .before .before .before .listed in
-    let fill = c .before .before .before .before .fill in (
-      movable-few _ _ _ _ (held-end _ _ (start .pre .0)) (movable _ _ _ _ _ (open-in .ensures) (listed .ensures)),
-      same-room _ _
-          _ _ (start .pre .1) (omega (arith, start .pre .1 .words, fill .ensures .long)),
-    )
+    let fill = c .before .before .before .before in
+    let listed = fill .before .before .before in
+    let mask = listed .before in
+    let pre = mask .before .before .before .pre in
+    record {
+      few = movable-few _ _ _ _ (pre .held) (movable _ _ _ _ _ (mask .open-in .ensures) (listed .listed .ensures));
+      room = same-room _ (pre .room) (omega (arith, pre .room .words, fill .fill .ensures .long));
+    }
 
 same-length : tie.Need-same-length
 same-length c = search needs
 
 returns : tie.Need-returns
 returns c =
-    let start = c .before .before .before .before .before .before .before .before .before .before .before .before .before .before in
-    let open-in = c .before .before .before .before .before .before .before .before .before .before .before .open-in in
-    let listed = c .before .before .before .before .before .before .before .before .before .before .listed in
-    let fill = c .before .before .before .before .before .before .before .fill in
-    let passes = c .before .before .passes in
-    begun _ _ _ _ _ _ _ _ _ _ (start .pre .1) (start .pre .0) (open-in .ensures) (listed .ensures) (fill .ensures) (passes .ensures)
+    let passes = c .before .before in
+    let fill = passes .before .before .before .before .before in
+    let listed = fill .before .before .before in
+    let mask = listed .before in
+    let pre = mask .before .before .before .pre in
+    begun _ _ _ _ _ _ _ _ _ _ (pre .room) (pre .held) (mask .open-in .ensures) (listed .listed .ensures) (fill .fill .ensures)
+    (passes .passes .ensures)
 
 pub begin-spec : {M : Type 1} → statement M
 begin-spec =
     tie.close
-    (tie.spec open-in-requires listed-requires fill-requires passes-requires same-length returns)
+    (tie.spec
+    open-in-requires
+    listed-requires
+    fill-requires
+    passes-requires
+    same-length
+    returns)

@@ -15,14 +15,15 @@ same-length c = search needs
 
 returns : tie.Need-returns
 returns c =
-    let label-open = c .before .before .label-open in
-    let start = c .before .before .before .before .before .before .before .before in
-    let closed = c .before .before .before .before .before .closed in
-    let if1 = c .before .before .before .before .if1 in
-    closing-done _ _ _ _ _ (label-open .ensures) (start .pre .0) (closed .ensures .yes (if1 .taken))
+    let opened = c .before .before in
+    let test = opened .before .before in
+    let closed = test .before in
+    let pre = closed .before .before .before .pre in
+    closing-done _ _ _ _ _ (opened .label-open .ensures) (pre .held) (closed .closed .ensures .yes (test .if1 .taken))
 
 returns-2 : tie.Need-returns-2
 returns-2 c = closing-none _ _ _ _ (c .before .closed .ensures .no (c .if1 .left))
 
 pub close-spec : {M : Type 1} → statement M
-close-spec = tie.close (tie.spec closed-requires label-open-requires same-length returns returns-2)
+close-spec =
+    tie.close (tie.spec closed-requires label-open-requires same-length returns returns-2)

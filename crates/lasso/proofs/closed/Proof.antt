@@ -2,58 +2,54 @@
 -- nothing.
 use borrow.Author.Needs.{needs}
 use native.Mathlib.Omega.{arith}
-use mathlib.Core.Path.{_≡_, sym, _∙_}
+use mathlib.Core.Path.{_≡_, sym, ap, _∙_}
 use Prim.Native.Nat.{ℕ, _-_, _≤_, _<_}
 use mathlib.Core.Bool.{false, true≢false, false≢true}
+use mathlib.Core.List.{List}
 use borrow.Author.Count.{below-more}
-use Rattle.formula.specs.Rows.{operator-at}
+use Rattle.formula.specs.Rows.{operator-at, end-at}
 use Rattle.lasso.specs.Promise.{outside-of}
-use Rattle.lasso.proofs.CodeWritten.{few, held-end}
+use Rattle.lasso.proofs.CodeWritten.{few, held-inside, held-placed}
 use Rattle.lasso.proofs.closed.Statement.{statement}
 use Rattle.lasso.proofs.closed.Tie as tie
 
+-- the numbers from e up to k are passed
+record Passing (rows : List ℕ) (e end k : ℕ) : Type 0 where
+  pub last : end ≡ end-at rows e
+  pub from : e ≤ k
+  pub none : (j : ℕ) → j < k → e ≤ j → outside-of e (operator-at rows j) ≡ false
+
 abbrev Inv-loop : tie.InvT-loop
-Inv-loop rows s e end k₀ k = (end ≤ 48) × ((e ≤ k) × ((j : ℕ) → j < k → e ≤ j → outside-of e (operator-at rows j) ≡ false))
+Inv-loop rows s e end k₀ k = Passing rows e end k
 
 abbrev μ-loop : tie.MeasureT-loop
 μ-loop rows s e end k₀ k = end - k
 
-add-wide : tie.Need-add-wide Inv-loop μ-loop
-add-wide c = omega (arith, few _ _ (c .pre))
-
-element-copy-out-wide : tie.Need-element-copy-out-wide Inv-loop μ-loop
-element-copy-out-wide c = omega (arith, few _ _ (c .pre))
-
-wide-requires : tie.Need-wide-requires Inv-loop μ-loop
-wide-requires c κs = search needs
+end-requires : tie.Need-end-requires Inv-loop μ-loop
+end-requires c κs = few _ _ (c .pre)
 
 loop-holds : tie.Need-loop-holds Inv-loop μ-loop
-loop-holds c =
-    let start = c .before .before in
-    (omega (arith, held-end _ _ (start .pre), c .wide .ensures), (omega arith, λ k l m. absurd (omega arith)))
+loop-holds c = record { last = c .end .ensures; from = omega arith; none = λ j l m. absurd (omega arith) }
 
-element-copy-out-outside : tie.Need-element-copy-out-outside Inv-loop μ-loop
-element-copy-out-outside c = omega arith
-
-add-outside : tie.Need-add-outside Inv-loop μ-loop
-add-outside c = search needs
-
-element-copy-out-outside-2 : tie.Need-element-copy-out-outside-2 Inv-loop μ-loop
-element-copy-out-outside-2 c = search needs
+operator-at-requires : tie.Need-operator-at-requires Inv-loop μ-loop
+operator-at-requires c κs =
+    let start = c .before .before .before in
+    let loop = c .before .loop in
+    held-placed _ _ (held-inside _ _ (start .pre) (loop .k) (loop .inv .from) (omega (arith, loop .inv .last, c .loop-test .taken)))
 
 outside-requires : tie.Need-outside-requires Inv-loop μ-loop
 outside-requires c κs = search needs
 
 returns : tie.Need-returns Inv-loop μ-loop
 returns c =
-    let loop = c .before .before .before .before .before .loop in
-    let wide = c .before .before .before .before .before .before .wide in
-    let test = c .before .before .before .before .loop-test in
+    let loop = c .before .before .before .before .loop in
+    let test = c .before .before .before .loop-test in
+    let operator = c .before .before .operator-at in
     record {
       yes = λ q. absurd (false≢true q);
       no = λ _ alone. true≢false
-          (sym (c .if1 .taken) ∙ c .before .outside .ensures (loop .k) (loop .inv .1 .0) ∙ alone (loop .k) (loop .inv .1 .0)
-          (omega (arith, wide .ensures, test .taken)));
+          (sym (c .if1 .taken) ∙ c .before .outside .ensures ∙ sym (ap (outside-of _) (operator .ensures))
+          ∙ alone (loop .k) (loop .inv .from) (omega (arith, loop .inv .last, test .taken)));
     }
 
 add-k : tie.Need-add-k Inv-loop μ-loop
@@ -64,23 +60,19 @@ loop-less c = search needs
 
 loop-again : tie.Need-loop-again Inv-loop μ-loop
 loop-again c =
-    let loop = c .before .before .before .before .before .loop in (
-      loop .inv .0,
-      (
-        omega (arith, loop .inv .1 .0),
-        below-more _ _ (loop .inv .1 .1)
-            (λ m. sym (c .before .outside .ensures (loop .k) m) ∙ c .if1 .left),
-      ),
-    )
+    let loop = c .before .before .before .before .loop in
+    let operator = c .before .before .operator-at in
+    record {
+      last = loop .inv .last;
+      from = omega (arith, loop .inv .from);
+      none = below-more _ _ (loop .inv .none)
+          (λ m. ap (outside-of _) (operator .ensures) ∙ sym (c .before .outside .ensures) ∙ c .if1 .left);
+    }
 
 returns-2 : tie.Need-returns-2 Inv-loop μ-loop
 returns-2 c =
-    let wide = c .before .before .wide in
-    record {
-      yes = λ _ k l m. c .before .loop .inv .1 .1 k (omega (arith, c .loop-test .left, wide .ensures)) l;
-      no = λ q.
-          absurd (true≢false q);
-    }
+    let inv = c .before .loop .inv in
+    record { yes = λ _ k l m. inv .none k (omega (arith, c .loop-test .left, inv .last)) l; no = λ q. absurd (true≢false q) }
 
 pub closed-spec : {M : Type 1} → statement M
 closed-spec =
@@ -88,13 +80,9 @@ closed-spec =
     (tie.spec
     Inv-loop
     μ-loop
-    add-wide
-    element-copy-out-wide
-    wide-requires
+    end-requires
     loop-holds
-    element-copy-out-outside
-    add-outside
-    element-copy-out-outside-2
+    operator-at-requires
     outside-requires
     returns
     add-k

@@ -1,26 +1,22 @@
 -- `lasso::depth` counts at most one for each number passed. Assumes nothing.
 use borrow.Author.Needs.{needs}
-use Prim.Native.Nat.{_-_, _≤_}
+use Prim.Native.Nat.{ℕ, _-_, _≤_}
 use Rattle.lasso.proofs.depth.Statement.{statement}
 use Rattle.lasso.proofs.depth.Tie as tie
 
+-- what the loop keeps
+record Counting (e count k : ℕ) : Type 0 where
+  pub fewer : count ≤ k
+  pub few : k ≤ e
+
 abbrev Inv-loop : tie.InvT-loop
-Inv-loop rows s e count₀ k₀ count k = (count ≤ k) × (k ≤ e)
+Inv-loop rows s e count₀ k₀ count k = Counting e count k
 
 abbrev μ-loop : tie.MeasureT-loop
 μ-loop rows s e count₀ k₀ count k = e - k
 
 loop-holds : tie.Need-loop-holds Inv-loop μ-loop
 loop-holds c = search needs
-
-element-copy-out-spans : tie.Need-element-copy-out-spans Inv-loop μ-loop
-element-copy-out-spans c = search needs
-
-add-spans : tie.Need-add-spans Inv-loop μ-loop
-add-spans c = search needs
-
-element-copy-out-spans-2 : tie.Need-element-copy-out-spans-2 Inv-loop μ-loop
-element-copy-out-spans-2 c = search needs
 
 spans-requires : tie.Need-spans-requires Inv-loop μ-loop
 spans-requires c κs = search needs
@@ -47,9 +43,6 @@ depth-spec =
     Inv-loop
     μ-loop
     loop-holds
-    element-copy-out-spans
-    add-spans
-    element-copy-out-spans-2
     spans-requires
     add-count
     add-k

@@ -21,7 +21,7 @@ judge-requires c κs =
 returns : tie.Need-returns
 returns c =
     let read = c .before .before .before .before .read in
-    truth-unread _ _ _ (read .result) (read .ensures .0) _ (c .before .outcome .given .1)
+    truth-unread _ _ _ (read .result) (read .ensures .0) (c .before .outcome .given .1)
 
 same-length : tie.Need-same-length
 same-length c = search needs

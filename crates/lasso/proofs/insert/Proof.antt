@@ -2,19 +2,25 @@
 use borrow.Author.Needs.{needs}
 use native.Mathlib.Omega.{arith}
 use mathlib.Core.Path.{_≡_, refl}
-use Prim.Native.Nat.{_-_, _≤_}
+use mathlib.Core.List.{List}
+use Prim.Native.Nat.{ℕ, _-_, _≤_}
 use lib.ListN.{length, length-set}
 use Rattle.lasso.proofs.insert.Statement.{statement}
 use Rattle.lasso.proofs.insert.Tie as tie
 
+-- what the loop keeps
+record Within (keys₀ : List ℕ) (count : ℕ) (keys : List ℕ) (j : ℕ) : Type 0 where
+  pub few : j ≤ count
+  pub long : length keys ≡ length keys₀
+
 abbrev Inv-loop : tie.InvT-loop
-Inv-loop keys₀ count key carried₀ j₀ keys carried j = (j ≤ count) × (length keys ≡ length keys₀)
+Inv-loop keys₀ count key carried₀ j₀ keys carried j = Within keys₀ count keys j
 
 abbrev μ-loop : tie.MeasureT-loop
 μ-loop keys₀ count key carried₀ j₀ keys carried j = count - j
 
 loop-holds : tie.Need-loop-holds Inv-loop μ-loop
-loop-holds c = (omega arith, refl)
+loop-holds c = record { few = omega arith; long = refl }
 
 mul-held : tie.Need-mul-held Inv-loop μ-loop
 mul-held c = search needs
@@ -35,7 +41,7 @@ loop-less : tie.Need-loop-less Inv-loop μ-loop
 loop-less c = search needs
 
 loop-again : tie.Need-loop-again Inv-loop μ-loop
-loop-again c = (omega arith, simp length-set (omega arith))
+loop-again c = record { few = omega arith; long = simp length-set (omega arith) }
 
 add-j-2 : tie.Need-add-j-2 Inv-loop μ-loop
 add-j-2 c = search needs

@@ -2,23 +2,30 @@
 use borrow.Author.Needs.{needs}
 use native.Mathlib.Omega.{arith}
 use mathlib.Core.Path.{_≡_, refl, sym, _∙_}
-use Prim.Native.Nat.{ℕ, _-_, _≤_, _<_}
 use mathlib.Core.Bool.{true}
+use mathlib.Core.List.{List}
+use Prim.Native.Nat.{ℕ, _-_, _≤_, _<_}
 use lib.ListN.{length, getD, length-set}
 use Rattle.base.specs.Bits.{bit}
 use Rattle.lasso.proofs.CodePass.{listed-more}
 use Rattle.lasso.proofs.listed.Statement.{statement}
 use Rattle.lasso.proofs.listed.Tie as tie
 
+-- the first j keys are looked at, and so many numbers listed
+record Listing (mask : ℕ) (list : List ℕ) (count j : ℕ) : Type 0 where
+  pub fewer : count ≤ j
+  pub few : j ≤ 48
+  pub long : length list ≡ 48
+  pub all : (i : ℕ) → i < count → bit mask (getD list i 0) ≡ true
+
 abbrev Inv-loop : tie.InvT-loop
-Inv-loop keys mask list₀ count₀ j₀ list count j =
-    (count ≤ j) × ((j ≤ 48) × ((length list ≡ 48) × ((i : ℕ) → i < count → bit mask (getD list i 0) ≡ true)))
+Inv-loop keys mask list₀ count₀ j₀ list count j = Listing mask list count j
 
 abbrev μ-loop : tie.MeasureT-loop
 μ-loop keys mask list₀ count₀ j₀ list count j = 48 - j
 
 loop-holds : tie.Need-loop-holds Inv-loop μ-loop
-loop-holds c = (omega arith, (omega arith, (refl, λ i l. absurd (omega arith))))
+loop-holds c = record { fewer = omega arith; few = omega arith; long = refl; all = λ i l. absurd (omega arith) }
 
 mul-k : tie.Need-mul-k Inv-loop μ-loop
 mul-k c = search needs
@@ -50,17 +57,14 @@ loop-less c = search needs
 loop-again : tie.Need-loop-again Inv-loop μ-loop
 loop-again c =
     let loop = c .before .before .before .before .loop in
-    let start = c .before .before .before .before .before in (
-      omega arith,
-      (
-        omega arith,
-        (
-          simp length-set (loop .inv .1 .1 .0),
-          listed-more (start .args .mask) (loop .list) (loop .count) _
-              (omega (arith, loop .inv .1 .1 .0)) (loop .inv .1 .1 .1) (sym (c .before .has .ensures) ∙ c .if1 .taken),
-        ),
-      ),
-    )
+    let args = c .before .before .before .before .before .args in
+    record {
+      fewer = omega arith;
+      few = omega arith;
+      long = simp length-set (loop .inv .long);
+      all = listed-more (args .mask) (loop .list) (loop .count) _ (omega (arith, loop .inv .long)) (loop .inv .all)
+          (sym (c .before .has .ensures) ∙ c .if1 .taken);
+    }
 
 add-j-2 : tie.Need-add-j-2 Inv-loop μ-loop
 add-j-2 c = search needs
@@ -72,7 +76,7 @@ loop-again-2 : tie.Need-loop-again-2 Inv-loop μ-loop
 loop-again-2 c = search needs
 
 returns : tie.Need-returns Inv-loop μ-loop
-returns c = record { counted = omega arith; all = c .before .loop .inv .1 .1 .1 }
+returns c = record { counted = omega arith; all = c .before .loop .inv .all }
 
 pub listed-spec : {M : Type 1} → statement M
 listed-spec =

@@ -3,115 +3,105 @@
 use borrow.Author.Needs.{needs}
 use native.Mathlib.Omega.{arith}
 use mathlib.Core.Path.{_≡_}
-use Prim.Native.Nat.{_-_}
+use mathlib.Core.List.{List}
+use Prim.Native.Nat.{ℕ, _-_}
 use Rattle.formula.specs.Rows.{end-at}
-use Rattle.lasso.proofs.CodeWritten.{few, held-end}
-use Rattle.lasso.proofs.CodeOpen.{held-inside, inside-some, Opening, opening-first, opening-past, opening-more, opening-end}
+use Rattle.lasso.proofs.CodeWritten.{few, held-end, held-inside}
+use Rattle.lasso.proofs.CodeOpen.{inside-some, Opening, opening-first, opening-past, opening-more, opening-end}
 use Rattle.lasso.proofs.open_in.Statement.{statement}
 use Rattle.lasso.proofs.open_in.Tie as tie
 
+-- what the loop keeps: where e ends, and what is found before k
+record Going (rows : List ℕ) (e end k mask : ℕ) : Type 0 where
+  pub last : end ≡ end-at rows e
+  pub opening : Opening rows e k mask
+
 abbrev Inv-loop : tie.InvT-loop
-Inv-loop rows e end mask₀ k₀ mask k = (end ≡ end-at rows e) × Opening rows e k mask
+Inv-loop rows e end mask₀ k₀ mask k = Going rows e end k mask
 
 abbrev μ-loop : tie.MeasureT-loop
 μ-loop rows e end mask₀ k₀ mask k = end - k
 
-add-wide : tie.Need-add-wide Inv-loop μ-loop
-add-wide c = omega (arith, few _ _ (c .pre))
-
-element-copy-out-wide : tie.Need-element-copy-out-wide Inv-loop μ-loop
-element-copy-out-wide c = omega (arith, few _ _ (c .pre))
-
-wide-requires : tie.Need-wide-requires Inv-loop μ-loop
-wide-requires c κs = search needs
+end-requires : tie.Need-end-requires Inv-loop μ-loop
+end-requires c κs = few _ _ (c .pre)
 
 power-requires : tie.Need-power-requires Inv-loop μ-loop
-power-requires c κs = omega (arith, few _ _ (c .before .before .pre))
+power-requires c κs = omega (arith, few _ _ (c .before .pre))
 
 add-k : tie.Need-add-k Inv-loop μ-loop
-add-k c = omega (arith, few _ _ (c .before .before .before .pre))
+add-k c = omega (arith, few _ _ (c .before .before .pre))
 
 loop-holds : tie.Need-loop-holds Inv-loop μ-loop
-loop-holds c = (c .before .wide .ensures, opening-first _ _ _ (c .before .before .before .pre) (c .power .ensures))
+loop-holds c =
+    record { last = c .before .end .ensures; opening = opening-first _ _ _ (c .before .before .pre) (c .power .ensures) }
 
 closed-requires : tie.Need-closed-requires Inv-loop μ-loop
 closed-requires c κs =
-    let start = c .before .before .before .before .before in
-    held-inside _ _ (start .pre) _ (omega (arith, c .before .loop .inv .1 .behind))
-    (omega (arith, c .before .loop .inv .0, c .loop-test .taken))
+    let inv = c .before .loop .inv in
+    let held = c .before .before .before .before .pre in
+    held-inside _ _ held _ (omega (arith, inv .opening .behind)) (omega (arith, inv .last, c .loop-test .taken))
 
-add-wide-2 : tie.Need-add-wide-2 Inv-loop μ-loop
-add-wide-2 c =
-    let loop = c .before .before .before .loop in
+end-requires-2 : tie.Need-end-requires-2 Inv-loop μ-loop
+end-requires-2 c κs =
+    let inv = c .before .before .before .loop .inv in
     let test = c .before .before .loop-test in
-    let start = c .before .before .before .before .before .before .before in
-    omega (arith, loop .inv .0, test .taken, held-end _ _ (start .pre))
-
-element-copy-out-wide-2 : tie.Need-element-copy-out-wide-2 Inv-loop μ-loop
-element-copy-out-wide-2 c =
-    let loop = c .before .before .before .loop in
-    let test = c .before .before .loop-test in
-    let start = c .before .before .before .before .before .before .before in
-    omega (arith, loop .inv .0, test .taken, held-end _ _ (start .pre))
-
-wide-requires-2 : tie.Need-wide-requires-2 Inv-loop μ-loop
-wide-requires-2 c κs = search needs
+    let held = c .before .before .before .before .before .before .pre in
+    omega (arith, inv .last, test .taken, held-end _ _ held)
 
 loop-less : tie.Need-loop-less Inv-loop μ-loop
 loop-less c =
-    let test = c .before .before .before .before .loop-test in
-    let start = c .before .before .before .before .before .before .before .before .before in
-    let loop = c .before .before .before .before .before .loop in
-    omega (
-      arith,
-      c .wide2 .ensures,
-      test .taken,
-      inside-some _ _ (start .pre) (loop .k) (omega (arith, loop .inv .1 .behind))
-          (omega (arith, loop .inv .0, test .taken)),
-    )
+    let loop = c .before .before .before .before .loop in
+    let test = c .before .before .before .loop-test in
+    let inv = loop .inv in
+    let held = c .before .before .before .before .before .before .before .pre in
+    let some = inside-some _ _ held (loop .k) (omega (arith, inv .opening .behind)) (omega (arith, inv .last, test .taken)) in
+    omega (arith, c .end2 .ensures, test .taken, some)
 
 loop-again : tie.Need-loop-again Inv-loop μ-loop
 loop-again c =
-    let loop = c .before .before .before .before .before .loop in
-    let start = c .before .before .before .before .before .before .before .before .before in
-    let test = c .before .before .before .before .loop-test in
-    let closed = c .before .before .before .closed in
-    let if1 = c .before .before .if1 in (
-      loop .inv .0,
-      opening-past _ _ _ _ (start .pre) (loop .inv .1) (omega (arith, loop .inv .0, test .taken))
-          (closed .ensures .yes (if1 .taken)) _ (c .wide2 .ensures),
-    )
+    let inv = c .before .before .before .before .loop .inv in
+    let test = c .before .before .before .loop-test in
+    let closed = c .before .before .closed in
+    let held = c .before .before .before .before .before .before .before .pre in
+    record {
+      last = inv .last;
+      opening = opening-past _ _ _ _ held (inv .opening) (omega (arith, inv .last, test .taken))
+          (closed .ensures .yes (c .before .if1 .taken)) _ (c .end2 .ensures);
+    }
 
 power-requires-2 : tie.Need-power-requires-2 Inv-loop μ-loop
 power-requires-2 c κs =
-    let loop = c .before .before .before .loop in
+    let inv = c .before .before .before .loop .inv in
     let test = c .before .before .loop-test in
-    let start = c .before .before .before .before .before .before .before in
-    omega (arith, loop .inv .0, test .taken, held-end _ _ (start .pre))
+    let held = c .before .before .before .before .before .before .pre in
+    omega (arith, inv .last, test .taken, held-end _ _ held)
 
 add-k-2 : tie.Need-add-k-2 Inv-loop μ-loop
 add-k-2 c =
-    let loop = c .before .before .before .before .loop in
+    let inv = c .before .before .before .before .loop .inv in
     let test = c .before .before .before .loop-test in
-    let start = c .before .before .before .before .before .before .before .before in
-    omega (arith, loop .inv .0, test .taken, held-end _ _ (start .pre))
+    let held = c .before .before .before .before .before .before .before .pre in
+    omega (arith, inv .last, test .taken, held-end _ _ held)
 
 loop-less-2 : tie.Need-loop-less-2 Inv-loop μ-loop
 loop-less-2 c = search needs
 
 loop-again-2 : tie.Need-loop-again-2 Inv-loop μ-loop
 loop-again-2 c =
-    let loop = c .before .before .before .before .loop in
-    let start = c .before .before .before .before .before .before .before .before in
+    let inv = c .before .before .before .before .loop .inv in
     let test = c .before .before .before .loop-test in
-    let closed = c .before .before .closed in (
-      loop .inv .0,
-      opening-more _ _ _ _ (start .pre) (loop .inv .1) (omega (arith, loop .inv .0, test .taken))
-          (closed .ensures .no (c .before .if1 .left)) _ (c .power2 .ensures),
-    )
+    let closed = c .before .before .closed in
+    let held = c .before .before .before .before .before .before .before .pre in
+    record {
+      last = inv .last;
+      opening = opening-more _ _ _ _ held (inv .opening) (omega (arith, inv .last, test .taken))
+          (closed .ensures .no (c .before .if1 .left)) _ (c .power2 .ensures);
+    }
 
 returns : tie.Need-returns Inv-loop μ-loop
-returns c = opening-end _ _ _ _ (omega (arith, c .before .loop .inv .0, c .loop-test .left)) (c .before .loop .inv .1)
+returns c =
+    let inv = c .before .loop .inv in
+    opening-end _ _ _ _ (omega (arith, inv .last, c .loop-test .left)) (inv .opening)
 
 pub open-in-spec : {M : Type 1} → statement M
 open-in-spec =
@@ -119,16 +109,12 @@ open-in-spec =
     (tie.spec
     Inv-loop
     μ-loop
-    add-wide
-    element-copy-out-wide
-    wide-requires
+    end-requires
     power-requires
     add-k
     loop-holds
     closed-requires
-    add-wide-2
-    element-copy-out-wide-2
-    wide-requires-2
+    end-requires-2
     loop-less
     loop-again
     power-requires-2

@@ -2,26 +2,29 @@
 use borrow.Author.Needs.{needs}
 use native.Mathlib.Omega.{arith}
 use mathlib.Core.Path.{_≡_}
-use Prim.Native.Nat.{_-_, _≤_}
+use mathlib.Core.List.{List}
+use Prim.Native.Nat.{ℕ, _-_, _≤_}
 use lib.ListN.{length}
 use Rattle.lasso.proofs.CodeWritten.{held-end}
 use Rattle.lasso.proofs.order.Statement.{statement}
 use Rattle.lasso.proofs.order.Tie as tie
 
+-- what the loop keeps
+record Within (end : ℕ) (keys : List ℕ) : Type 0 where
+  pub long : length keys ≡ 48
+  pub few : end ≤ 48
+
 abbrev Inv-loop : tie.InvT-loop
-Inv-loop rows end keys₀ k₀ keys k = (length keys ≡ 48) × (end ≤ 48)
+Inv-loop rows end keys₀ k₀ keys k = Within end keys
 
 abbrev μ-loop : tie.MeasureT-loop
 μ-loop rows end keys₀ k₀ keys k = end - k
 
-element-copy-out-wide : tie.Need-element-copy-out-wide Inv-loop μ-loop
-element-copy-out-wide c = search needs
-
-wide-requires : tie.Need-wide-requires Inv-loop μ-loop
-wide-requires c κs = search needs
+end-requires : tie.Need-end-requires Inv-loop μ-loop
+end-requires c κs = search needs
 
 loop-holds : tie.Need-loop-holds Inv-loop μ-loop
-loop-holds c = (search needs, omega (arith, c .wide .ensures, held-end _ _ (c .before .before .pre)))
+loop-holds c = record { long = search needs; few = omega (arith, c .end .ensures, held-end _ _ (c .before .pre)) }
 
 depth-requires : tie.Need-depth-requires Inv-loop μ-loop
 depth-requires c κs = search needs
@@ -59,8 +62,7 @@ order-spec =
     (tie.spec
     Inv-loop
     μ-loop
-    element-copy-out-wide
-    wide-requires
+    end-requires
     loop-holds
     depth-requires
     mul-key

@@ -23,10 +23,13 @@ loop-holds c = passed-none _ _ _ _ _ _
 
 pass-requires-2 : tie.Need-pass-requires-2 Inv-loop μ-loop
 pass-requires-2 c κs =
-    let start = c .before .before .before .before .before .before .before .before .before in
+    let pre = c .before .before .before .before .before .before .before .before .before .pre in
     let pass = c .before .before .before .before .before .pass in
     let loop = c .before .before .loop in
-    (start .pre .0, same-room _ _ _ _ (start .pre .1) (omega (arith, start .pre .1 .words, pass .ensures .long, loop .inv .long)))
+    record {
+      few = pre .few;
+      room = same-room _ (pre .room) (omega (arith, pre .room .words, pass .ensures .long, loop .inv .long));
+    }
 
 sub-left : tie.Need-sub-left Inv-loop μ-loop
 sub-left c = search needs
@@ -36,15 +39,13 @@ loop-less c = search needs
 
 loop-again : tie.Need-loop-again Inv-loop μ-loop
 loop-again c =
-    let loop = c .before .before .before .before .before .before .loop in
-    let pass2 = c .before .before .before .pass2 in
-    passed-then _ _ _ _ _ _ _ _ (loop .inv) (pass2 .ensures)
+    passed-then _ _ _ _ _ _ _ _ (c .before .before .before .before .before .before .loop .inv) (c .before .before .before .pass2 .ensures)
 
 same-length : tie.Need-same-length Inv-loop μ-loop
 same-length c =
     let pass = c .before .before .before .before .before .before .before .before .before .pass in
-    let pass2 = c .before .before .before .pass2 in
     let loop = c .before .before .before .before .before .before .loop in
+    let pass2 = c .before .before .before .pass2 in
     omega (arith, pass .ensures .long, pass2 .ensures .long, loop .inv .long)
 
 returns : tie.Need-returns Inv-loop μ-loop

@@ -2,36 +2,50 @@
 -- were. Assumes nothing.
 use borrow.Author.Needs.{needs}
 use native.Mathlib.Omega.{arith}
-use Prim.Native.Nat.{_≤_, _-_}
-use mathlib.Core.Path.{_≡_, refl}
-use mathlib.Core.Bool.{false, true≢false}
-use Rattle.formula.specs.Reading.{opcode}
-use Rattle.formula.specs.Rows.{operator-of}
+use mathlib.Core.Path.{_≡_, refl, subst}
+use mathlib.Core.Bool.{Bool, false, true≢false}
+use mathlib.Core.List.{List}
+use Prim.Native.Nat.{ℕ, _≤_, _-_}
+use lib.ListN.{length}
+use Rattle.formula.specs.Rows.{operator-at}
+use Rattle.formula.specs.Access.{Fits}
+use Rattle.lasso.specs.Lasso.{Lasso}
 use Rattle.lasso.specs.Answer.{lasso}
 use Rattle.lasso.specs.Promise.{local-at, Swept}
-use Rattle.lasso.proofs.CodeSweep.{swept-none, swept-put, swept-same, swept-end, as-before}
+use Rattle.lasso.proofs.CodeWritten.{few, held-placed, shaped}
+use Rattle.lasso.proofs.CodeSweep.{changed-none, changed-put, changed-same, changed-end, as-before}
 use Rattle.lasso.proofs.sweep.Statement.{statement}
 use Rattle.lasso.proofs.sweep.Tie as tie
 
+-- the first i words are swept
+record Sweeping (rows : List ℕ) (c : Lasso) (e : ℕ) (w v : List ℕ) (changed : Bool) (i : ℕ) : Type 0 where
+  pub few : i ≤ length (c .letters)
+  pub swept : Swept i e (local-at c (operator-at rows e) w) w v
+  pub still : changed ≡ false → v ≡ w
+
 abbrev Inv-loop : tie.InvT-loop
-Inv-loop letters stem words₀ s op argument e n changed₀ i₀ words changed i =
-    (i ≤ n) × (Swept i e (local-at (lasso letters stem) (operator-of (opcode op) argument e) words₀) words₀ words ×
-    (changed ≡ false → words ≡ words₀))
+Inv-loop rows letters stem words₀ e op n changed₀ i₀ words changed i =
+    Sweeping rows (lasso letters stem) e words₀ words changed i
 
 abbrev μ-loop : tie.MeasureT-loop
-μ-loop letters stem words₀ s op argument e n changed₀ i₀ words changed i = n - i
+μ-loop rows letters stem words₀ e op n changed₀ i₀ words changed i = n - i
+
+operator-at-requires : tie.Need-operator-at-requires Inv-loop μ-loop
+operator-at-requires c κs = held-placed _ _ (c .before .before .pre .held)
 
 loop-holds : tie.Need-loop-holds Inv-loop μ-loop
-loop-holds c = (omega arith, (swept-none _ _ _, λ _. refl))
+loop-holds c = record { few = omega arith; swept = changed-none _ _ _; still = λ _. refl }
 
 successor-requires : tie.Need-successor-requires Inv-loop μ-loop
-successor-requires c κs = search needs
+successor-requires c κs = (c .loop-test .taken, c .before .before .before .before .before .pre .room .cycle)
 
 mul-here : tie.Need-mul-here Inv-loop μ-loop
 mul-here c = search needs
 
 slice-read-here : tie.Need-slice-read-here Inv-loop μ-loop
-slice-read-here c = search needs
+slice-read-here c =
+    let pre = c .before .before .before .before .before .before .before .pre in
+    omega (arith, pre .room .words, c .before .before .before .loop .inv .swept .long)
 
 mul-holds-at : tie.Need-mul-holds-at Inv-loop μ-loop
 mul-holds-at c = search needs
@@ -43,13 +57,20 @@ mul-holds-at-2 : tie.Need-mul-holds-at-2 Inv-loop μ-loop
 mul-holds-at-2 c = search needs
 
 slice-read-holds-at : tie.Need-slice-read-holds-at Inv-loop μ-loop
-slice-read-holds-at c = search needs
+slice-read-holds-at c =
+    let pre = c .before .before .before .before .before .before .before .before .before .pre in
+    let next = c .before .before .before .successor in
+    omega (arith, pre .room .words, next .ensures .1, c .before .before .before .before .before .loop .inv .swept .long)
 
 holds-at-requires : tie.Need-holds-at-requires Inv-loop μ-loop
-holds-at-requires c κs = search needs
+holds-at-requires c κs =
+    let pre = c .before .before .before .before .before .before .before .before .before .pre in
+    let operator = c .before .before .before .before .before .before .operator-at in
+    subst (Fits 48) (operator .ensures) (held-placed _ _ (pre .held) .fits)
 
 with-requires : tie.Need-with-requires Inv-loop μ-loop
-with-requires c κs = search needs
+with-requires c κs =
+    omega (arith, few _ _ (c .before .before .before .before .before .before .before .before .before .before .pre .held))
 
 add-i : tie.Need-add-i Inv-loop μ-loop
 add-i c = search needs
@@ -59,26 +80,29 @@ loop-less c = search needs
 
 loop-again : tie.Need-loop-again Inv-loop μ-loop
 loop-again c =
-    let loop = c .before .before .before .before .before .before .before .before .loop in
-    let start = c .before .before .before .before .before .before .before .before .before .before .before in
-    let successor = c .before .before .before .before .before .before .successor in
-    let holds-at = c .before .before .holds-at in
-    let inv = loop .inv in
-    let start = start .args in (
-      omega arith,
-      (
-        swept-same _ _ _ _ _ (inv .1 .0) _ _ (omega arith) (c .before .with .ensures)
-            (as-before (lasso (start .letters .now) (start .stem)) (opcode (start .op)) (start .argument) _ _ _ _ _ _ _ (inv .1 .0)
-            (successor .ensures .0) (holds-at .ensures)) (c .if1 .taken),
-        inv .1 .1,
-      ),
-    )
+    let says = c .before .before in
+    let next = says .before .before .before .before in
+    let loop = next .before .before in
+    let inv = loop .loop .inv in
+    let operator = loop .before .operator-at in
+    let start = loop .before .before .before .before in
+    let held = start .pre .held in
+    record {
+      few = omega arith;
+      swept = changed-same _ _ _ _ _ (inv .swept) _ _ (omega (arith, start .pre .room .words)) (c .before .with .ensures)
+          (as-before (start .args .rows .now) (lasso (start .args .letters .now) (start .args .stem)) _ _ _ _ _ _ _
+          (shaped _ _ held .operands) (inv .swept) (next .successor .ensures .0) _ (operator .ensures) (says .holds-at .ensures))
+          (c .if1 .taken);
+      still = inv .still;
+    }
 
 mul-words : tie.Need-mul-words Inv-loop μ-loop
 mul-words c = search needs
 
 slice-write-words : tie.Need-slice-write-words Inv-loop μ-loop
-slice-write-words c = search needs
+slice-write-words c =
+    let pre = c .before .before .before .before .before .before .before .before .before .before .before .before .pre in
+    omega (arith, pre .room .words, c .before .before .before .before .before .before .before .before .loop .inv .swept .long)
 
 add-i-2 : tie.Need-add-i-2 Inv-loop μ-loop
 add-i-2 c = search needs
@@ -88,27 +112,28 @@ loop-less-2 c = search needs
 
 loop-again-2 : tie.Need-loop-again-2 Inv-loop μ-loop
 loop-again-2 c =
-    let loop = c .before .before .before .before .before .before .before .before .loop in
-    let start = c .before .before .before .before .before .before .before .before .before .before .before in
-    let successor = c .before .before .before .before .before .before .successor in
-    let holds-at = c .before .before .holds-at in
-    let inv = loop .inv in
-    let start = start .args in (
-      omega arith,
-      (
-        swept-put _ _ _ _ _ (inv .1 .0) _ _ (omega arith) (c .before .with .ensures)
-            (as-before (lasso (start .letters .now) (start .stem)) (opcode (start .op)) (start .argument) _ _ _ _ _ _ _ (inv .1 .0)
-            (successor .ensures .0) (holds-at .ensures)),
-        λ q. absurd (true≢false q),
-      ),
-    )
+    let says = c .before .before in
+    let next = says .before .before .before .before in
+    let loop = next .before .before in
+    let inv = loop .loop .inv in
+    let operator = loop .before .operator-at in
+    let start = loop .before .before .before .before in
+    let held = start .pre .held in
+    record {
+      few = omega arith;
+      swept = changed-put _ _ _ _ _ (inv .swept) _ _ (omega (arith, start .pre .room .words)) (c .before .with .ensures)
+          (as-before (start .args .rows .now) (lasso (start .args .letters .now) (start .args .stem)) _ _ _ _ _ _ _
+          (shaped _ _ held .operands) (inv .swept) (next .successor .ensures .0) _ (operator .ensures) (says .holds-at .ensures));
+      still = λ q. absurd (true≢false q);
+    }
 
 same-length : tie.Need-same-length Inv-loop μ-loop
-same-length c = search needs
+same-length c = c .before .loop .inv .swept .long
 
 returns : tie.Need-returns Inv-loop μ-loop
 returns c =
-    (swept-end _ _ _ (c .before .loop .inv .0) (c .loop-test .left) (c .before .loop .inv .1 .0), c .before .loop .inv .1 .1)
+    let inv = c .before .loop .inv in
+    record { swept = changed-end _ _ _ (inv .few) (c .loop-test .left) (inv .swept); still = inv .still }
 
 pub sweep-spec : {M : Type 1} → statement M
 sweep-spec =
@@ -116,6 +141,7 @@ sweep-spec =
     (tie.spec
     Inv-loop
     μ-loop
+    operator-at-requires
     loop-holds
     successor-requires
     mul-here

@@ -3,8 +3,7 @@
 use borrow.Author.Needs.{needs}
 use native.Mathlib.Omega.{arith}
 use Rattle.lasso.specs.Answer.{lasso}
-use Rattle.lasso.proofs.CodeWritten.{same-room}
-use Rattle.lasso.proofs.CodeOpen.{held-inside}
+use Rattle.lasso.proofs.CodeWritten.{held-inside, same-room}
 use Rattle.lasso.proofs.CodeWords.{Labelling, labelling-none, labelling-more, labelling-all, answered}
 use Rattle.lasso.proofs.whole.Statement.{statement}
 use Rattle.lasso.proofs.whole.Tie as tie
@@ -19,39 +18,35 @@ clear-requires : tie.Need-clear-requires Inv-loop μ-loop
 clear-requires c κs = search needs
 
 order-requires : tie.Need-order-requires Inv-loop μ-loop
-order-requires c κs = search needs
+order-requires c κs = c .before .before .before .before .before .before .pre .held
 
-element-copy-out-wide : tie.Need-element-copy-out-wide Inv-loop μ-loop
-element-copy-out-wide c = search needs
-
-wide-requires : tie.Need-wide-requires Inv-loop μ-loop
-wide-requires c κs = search needs
+end-requires : tie.Need-end-requires Inv-loop μ-loop
+end-requires c κs = search needs
 
 loop-holds : tie.Need-loop-holds Inv-loop μ-loop
-loop-holds c = labelling-none _ _ _ _ (c .wide .ensures)
+loop-holds c = labelling-none _ _ _ _ (c .end .ensures)
 
 sub-k : tie.Need-sub-k Inv-loop μ-loop
 sub-k c = search needs
 
 close-requires : tie.Need-close-requires Inv-loop μ-loop
 close-requires c κs =
-    let start = c .before .before .before .before .before .before .before .before .before .before .before .before .before in
-    let loop = c .before .before .before .loop in (
-      held-inside _ _ (start .pre .0) _ (omega arith) (omega (arith, loop .inv .few)),
-      same-room _ _ _ _ (start .pre .1)
-          (omega (arith, start .pre .1 .words)),
-    )
+    let pre = c .before .before .before .before .before .before .before .before .before .before .before .before .pre in
+    let loop = c .before .before .before .loop in
+    record {
+      held = held-inside _ _ (pre .held) _ (omega arith) (omega (arith, loop .inv .few));
+      room = same-room _ (pre .room) (omega (arith, pre .room .words));
+    }
 
 loop-less : tie.Need-loop-less Inv-loop μ-loop
 loop-less c = search needs
 
 loop-again : tie.Need-loop-again Inv-loop μ-loop
 loop-again c =
-    let start = c .before .before .before .before .before .before .before .before .before .before .before .before .before .before
-    .before .before in
-    let loop = c .before .before .before .before .before .before .loop in
-    let close = c .before .before .close in
-    labelling-more _ _ _ _ _ _ _ (start .pre .0) (omega arith) (loop .inv) (close .ensures)
+    let close = c .before .before in
+    let loop = close .before .before .before .before in
+    let pre = loop .before .before .before .before .before .before .before .before .before .pre in
+    labelling-more _ _ _ _ _ _ _ (pre .held) (omega arith) (loop .loop .inv) (close .close .ensures)
 
 slice-read-has : tie.Need-slice-read-has Inv-loop μ-loop
 slice-read-has c = search needs
@@ -64,11 +59,12 @@ same-length c = search needs
 
 returns : tie.Need-returns Inv-loop μ-loop
 returns c =
-    let start = c .before .before .before .before .before .before .before .before .before .before .before .before .before in
-    let clear = c .before .before .before .before .before .before .before .before .before .clear in
-    let test = c .before .before .loop-test in
-    let loop = c .before .before .before .loop in
-    answered _ _ _ _ _ _ (start .pre .1) (clear .ensures) (labelling-all _ _ _ _ _ (test .left) (loop .inv)) (c .has .ensures)
+    let test = c .before .before in
+    let loop = test .before in
+    let clear = loop .before .before .before .before .before in
+    let pre = clear .before .before .before .before .pre in
+    let all = labelling-all _ _ _ _ _ (test .loop-test .left) (loop .loop .inv) in
+    answered _ _ _ _ _ _ (pre .room) (clear .clear .ensures) all (c .has .ensures)
 
 pub whole-spec : {M : Type 1} → statement M
 whole-spec =
@@ -78,8 +74,7 @@ whole-spec =
     μ-loop
     clear-requires
     order-requires
-    element-copy-out-wide
-    wide-requires
+    end-requires
     loop-holds
     sub-k
     close-requires

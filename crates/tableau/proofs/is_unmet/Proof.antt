@@ -1,5 +1,6 @@
 -- `tableau::is_unmet` is the definition's test: the word has none of the bits for its picks at the first j ors.
 use mathlib.Core.Path.{_≡_}
+use mathlib.Core.List.{List}
 use Prim.Native.Nat.{ℕ, _-_, _≤_, _<_}
 use native.Mathlib.Omega.{arith}
 use borrow.Author.Needs.{needs}
@@ -9,14 +10,18 @@ use Rattle.tableau.proofs.UnmetLaws.{none-more, some-unmet, none-unmet}
 use Rattle.tableau.proofs.is_unmet.Statement.{statement}
 use Rattle.tableau.proofs.is_unmet.Tie as tie
 
+record None-to (unmet : List ℕ) (x j : ℕ) : Type 0 where
+  passed : j ≤ 12
+  none : (i : ℕ) → i < j → bitAnd x (unmet-at unmet x i) ≡ 0
+
 abbrev Inv-loop : tie.InvT-loop
-Inv-loop unmet choice-word j₀ j = (j ≤ 12) × ((i : ℕ) → i < j → bitAnd choice-word (unmet-at unmet choice-word i) ≡ 0)
+Inv-loop unmet choice-word j₀ j = None-to unmet choice-word j
 
 abbrev μ-loop : tie.MeasureT-loop
 μ-loop unmet choice-word j₀ j = 12 - j
 
 loop-holds : tie.Need-loop-holds Inv-loop μ-loop
-loop-holds c = (omega arith, λ i h. absurd (omega arith))
+loop-holds c = record { passed = omega arith; none = λ i h. absurd (omega arith) }
 
 shr-pick : tie.Need-shr-pick Inv-loop μ-loop
 shr-pick c = search needs
@@ -51,13 +56,13 @@ loop-again c =
     let start = c .before .before .before .before in
     let loop = c .before .before .before .loop in
     let a = start .args in
-    (omega arith, none-more (a .unmet .now) (a .choice-word) (loop .inv .1) (c .if1 .left))
+    record { passed = omega arith; none = none-more (a .unmet .now) (a .choice-word) (loop .inv .none) (c .if1 .left) }
 
 returns-2 : tie.Need-returns-2 Inv-loop μ-loop
 returns-2 c =
     let start = c .before .before in
     let a = start .args in
-    none-unmet (a .unmet .now) (a .choice-word) (λ i h. c .before .loop .inv .1 i (omega arith))
+    none-unmet (a .unmet .now) (a .choice-word) (λ i h. c .before .loop .inv .none i (omega arith))
 
 pub is-unmet-spec : {M : Type 1} → statement M
 is-unmet-spec =

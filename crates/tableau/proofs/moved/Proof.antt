@@ -1,128 +1,149 @@
--- `tableau::moved` puts in the operands that the moves of an operator go to: a look at each opcode.
+-- `tableau::moved` puts in the operands that the moves of an operator go to: a look at each operator.
+use Rattle.tableau.proofs.RowLaws.{found-fits, found-moves, found-variable, found-and, found-or, found-fixpoint}
+use mathlib.Core.Path.{refl, sym, _∙_}
 use mathlib.Core.Bool.{true, false}
-use Rattle.tableau.proofs.RowLaws.{moved-5, moved-6, moved-7, moved-fix, moved-none}
-use borrow.Author.Needs.{needs}
+use borrow.Author.Tests.{not-true, not-false}
 use native.Mathlib.Omega.{arith}
-use mathlib.Core.Path.{sym, _∙_}
+use borrow.Author.Needs.{needs}
 use Rattle.tableau.proofs.moved.Statement.{statement}
 use Rattle.tableau.proofs.moved.Tie as tie
 
-element-copy-out-op : tie.Need-element-copy-out-op
-element-copy-out-op c = search needs
+operator-at-requires : tie.Need-operator-at-requires
+operator-at-requires c κs = search needs
 
-add-wide : tie.Need-add-wide
-add-wide c = search needs
+enum-told : tie.Need-enum-told
+enum-told c = search needs
 
-element-copy-out-wide : tie.Need-element-copy-out-wide
-element-copy-out-wide c = search needs
+enum-told-2 : tie.Need-enum-told-2
+enum-told-2 c = search needs
 
-wide-requires : tie.Need-wide-requires
-wide-requires c κs = search needs
+enum-known-o : tie.Need-enum-known-o
+enum-known-o c = search needs
 
 power-requires : tie.Need-power-requires
 power-requires c κs =
+    let read = c .before .before .before .operator-at in
     let start = c .before .before .before .before in
-    omega (
-      arith,
-      c .before .wide .ensures,
-      start .pre .row .argument-below (omega (arith, c .if1 .taken))
-          (omega (arith, c .if1 .taken)),
-    )
+    let small = found-fits (read .ensures) 48 (c .before .o .given .1) (start .pre .fits) in
+    omega arith
+
+enum-known-o-2 : tie.Need-enum-known-o-2
+enum-known-o-2 c = search needs
+
+power-requires-2 : tie.Need-power-requires-2
+power-requires-2 c κs =
+    let read = c .before .before .before .before .operator-at in
+    let start = c .before .before .before .before .before in
+    let small = found-fits (read .ensures) 48 (c .before .before .o2 .given .1) (start .pre .fits) in
+    omega (arith, small .0)
+
+power-requires-3 : tie.Need-power-requires-3
+power-requires-3 c κs =
+    let read = c .before .before .before .before .before .operator-at in
+    let start = c .before .before .before .before .before .before in
+    let small = found-fits (read .ensures) 48 (c .before .before .before .o2 .given .1) (start .pre .fits) in
+    omega (arith, small .1)
 
 returns : tie.Need-returns
-returns c = rw (c .power .ensures, c .before .before .wide .ensures) (moved-5 _ _ _ _ _ (c .before .if1 .taken))
+returns c =
+    let read = c .before .before .before .before .before .before .operator-at in
+    let pair = c .before .before .before .before .o2 in
+    let if1 = c .before .before .if1 in
+    found-and (read .ensures) _ _ (pair .given .1) (not-true _ (if1 .taken)) (c .before .power2 .ensures) (c .power3 .ensures)
 
 has-requires : tie.Need-has-requires
 has-requires c κs = search needs
 
-power-requires-2 : tie.Need-power-requires-2
-power-requires-2 c κs =
-    let wide = c .before .before .before .before .wide in
+power-requires-4 : tie.Need-power-requires-4
+power-requires-4 c κs =
+    let read = c .before .before .before .before .before .before .operator-at in
     let start = c .before .before .before .before .before .before .before in
-    let if2 = c .before .before .if2 in
-    omega (arith, wide .ensures, start .pre .row .argument-below (omega (arith, if2 .taken)) (omega (arith, if2 .taken)))
+    let small = found-fits (read .ensures) 48 (c .before .before .before .before .o2 .given .1) (start .pre .fits) in
+    omega (arith, small .1)
 
 returns-2 : tie.Need-returns-2
 returns-2 c =
-    let wide = c .before .before .before .before .before .wide in
-    let if2 = c .before .before .before .if2 in
+    let read = c .before .before .before .before .before .before .before .operator-at in
+    let pair = c .before .before .before .before .before .o2 in
+    let if1 = c .before .before .before .if1 in
     let has = c .before .before .has in
-    rw (c .power2 .ensures, wide .ensures) (moved-6 _ _ _ _ _ (if2 .taken) true (sym (has .ensures) ∙ c .before .if3 .taken))
-
-add-power : tie.Need-add-power
-add-power c = search needs
-
-power-requires-3 : tie.Need-power-requires-3
-power-requires-3 c κs = search needs
-
-returns-3 : tie.Need-returns-3
-returns-3 c =
-    let if2 = c .before .before .before .if2 in
-    let has = c .before .before .has in
-    rw (c .power3 .ensures) (moved-6 _ _ _ _ _ (if2 .taken) false (sym (has .ensures) ∙ c .before .if3 .left))
-
-add-power-2 : tie.Need-add-power-2
-add-power-2 c = search needs
-
-power-requires-4 : tie.Need-power-requires-4
-power-requires-4 c κs = search needs
+    found-or (read .ensures) _ _ (pair .given .1) (not-false _ (if1 .left)) true (sym (has .ensures) ∙ c .before .if2 .taken)
+    (c .power4 .ensures)
 
 power-requires-5 : tie.Need-power-requires-5
 power-requires-5 c κs =
-    let wide = c .before .before .before .before .wide in
+    let read = c .before .before .before .before .before .before .operator-at in
     let start = c .before .before .before .before .before .before .before in
-    omega (
-      arith,
-      wide .ensures,
-      start .pre .row .argument-below (omega (arith, c .before .if4 .taken))
-          (omega (arith, c .before .if4 .taken)),
-    )
+    let small = found-fits (read .ensures) 48 (c .before .before .before .before .o2 .given .1) (start .pre .fits) in
+    omega (arith, small .0)
+
+enum-told-3 : tie.Need-enum-told-3
+enum-told-3 c = search needs
+
+enum-known-o-3 : tie.Need-enum-known-o-3
+enum-known-o-3 c = search needs
+
+power-requires-6 : tie.Need-power-requires-6
+power-requires-6 c κs =
+    let read = c .before .before .before .operator-at in
+    let start = c .before .before .before .before in
+    let small = found-fits (read .ensures) 48 (c .before .o3 .given .1) (start .pre .fits) in
+    omega arith
+
+returns-3 : tie.Need-returns-3
+returns-3 c =
+    found-moves (c .before .before .operator-at .ensures) _ _ (c .enum-told .given .1) refl
 
 returns-4 : tie.Need-returns-4
 returns-4 c =
-    let wide = c .before .before .before .before .before .wide in
-    let if4 = c .before .before .if4 in
-    rw (c .before .power4 .ensures, c .power5 .ensures, wide .ensures) (moved-7 _ _ _ _ _ (if4 .taken))
-
-add-power-3 : tie.Need-add-power-3
-add-power-3 c = search needs
-
-power-requires-6 : tie.Need-power-requires-6
-power-requires-6 c κs = search needs
+    found-moves (c .before .before .operator-at .ensures) _ _ (c .enum-told2 .given .1) refl
 
 returns-5 : tie.Need-returns-5
 returns-5 c =
-    let start = c .before .before .before .before .before .before .before .before in
-    rw (c .power6 .ensures) (moved-fix _ _ _ _ _ (c .before .if5 .taken) (start .pre .row .known))
+    let read = c .before .before .before .before .operator-at in
+    found-variable (read .ensures) _ _ (c .before .before .o .given .1) (c .power .ensures)
 
 returns-6 : tie.Need-returns-6
 returns-6 c =
-    let start = c .before .before .before .before .before .before .before in
+    let read = c .before .before .before .before .before .before .before .operator-at in
+    let pair = c .before .before .before .before .before .o2 in
     let if1 = c .before .before .before .if1 in
-    let if2 = c .before .before .if2 in
-    moved-none _ _ _ _ _ (start .pre .row .some) (c .if5 .left) (if1 .left) (if2 .left) (c .before .if4 .left)
+    let has = c .before .before .has in
+    found-or (read .ensures) _ _ (pair .given .1) (not-false _ (if1 .left)) false (sym (has .ensures) ∙ c .before .if2 .left)
+    (c .power5 .ensures)
+
+returns-7 : tie.Need-returns-7
+returns-7 c =
+    found-moves (c .before .before .operator-at .ensures) _ _ (c .enum-told3 .given .1) refl
+
+returns-8 : tie.Need-returns-8
+returns-8 c =
+    let read = c .before .before .before .before .operator-at in
+    found-fixpoint (read .ensures) _ _ (c .before .before .o3 .given .1) (c .power6 .ensures)
 
 pub moved-spec : {M : Type 1} → statement M
 moved-spec =
     tie.close
     (tie.spec
-    element-copy-out-op
-    add-wide
-    element-copy-out-wide
-    wide-requires
+    operator-at-requires
+    enum-told
+    enum-told-2
+    enum-known-o
     power-requires
+    enum-known-o-2
+    power-requires-2
+    power-requires-3
     returns
     has-requires
-    power-requires-2
-    returns-2
-    add-power
-    power-requires-3
-    returns-3
-    add-power-2
     power-requires-4
+    returns-2
     power-requires-5
-    returns-4
-    add-power-3
+    enum-told-3
+    enum-known-o-3
     power-requires-6
+    returns-3
+    returns-4
     returns-5
-    returns-6)
+    returns-6
+    returns-7
+    returns-8)

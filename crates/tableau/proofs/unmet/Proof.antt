@@ -1,6 +1,7 @@
 -- `tableau::unmet` has the bits of no pick in every entry, and then, or by or, those of its picks: each entry is right at every turn.
 use mathlib.Core.Logic.{⊎-elim}
 use mathlib.Core.Path.{refl, ap}
+use mathlib.Core.List.{List}
 use Prim.Native.Nat.{ℕ, _-_, _≤_}
 use native.Mathlib.Omega.{arith}
 use borrow.Author.Needs.{needs}
@@ -9,8 +10,13 @@ use Rattle.tableau.proofs.UnmetLaws.{Entries, unmet-start, unmet-turn}
 use Rattle.tableau.proofs.unmet.Statement.{statement}
 use Rattle.tableau.proofs.unmet.Tie as tie
 
+-- the entries are right, and those of the first j ors are by pick
+record Entries-to (rows : List ℕ) (count node n j : ℕ) (bits : List ℕ) : Type 0 where
+  passed : j ≤ n
+  entries : Entries rows count node bits
+
 abbrev Inv-loop : tie.InvT-loop
-Inv-loop rows count node n all never bits₀ j₀ bits j = (j ≤ n) × Entries rows count node bits
+Inv-loop rows count node n all never bits₀ j₀ bits j = Entries-to rows count node n j bits
 
 abbrev μ-loop : tie.MeasureT-loop
 μ-loop rows count node n all never bits₀ j₀ bits j = n - j
@@ -31,13 +37,15 @@ returns : tie.Need-returns Inv-loop μ-loop
 returns c =
     let ors = c .before .before .before .ors in
     let power = c .before .before .power in
-    unmet-start _ _ (ors .ensures) (ap (λ (x : ℕ). x - 1) (power .ensures)) (c .before .unmet-between .ensures) .1
+    unmet-start _ _ (ors .ensures) (ap (λ (x : ℕ). x - 1) (power .ensures)) (c .before .unmet-between .ensures)
+    .right
 
 loop-holds : tie.Need-loop-holds Inv-loop μ-loop
 loop-holds c =
     let ors = c .before .before .before .ors in
     let power = c .before .before .power in
-    (omega arith, unmet-start _ _ (ors .ensures) (ap (λ (x : ℕ). x - 1) (power .ensures)) (c .before .unmet-between .ensures))
+    let all = ap (λ (x : ℕ). x - 1) (power .ensures) in
+    record { passed = omega arith; entries = unmet-start _ _ (ors .ensures) all (c .before .unmet-between .ensures) }
 
 has-requires : tie.Need-has-requires Inv-loop μ-loop
 has-requires c κs = search needs
@@ -83,18 +91,25 @@ loop-less c = search needs
 
 loop-again : tie.Need-loop-again Inv-loop μ-loop
 loop-again c =
-    let s = c .before .before .before in
-    let f = s .before .before .before .before in
-    ⊎-elim (λ w. (
-      omega arith,
-      rw (w .5)
-          (unmet-turn _ _ (f .ors .ensures) (ap (λ (x : ℕ). x - 1) (s .before .before .before .power .ensures)) (s .loop .j)
-          (omega (arith, f .ors .ensures, f .before .pre .few-ors)) refl refl (w .1 .ensures) (w .2 .ensures) (w .3 .ensures)
-          (w .4 .ensures) (s .loop .inv .1)),
-    )) (λ w. (omega arith, rw (w .1) (s .loop .inv .1))) (c .if2 .came)
+    let at-loop = c .before .before .before in
+    let loop = at-loop .loop in
+    let power = at-loop .before .before .before .power in
+    let ors = at-loop .before .before .before .before .ors in
+    let formed = at-loop .before .before .before .before .before .pre in
+    let all = ap (λ (x : ℕ). x - 1) (power .ensures) in
+    ⊎-elim
+    (λ w. record {
+      passed = omega arith;
+      entries =
+          rw (w .5)
+          (unmet-turn _ _ (ors .ensures) all (loop .j) (omega (arith, ors .ensures, formed .few-ors)) refl refl (w .1 .ensures)
+          (w .2 .ensures) (w .3 .ensures) (w .4 .ensures) (loop .inv .entries));
+    })
+    (λ w. record { passed = omega arith; entries = rw (w .1) (loop .inv .entries) })
+    (c .if2 .came)
 
 returns-2 : tie.Need-returns-2 Inv-loop μ-loop
-returns-2 c = c .before .loop .inv .1 .1
+returns-2 c = c .before .loop .inv .entries .right
 
 pub unmet-spec : {M : Type 1} → statement M
 unmet-spec =

@@ -1,66 +1,103 @@
--- `tableau::with_required` adds what one operator requires. Each part of the requirement is one test of the opcode: it gains a bit, or
--- stays as it was.
-use mathlib.Core.Logic.{⊎-elim, inl, inr}
-use Rattle.tableau.proofs.RowLaws.{more-at}
+-- `tableau::with_required` adds what one operator requires: a look at each operator.
+use Rattle.tableau.proofs.RowLaws.{found-fits, required-none, required-constant, required-present, required-absent, required-next}
 use native.Mathlib.Omega.{arith}
 use borrow.Author.Needs.{needs}
 use Rattle.tableau.proofs.with_required.Statement.{statement}
 use Rattle.tableau.proofs.with_required.Tie as tie
 
-element-copy-out-op : tie.Need-element-copy-out-op
-element-copy-out-op c = search needs
+operator-at-requires : tie.Need-operator-at-requires
+operator-at-requires c κs = search needs
 
-add-wide : tie.Need-add-wide
-add-wide c = search needs
+enum-known-o : tie.Need-enum-known-o
+enum-known-o c = search needs
 
-element-copy-out-wide : tie.Need-element-copy-out-wide
-element-copy-out-wide c = search needs
+enum-known-o-2 : tie.Need-enum-known-o-2
+enum-known-o-2 c = search needs
 
 wide-requires : tie.Need-wide-requires
 wide-requires c κs = search needs
 
 power-requires : tie.Need-power-requires
 power-requires c κs =
-    let start = c .before .before .before .before in
-    let r = start .pre .row in
-    omega (arith, c .before .wide .ensures, r .signal (omega (arith, c .if1 .taken)) (omega (arith, c .if1 .taken)))
-
-power-requires-2 : tie.Need-power-requires-2
-power-requires-2 c κs =
+    let read = c .before .before .before .before .operator-at in
     let start = c .before .before .before .before .before in
-    let wide = c .before .before .wide in
-    let r = start .pre .row in
-    omega (arith, wide .ensures, r .signal (omega (arith, c .if2 .taken)) (omega (arith, c .if2 .taken)))
-
-add-power : tie.Need-add-power
-add-power c = search needs
-
-power-requires-3 : tie.Need-power-requires-3
-power-requires-3 c κs = search needs
+    let small = found-fits (read .ensures) 48 (c .before .before .o2 .given .1) (start .pre .fits) in
+    omega (arith, c .wide .ensures, small)
 
 returns : tie.Need-returns
 returns c =
-    let start = c .before .before .before .before .before .before .before in
-    let wide = c .before .before .before .before .wide in
-    let if1 = c .before .before .before .if1 in
-    let if2 = c .before .before .if2 in
-    let row = start .pre .row in
-    let wide = wide .ensures in
-    more-at _ _ _ _ (row .some) (row .known)
-    (⊎-elim (λ w. inl (w .0 .taken, rw (w .3, w .1 .ensures, wide))) (λ w. inr (w .0 .left, w .1)) (if1 .came))
-    (⊎-elim (λ w. inl (w .0 .taken, rw (w .3, w .1 .ensures, wide))) (λ w. inr (w .0 .left, w .1)) (if2 .came))
-    (⊎-elim (λ w. inl (w .0 .taken, rw (w .3, w .1 .ensures))) (λ w. inr (w .0 .left, w .1)) (c .before .if3 .came))
+    let read = c .before .before .before .before .before .before .before .operator-at in
+    let signal = c .before .before .before .before .before .o2 in
+    let wide = c .before .before .before .wide in
+    let power = c .before .before .power in
+    required-present (read .ensures) _ (signal .given .1) (wide .ensures) (power .ensures) (c .before .if1 .taken)
+
+enum-known-o-3 : tie.Need-enum-known-o-3
+enum-known-o-3 c = search needs
+
+power-requires-2 : tie.Need-power-requires-2
+power-requires-2 c κs =
+    let read = c .before .before .before .operator-at in
+    let start = c .before .before .before .before in
+    let small = found-fits (read .ensures) 48 (c .before .o3 .given .1) (start .pre .fits) in
+    omega arith
+
+enum-told : tie.Need-enum-told
+enum-told c = search needs
+
+enum-told-2 : tie.Need-enum-told-2
+enum-told-2 c = search needs
+
+enum-told-3 : tie.Need-enum-told-3
+enum-told-3 c = search needs
+
+returns-2 : tie.Need-returns-2
+returns-2 c =
+    required-constant (c .before .before .before .before .operator-at .ensures) _ (c .before .before .o .given .1)
+
+returns-3 : tie.Need-returns-3
+returns-3 c =
+    let read = c .before .before .before .before .before .before .before .operator-at in
+    let signal = c .before .before .before .before .before .o2 in
+    let wide = c .before .before .before .wide in
+    let power = c .before .before .power in
+    required-absent (read .ensures) _ (signal .given .1) (wide .ensures) (power .ensures) (c .before .if1 .left)
+
+returns-4 : tie.Need-returns-4
+returns-4 c =
+    let read = c .before .before .before .before .before .operator-at in
+    required-next (read .ensures) _ (c .before .before .before .o3 .given .1) (c .before .power2 .ensures)
+
+returns-5 : tie.Need-returns-5
+returns-5 c =
+    required-none (c .before .before .operator-at .ensures) _ (c .enum-told .given .1) tt
+
+returns-6 : tie.Need-returns-6
+returns-6 c =
+    required-none (c .before .before .operator-at .ensures) _ (c .enum-told2 .given .1) tt
+
+returns-7 : tie.Need-returns-7
+returns-7 c =
+    required-none (c .before .before .operator-at .ensures) _ (c .enum-told3 .given .1) tt
 
 pub with-required-spec : {M : Type 1} → statement M
 with-required-spec =
     tie.close
     (tie.spec
-    element-copy-out-op
-    add-wide
-    element-copy-out-wide
+    operator-at-requires
+    enum-known-o
+    enum-known-o-2
     wide-requires
     power-requires
+    returns
+    enum-known-o-3
     power-requires-2
-    add-power
-    power-requires-3
-    returns)
+    enum-told
+    enum-told-2
+    enum-told-3
+    returns-2
+    returns-3
+    returns-4
+    returns-5
+    returns-6
+    returns-7)

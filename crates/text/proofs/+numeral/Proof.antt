@@ -43,7 +43,7 @@ numeral-rem-glyph : (t : ℕ) → numeral-lts.Need-rem-glyph (numeral-calls t) (
 numeral-rem-glyph t c = search needs
 
 numeral-glyph-requires : (t : ℕ) → numeral-lts.Need-glyph-requires (numeral-calls t) (numeral-at t) numeral.Post
-numeral-glyph-requires t c κs = digit-value _ (c .before .pre .1 .0) (c .before .pre .1 .1)
+numeral-glyph-requires t c κs = digit-value _ (c .before .pre .1)
 
 numeral-is-last-requires : (t : ℕ) → numeral-lts.Need-is-last-requires (numeral-calls t) (numeral-at t) numeral.Post
 numeral-is-last-requires t c κs = search needs
@@ -55,11 +55,14 @@ numeral-same-length : (t : ℕ) → numeral-lts.Need-same-length (numeral-calls 
 numeral-same-length t c = search needs
 
 numeral-returns : (t : ℕ) → numeral-lts.Need-returns (numeral-calls t) (numeral-at t) numeral.Post
-numeral-returns t c = writes-one _ (c .before .before .before .before .before .before .before .before .pre .1 .0)
-    (c .before .before .before .before .before .before .before .before .args .width) _
-    (c .before .before .before .before .before .before .glyph .ensures)
-    (sym (c .before .before .before .before .before .is-last .ensures) ∙ c .before .before .before .before .if1 .taken)
-    (c .before .before .put .ensures)
+numeral-returns t c =
+    let put = c .before .before in
+    let test = put .before .before in
+    let asked = test .before in
+    let digit = asked .before in
+    let u = digit .before .before in
+    writes-one _ (u .pre .1 .some) (u .args .width) _ (digit .glyph .ensures) (sym (asked .is-last .ensures) ∙ test .if1 .taken)
+    (put .put .ensures)
 
 numeral-div-numeral : (t : ℕ) → numeral-lts.Need-div-numeral (numeral-calls t) (numeral-at t) numeral.Post
 numeral-div-numeral t c = search needs
@@ -68,12 +71,12 @@ numeral-one-less-requires : (t : ℕ) → numeral-lts.Need-one-less-requires (nu
 numeral-one-less-requires t c κs = search needs
 
 numeral-numeral-requires : (t : ℕ) → numeral-lts.Need-numeral-requires (numeral-calls t) (numeral-at t) numeral.Post
-numeral-numeral-requires t c κs = (
-  shrinks _ (c .before .before .before .before .before .before .pre .1 .0) _ _
-      (sym (c .before .before .before .is-last .ensures) ∙ c .before .before .if1 .left) (c .one-less .ensures)
-      (c .before .before .before .before .before .before .pre .0),
-  c .before .before .before .before .before .before .pre .1,
-)
+numeral-numeral-requires t c κs =
+    let test = c .before .before in
+    let asked = test .before in
+    let u = asked .before .before .before in
+    let more = sym (asked .is-last .ensures) ∙ test .if1 .left in
+    (shrinks _ (u .pre .1 .some) _ _ more (c .one-less .ensures) (u .pre .0), u .pre .1)
 
 numeral-put-requires-2 : (t : ℕ) → numeral-lts.Need-put-requires-2 (numeral-calls t) (numeral-at t) numeral.Post
 numeral-put-requires-2 t c κs = search needs
@@ -82,13 +85,16 @@ numeral-same-length-2 : (t : ℕ) → numeral-lts.Need-same-length-2 (numeral-ca
 numeral-same-length-2 t c = search needs
 
 numeral-returns-2 : (t : ℕ) → numeral-lts.Need-returns-2 (numeral-calls t) (numeral-at t) numeral.Post
-numeral-returns-2 t c = writes-more _ (c .before .before .before .before .before .before .before .before .before .before .before .before
-    .before .pre .1 .0) (c .before .before .before .before .before .before .before .before .before .before .before .before .before .args
-    .width) _ (c .before .before .before .before .before .before .before .before .before .before .before .glyph .ensures)
-    (sym (c .before .before .before .before .before .before .before .before .before .before .is-last .ensures) ∙
-    c .before .before .before .before .before .before .before .before .before .if1 .left)
-    (c .before .before .before .before .before .before .before .one-less .ensures)
-    (c .before .before .before .before .before .before .numeral .ensures) (c .before .before .put2 .ensures)
+numeral-returns-2 t c =
+    let put = c .before .before in
+    let front = put .before .before .before .before in
+    let less = front .before in
+    let test = less .before .before in
+    let asked = test .before in
+    let digit = asked .before in
+    let u = digit .before .before in
+    writes-more _ (u .pre .1 .some) (u .args .width) _ (digit .glyph .ensures) (sym (asked .is-last .ensures) ∙ test .if1 .left)
+    (less .one-less .ensures) (front .numeral .ensures) (put .put2 .ensures)
 
 pub +numeral-spec : {M : Type 1} → statement M
 +numeral-spec = close μ-numeral λ t. numeral-lts.spec (numeral-calls t)

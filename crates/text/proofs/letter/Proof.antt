@@ -17,8 +17,11 @@ same-length : tie.Need-same-length
 same-length c = search needs
 
 returns : tie.Need-returns
-returns c = then (then (c .before .before .before .before .before .before .before .before .before .before .put-all .ensures)
-    (c .before .before .before .before .before .before .hex .ensures)) (c .before .before .put-all2 .ensures)
+returns c =
+    let back = c .before .before in
+    let digits = back .before .before .before .before in
+    let front = digits .before .before .before .before in
+    then (then (front .put-all .ensures) (digits .hex .ensures)) (back .put-all2 .ensures)
 
 pub letter-spec : {M : Type 1} → statement M
 letter-spec =

@@ -1,25 +1,22 @@
 -- text::letters meets its contract. The invariant: the texts of the letters passed were written. Assumes nothing.
 use borrow.Author.Needs.{needs}
-use native.Mathlib.Omega.{arith}
-use mathlib.Core.Path.{_≡_, refl, _∙_}
-use Prim.Native.Nat.{_-_, _≤_}
+use Prim.Native.Nat.{_-_}
 use lib.ListN.{length, take}
-use Rattle.text.specs.Text.{each, letter-text}
+use Rattle.text.specs.Text.{buffer, each, letter-text}
 use Rattle.text.proofs.Each.{one-member-more, all-members}
-use Rattle.text.specs.Text.{buffer, Wrote}
-use Rattle.text.proofs.Writing.{nothing, keeps-length}
+use Rattle.text.proofs.Writing.{Passed, none-passed, one-passed, keeps-length}
 use Rattle.text.proofs.letters.Statement.{statement}
 use Rattle.text.proofs.letters.Tie as tie
 
 abbrev Inv-loop : tie.InvT-loop
-Inv-loop out₀ start letters front back at₀ i₀ out at i = (i ≤ length letters) × (length out ≡ length out₀) × Wrote (buffer out₀ start)
-    (each (letter-text front back) (take i letters)) (buffer out at)
+Inv-loop out₀ start letters front back at₀ i₀ out at i =
+    Passed (length letters) i (each (letter-text front back) (take i letters)) (buffer out₀ start) (buffer out at)
 
 abbrev μ-loop : tie.MeasureT-loop
 μ-loop out₀ start letters front back at₀ i₀ out at i = length letters - i
 
 loop-holds : tie.Need-loop-holds Inv-loop μ-loop
-loop-holds c = (omega arith, refl, nothing)
+loop-holds c = none-passed
 
 mul-letter : tie.Need-mul-letter Inv-loop μ-loop
 mul-letter c = search needs
@@ -37,23 +34,21 @@ loop-less : tie.Need-loop-less Inv-loop μ-loop
 loop-less c = search needs
 
 loop-again : tie.Need-loop-again Inv-loop μ-loop
-loop-again c = (
-  search needs,
-  keeps-length (c .before .before .letter .ensures) ∙
-      c .before .before .before .before .before .before .loop .inv .1,
-  one-member-more
-      (letter-text (c .before .before .before .before .before .before .before .before .before .before .before .args .front .now)
-      (c .before .before .before .before .before .before .before .before .before .before .before .args .back .now)) _ _
-      (c .before .before .before .before .before .loop-test .taken) (c .before .before .before .before .before .before .loop .inv .2)
-      (c .before .before .letter .ensures),
-)
+loop-again c =
+    let wrote = c .before .before .letter .ensures in
+    let test = c .before .before .before .before .before in
+    let passed = test .before .loop .inv in
+    let u = test .before .before .before .before .before .before in
+    one-passed (test .loop-test .taken) passed (keeps-length wrote)
+    (one-member-more (letter-text (u .args .front .now) (u .args .back .now)) _ _ (test .loop-test .taken) (passed .wrote) wrote)
 
 same-length : tie.Need-same-length Inv-loop μ-loop
 same-length c = search needs
 
 returns : tie.Need-returns Inv-loop μ-loop
-returns c = all-members (letter-text (c .before .before .before .before .before .before .args .front .now)
-    (c .before .before .before .before .before .before .args .back .now)) _ _ (c .loop-test .left) (c .before .loop .inv .2)
+returns c =
+    let u = c .before .before .before .before .before .before in
+    all-members (letter-text (u .args .front .now) (u .args .back .now)) _ _ (c .loop-test .left) (c .before .loop .inv .wrote)
 
 pub letters-spec : {M : Type 1} → statement M
 letters-spec =

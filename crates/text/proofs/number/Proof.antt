@@ -14,7 +14,10 @@ same-length : tie.Need-same-length
 same-length c = search needs
 
 returns : tie.Need-returns
-returns c = then (c .before .before .before .before .before .before .put .ensures) (c .before .before .decimal .ensures)
+returns c =
+    let digits = c .before .before in
+    let blank = digits .before .before .before .before in
+    then (blank .put .ensures) (digits .decimal .ensures)
 
 pub number-spec : {M : Type 1} → statement M
 number-spec = tie.close (tie.spec put-requires decimal-requires same-length returns)

@@ -8,8 +8,9 @@ slice-aggregate-result : tie.Need-slice-aggregate-result
 slice-aggregate-result c = search needs
 
 returns : tie.Need-returns
-returns c = none (c .before .before .args .letters .now) (c .before .before .args .from) (c .before .before .args .count)
-    (c .before .if1 .taken)
+returns c =
+    let u = c .before .before in
+    none (u .args .letters .now) (u .args .from) (u .args .count) (c .before .if1 .taken)
 
 sub-if2 : tie.Need-sub-if2
 sub-if2 c = search needs
@@ -27,8 +28,9 @@ part-result-end : tie.Need-part-result-end
 part-result-end c = search needs
 
 returns-2 : tie.Need-returns-2
-returns-2 c = rest (c .before .before .before .args .letters .now) (c .before .before .before .args .from)
-    (c .before .before .before .args .count) (c .before .if2 .taken)
+returns-2 c =
+    let u = c .before .before .before in
+    rest (u .args .letters .now) (u .args .from) (u .args .count) (c .before .if2 .taken)
 
 add-end : tie.Need-add-end
 add-end c = search needs
@@ -46,8 +48,9 @@ part-result-end-2 : tie.Need-part-result-end-2
 part-result-end-2 c = search needs
 
 returns-3 : tie.Need-returns-3
-returns-3 c = so-many (c .before .before .before .args .letters .now) (c .before .before .before .args .from)
-    (c .before .before .before .args .count)
+returns-3 c =
+    let u = c .before .before .before in
+    so-many (u .args .letters .now) (u .args .from) (u .args .count)
 
 pub part-spec : {M : Type 1} → statement M
 part-spec =

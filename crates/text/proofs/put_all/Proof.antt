@@ -1,23 +1,20 @@
 -- text::put_all meets its contract. The invariant: the bytes passed were written. Assumes nothing.
 use borrow.Author.Needs.{needs}
-use native.Mathlib.Omega.{arith}
-use mathlib.Core.Path.{_≡_, refl, _∙_}
-use Prim.Native.Nat.{_-_, _≤_}
+use Prim.Native.Nat.{_-_}
 use lib.ListN.{length, take}
-use Rattle.text.specs.Text.{buffer, Wrote}
-use Rattle.text.proofs.Writing.{nothing, one-byte-more, all, keeps-length}
+use Rattle.text.specs.Text.{buffer}
+use Rattle.text.proofs.Writing.{Passed, none-passed, one-passed, one-byte-more, all, keeps-length}
 use Rattle.text.proofs.put_all.Statement.{statement}
 use Rattle.text.proofs.put_all.Tie as tie
 
 abbrev Inv-loop : tie.InvT-loop
-Inv-loop out₀ at text next₀ i₀ out next i = (i ≤ length text) × (length out ≡ length out₀) × Wrote (buffer out₀ at) (take i text)
-    (buffer out next)
+Inv-loop out₀ at text next₀ i₀ out next i = Passed (length text) i (take i text) (buffer out₀ at) (buffer out next)
 
 abbrev μ-loop : tie.MeasureT-loop
 μ-loop out₀ at text next₀ i₀ out next i = length text - i
 
 loop-holds : tie.Need-loop-holds Inv-loop μ-loop
-loop-holds c = (omega arith, refl, nothing)
+loop-holds c = none-passed
 
 shared-slice-read-put : tie.Need-shared-slice-read-put Inv-loop μ-loop
 shared-slice-read-put c = search needs
@@ -32,20 +29,17 @@ loop-less : tie.Need-loop-less Inv-loop μ-loop
 loop-less c = search needs
 
 loop-again : tie.Need-loop-again Inv-loop μ-loop
-loop-again c = (
-  search needs,
-  keeps-length (c .before .before .put .ensures) ∙
-      c .before .before .before .before .before .before .loop .inv .1,
-  one-byte-more _ _
-      (c .before .before .before .before .before .loop-test .taken) (c .before .before .before .before .before .before .loop .inv .2)
-      (c .before .before .put .ensures),
-)
+loop-again c =
+    let wrote = c .before .before .put .ensures in
+    let test = c .before .before .before .before .before in
+    let passed = test .before .loop .inv in
+    one-passed (test .loop-test .taken) passed (keeps-length wrote) (one-byte-more _ _ (test .loop-test .taken) (passed .wrote) wrote)
 
 same-length : tie.Need-same-length Inv-loop μ-loop
 same-length c = search needs
 
 returns : tie.Need-returns Inv-loop μ-loop
-returns c = all _ _ (c .loop-test .left) (c .before .loop .inv .2)
+returns c = all _ _ (c .loop-test .left) (c .before .loop .inv .wrote)
 
 pub put-all-spec : {M : Type 1} → statement M
 put-all-spec =

@@ -1,14 +1,15 @@
 -- `traces::passing` marks the operands to which the moves of subformula s go. Without marks there is nothing to pass on (`pass-blank`);
--- else a look at each opcode. That an operand is among the marks, `mark` asks of the slice that it is lent, whose length each loan tells.
+-- else a look at each operator. That an operand is among the marks, `mark` asks of the slice that it is lent, whose length each loan tells.
 use mathlib.Core.Path.{refl, sym, _∙_}
 use mathlib.Core.Bool.{true, false}
-use Prim.Native.Nat.{_+_}
 use native.Mathlib.Omega.{arith}
-use borrow.Author.Needs.{needs}
+use borrow.Author.Tests.{not-true, not-false}
 use lib.ListN.{getD}
 use Rattle.base.specs.Bits.{bit}
 use Rattle.formula.specs.Rows.{operator-at}
-use Rattle.traces.proofs.MarkLaws.{argument-in, first-in, pass-blank, pass-5, pass-6, pass-7, pass-none, pass-fix}
+use Rattle.tableau.proofs.RowLaws.{found-fits}
+use Rattle.traces.proofs.MarkLaws.{pass-blank, pass-none, pass-variable, pass-or, pass-and, found-fix, pass-fixpoint}
+use borrow.Author.Needs.{needs}
 use Rattle.traces.proofs.passing.Statement.{statement}
 use Rattle.traces.proofs.passing.Tie as tie
 
@@ -21,11 +22,85 @@ returns c =
     pass-blank (operator-at (start .args .rows .now) (start .args .s .0)) (bit (start .args .choice) (start .args .s .0))
     (start .args .s .0) (getD (start .args .fix .now) (start .args .s .0) 0) (start .args .marks .now) (c .if1 .taken)
 
-element-copy-out-op : tie.Need-element-copy-out-op
-element-copy-out-op c = search needs
+operator-at-requires : tie.Need-operator-at-requires
+operator-at-requires c κs = search needs
 
-add-wide : tie.Need-add-wide
-add-wide c = search needs
+enum-told : tie.Need-enum-told
+enum-told c = search needs
+
+enum-told-2 : tie.Need-enum-told-2
+enum-told-2 c = search needs
+
+enum-known-o : tie.Need-enum-known-o
+enum-known-o c = search needs
+
+mark-requires : tie.Need-mark-requires
+mark-requires c κs =
+    let read = c .before .before .before .before .operator-at in
+    let start = c .before .before .before .before .before .before .before in
+    let small = found-fits (read .ensures) 48 (c .before .before .o .given .1) (start .pre .0 .fits) in
+    omega (arith, c .mark-arg .given .0 .1, small)
+
+enum-known-o-2 : tie.Need-enum-known-o-2
+enum-known-o-2 c = search needs
+
+mark-requires-2 : tie.Need-mark-requires-2
+mark-requires-2 c κs =
+    let read = c .before .before .before .before .before .operator-at in
+    let start = c .before .before .before .before .before .before .before .before in
+    let small = found-fits (read .ensures) 48 (c .before .before .before .o2 .given .1) (start .pre .0 .fits) in
+    omega (arith, c .mark-arg2 .given .0 .1, small .0)
+
+mark-requires-3 : tie.Need-mark-requires-3
+mark-requires-3 c κs =
+    let read = c .before .before .before .before .before .before .before .operator-at in
+    let start = c .before .before .before .before .before .before .before .before .before .before in
+    let small = found-fits (read .ensures) 48 (c .before .before .before .before .before .o2 .given .1) (start .pre .0 .fits) in
+    omega (arith, c .mark-arg3 .given .0 .1, small .1)
+
+returns-2 : tie.Need-returns-2
+returns-2 c =
+    let first = c .before .before .mark2 in
+    let if2 = c .before .before .before .before .if2 in
+    let pair = c .before .before .before .before .before .before .o2 in
+    let read = c .before .before .before .before .before .before .before .before .operator-at in
+    let start = c .before .before .before .before .before .before .before .before .before .before .before in
+    pass-and (read .ensures) _ (start .args .s .0) _ (start .args .marks .now) (c .mark3 .last .0) (pair .given .1)
+    (not-true _ (if2 .taken)) (first .last .0) (first .ensures) (c .mark3 .ensures)
+
+has-requires : tie.Need-has-requires
+has-requires c κs = search needs
+
+mark-requires-4 : tie.Need-mark-requires-4
+mark-requires-4 c κs =
+    let read = c .before .before .before .before .before .before .before .operator-at in
+    let start = c .before .before .before .before .before .before .before .before .before .before in
+    let small = found-fits (read .ensures) 48 (c .before .before .before .before .before .o2 .given .1) (start .pre .0 .fits) in
+    omega (arith, c .mark-arg4 .given .0 .1, small .1)
+
+returns-3 : tie.Need-returns-3
+returns-3 c =
+    let if3 = c .before .before .if3 in
+    let has = c .before .before .before .has in
+    let if2 = c .before .before .before .before .if2 in
+    let pair = c .before .before .before .before .before .before .o2 in
+    let read = c .before .before .before .before .before .before .before .before .operator-at in
+    let start = c .before .before .before .before .before .before .before .before .before .before .before in
+    pass-or (read .ensures) _ (start .args .s .0) _ (start .args .marks .now) (c .mark4 .last .0) (pair .given .1)
+    (not-false _ (if2 .left)) true (sym (has .ensures) ∙ if3 .taken) (c .mark4 .ensures)
+
+mark-requires-5 : tie.Need-mark-requires-5
+mark-requires-5 c κs =
+    let read = c .before .before .before .before .before .before .before .operator-at in
+    let start = c .before .before .before .before .before .before .before .before .before .before in
+    let small = found-fits (read .ensures) 48 (c .before .before .before .before .before .o2 .given .1) (start .pre .0 .fits) in
+    omega (arith, c .mark-arg5 .given .0 .1, small .0)
+
+enum-told-3 : tie.Need-enum-told-3
+enum-told-3 c = search needs
+
+enum-known-o-3 : tie.Need-enum-known-o-3
+enum-known-o-3 c = search needs
 
 element-copy-out-wide : tie.Need-element-copy-out-wide
 element-copy-out-wide c = search needs
@@ -33,123 +108,70 @@ element-copy-out-wide c = search needs
 wide-requires : tie.Need-wide-requires
 wide-requires c κs = search needs
 
-add-first : tie.Need-add-first
-add-first c = search needs
-
-mark-requires : tie.Need-mark-requires
-mark-requires c κs =
-    let at-wide = c .before .before in
-    let start = at-wide .before .before .before .before .before in
-    argument-in (start .pre .0 .row) (c .mark-arg .given .0 .1) (omega (arith, c .before .if2 .taken))
-    (omega (arith, c .before .if2 .taken)) (at-wide .wide .ensures)
-
-returns-2 : tie.Need-returns-2
-returns-2 c =
-    let if2 = c .before .before .if2 in
-    let at-wide = c .before .before .before in
-    let start = at-wide .before .before .before .before .before in
-    pass-5 _ _ (start .args .s .0) _ _ (start .args .marks .now) (c .mark .last .0) (at-wide .wide .result)
-    (at-wide .wide .ensures) (if2 .taken) (c .mark .ensures)
-
-has-requires : tie.Need-has-requires
-has-requires c κs = search needs
-
-mark-requires-2 : tie.Need-mark-requires-2
-mark-requires-2 c κs =
-    let at-or = c .before .before .before in
-    let at-wide = at-or .before .before in
-    let start = at-wide .before .before .before .before .before in
-    argument-in (start .pre .0 .row) (c .mark-arg2 .given .0 .1) (omega (arith, at-or .if3 .taken))
-    (omega (arith, at-or .if3 .taken)) (at-wide .wide .ensures)
-
-returns-3 : tie.Need-returns-3
-returns-3 c =
-    let if4 = c .before .before .if4 in
-    let at-has = c .before .before .before in
-    let at-wide = at-has .before .before .before in
-    let start = at-wide .before .before .before .before .before in
-    pass-6 _ _ (start .args .s .0) _ _ (start .args .marks .now) (c .mark2 .last .0) (at-wide .wide .result)
-    (at-wide .wide .ensures) (at-has .before .if3 .taken) true (sym (at-has .has .ensures) ∙ if4 .taken) (at-wide .wide .result)
-    (at-wide .wide .ensures) (c .mark2 .ensures)
-
-mark-requires-3 : tie.Need-mark-requires-3
-mark-requires-3 c κs =
-    let at-or = c .before .before .before in
-    let start = at-or .before .before .before .before .before .before .before in
-    first-in (start .pre .0 .row) (c .mark-arg3 .given .0 .1) (omega (arith, at-or .if3 .taken))
-
-returns-4 : tie.Need-returns-4
-returns-4 c =
-    let if4 = c .before .before .if4 in
-    let at-has = c .before .before .before in
-    let at-wide = at-has .before .before .before in
-    let start = at-wide .before .before .before .before .before in
-    pass-6 _ _ (start .args .s .0) _ _ (start .args .marks .now) (c .mark3 .last .0) (at-wide .wide .result)
-    (at-wide .wide .ensures) (at-has .before .if3 .taken) false (sym (at-has .has .ensures) ∙ if4 .left) (start .args .s .0 + 1)
-    refl (c .mark3 .ensures)
-
-mark-requires-4 : tie.Need-mark-requires-4
-mark-requires-4 c κs =
-    let at-and = c .before in
-    let start = at-and .before .before .before .before .before .before .before .before in
-    first-in (start .pre .0 .row) (c .mark-arg4 .given .0 .1) (omega (arith, at-and .if5 .taken))
-
-mark-requires-5 : tie.Need-mark-requires-5
-mark-requires-5 c κs =
-    let at-and = c .before .before .before in
-    let at-wide = at-and .before .before .before in
-    let start = at-wide .before .before .before .before .before in
-    argument-in (start .pre .0 .row) (c .mark-arg5 .given .0 .1) (omega (arith, at-and .if5 .taken))
-    (omega (arith, at-and .if5 .taken)) (at-wide .wide .ensures)
-
-returns-5 : tie.Need-returns-5
-returns-5 c =
-    let at-first = c .before .before in
-    let at-and = at-first .before .before in
-    let at-wide = at-and .before .before .before in
-    let start = at-wide .before .before .before .before .before in
-    pass-7 _ _ (start .args .s .0) _ _ (start .args .marks .now) (c .mark5 .last .0) (at-wide .wide .result)
-    (at-wide .wide .ensures) (at-and .if5 .taken) (at-first .mark4 .last .0) (at-first .mark4 .ensures) (c .mark5 .ensures)
-
-returns-6 : tie.Need-returns-6
-returns-6 c =
-    let if2 = c .before .before .before .if2 in
-    let if3 = c .before .before .if3 in
-    let start = c .before .before .before .before .before .before .before .before .before in
-    pass-none _ _ (start .args .s .0) _ _ (start .args .marks .now) (start .args .marks .now) (start .pre .0 .row .some)
-    (c .if6 .taken) (if2 .left) (if3 .left) (c .before .if5 .left) (λ n l. refl)
-
-element-copy-out-wide-2 : tie.Need-element-copy-out-wide-2
-element-copy-out-wide-2 c = search needs
-
-wide-requires-2 : tie.Need-wide-requires-2
-wide-requires-2 c κs = search needs
-
 bit8-requires : tie.Need-bit8-requires
 bit8-requires c κs =
-    let at-fix = c .before .before in
-    let start = at-fix .before .before .before .before .before .before .before .before .before in
-    omega (arith, c .wide2 .ensures, start .pre .1 (at-fix .if6 .left))
+    let fixpoint = c .before .before .before .o3 in
+    let read = c .before .before .before .before .before .operator-at in
+    let start = c .before .before .before .before .before .before .before .before in
+    omega (arith, c .wide .ensures, start .pre .1 (found-fix (read .ensures) (fixpoint .given .1)))
 
 minima-requires : tie.Need-minima-requires
 minima-requires c κs = search needs
 
 mark-requires-6 : tie.Need-mark-requires-6
 mark-requires-6 c κs =
-    let at-fix = c .before .before .before .before .before in
-    let start = at-fix .before .before .before .before .before .before .before .before .before in
-    first-in (start .pre .0 .row) (c .mark-arg6 .given .0 .1) (omega (arith, at-fix .if6 .left))
+    let read = c .before .before .before .before .before .before .before .before .operator-at in
+    let start = c .before .before .before .before .before .before .before .before .before .before .before in
+    let small = found-fits (read .ensures) 48 (c .before .before .before .before .before .before .o3 .given .1) (start .pre .0 .fits) in
+    omega (arith, c .mark-arg6 .given .0 .1, small)
+
+returns-4 : tie.Need-returns-4
+returns-4 c =
+    let start = c .before .before .before .before .before in
+    pass-none (c .before .before .operator-at .ensures) _ (start .args .s .0) _ (start .args .marks .now) (start .args .marks .now)
+    (c .enum-told .given .1) refl refl refl
+
+returns-5 : tie.Need-returns-5
+returns-5 c =
+    let start = c .before .before .before .before .before in
+    pass-none (c .before .before .operator-at .ensures) _ (start .args .s .0) _ (start .args .marks .now) (start .args .marks .now)
+    (c .enum-told2 .given .1) refl refl refl
+
+returns-6 : tie.Need-returns-6
+returns-6 c =
+    let variable = c .before .before .before .o in
+    let read = c .before .before .before .before .before .operator-at in
+    let start = c .before .before .before .before .before .before .before .before in
+    pass-variable (read .ensures) _ (start .args .s .0) _ (start .args .marks .now) (c .mark .last .0) (variable .given .1)
+    (c .mark .ensures)
 
 returns-7 : tie.Need-returns-7
 returns-7 c =
-    let at-minima = c .before .before in
-    let at-bit8 = at-minima .before in
-    let at-rank = at-bit8 .before in
-    let at-fix = at-rank .before .before in
-    let start = at-fix .before .before .before .before .before .before .before .before .before in
-    pass-fix _ _ (start .args .s .0) _ _ (start .args .marks .now) (c .mark6 .last .0) (at-fix .if6 .left)
-    (start .pre .0 .row .known) (at-rank .wide2 .result) (at-bit8 .bit8 .result) (at-minima .minima .result)
-    (at-rank .wide2 .ensures) (at-bit8 .bit8 .ensures) (at-minima .minima .ensures) (c .mark6 .ensures)
+    let if3 = c .before .before .if3 in
+    let has = c .before .before .before .has in
+    let if2 = c .before .before .before .before .if2 in
+    let pair = c .before .before .before .before .before .before .o2 in
+    let read = c .before .before .before .before .before .before .before .before .operator-at in
+    let start = c .before .before .before .before .before .before .before .before .before .before .before in
+    pass-or (read .ensures) _ (start .args .s .0) _ (start .args .marks .now) (c .mark5 .last .0) (pair .given .1)
+    (not-false _ (if2 .left)) false (sym (has .ensures) ∙ if3 .left) (c .mark5 .ensures)
+
+returns-8 : tie.Need-returns-8
+returns-8 c =
+    let start = c .before .before .before .before .before in
+    pass-none (c .before .before .operator-at .ensures) _ (start .args .s .0) _ (start .args .marks .now) (start .args .marks .now)
+    (c .enum-told3 .given .1) refl refl refl
+
+returns-9 : tie.Need-returns-9
+returns-9 c =
+    let minima = c .before .before .minima in
+    let bit8 = c .before .before .before .bit8 in
+    let rank = c .before .before .before .before .wide in
+    let fixpoint = c .before .before .before .before .before .before .before .o3 in
+    let read = c .before .before .before .before .before .before .before .before .before .operator-at in
+    let start = c .before .before .before .before .before .before .before .before .before .before .before .before in
+    pass-fixpoint (read .ensures) _ (start .args .s .0) _ (start .args .marks .now) (c .mark6 .last .0) (fixpoint .given .1)
+    (rank .result) (bit8 .result) (minima .result) (rank .ensures) (bit8 .ensures) (minima .ensures) (c .mark6 .ensures)
 
 pub passing-spec : {M : Type 1} → statement M
 passing-spec =
@@ -157,25 +179,29 @@ passing-spec =
     (tie.spec
     element-copy-out-w
     returns
-    element-copy-out-op
-    add-wide
-    element-copy-out-wide
-    wide-requires
-    add-first
+    operator-at-requires
+    enum-told
+    enum-told-2
+    enum-known-o
     mark-requires
+    enum-known-o-2
+    mark-requires-2
+    mark-requires-3
     returns-2
     has-requires
-    mark-requires-2
-    returns-3
-    mark-requires-3
-    returns-4
     mark-requires-4
+    returns-3
     mark-requires-5
-    returns-5
-    returns-6
-    element-copy-out-wide-2
-    wide-requires-2
+    enum-told-3
+    enum-known-o-3
+    element-copy-out-wide
+    wide-requires
     bit8-requires
     minima-requires
     mark-requires-6
-    returns-7)
+    returns-4
+    returns-5
+    returns-6
+    returns-7
+    returns-8
+    returns-9)

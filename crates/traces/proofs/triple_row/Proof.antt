@@ -1,47 +1,59 @@
 -- `traces::triple_row` fills row f next by next. The invariant: the nexts passed are in their columns, and the other rows stay.
-use mathlib.Core.Path.{refl, _∙_}
-use Prim.Native.Nat.{_-_, _≤_}
+use mathlib.Core.Path.{refl, sym, _∙_}
+use mathlib.Core.List.{List}
+use Prim.Native.Nat.{ℕ, _-_, _≤_}
 use native.Mathlib.Omega.{arith}
 use borrow.Author.Needs.{needs}
+use Rattle.traces.specs.Promise.{Row-filled}
 use Rattle.traces.proofs.RankLaws.{next-small}
-use Rattle.traces.proofs.NextLaws.{Row-state, row-more}
+use Rattle.traces.proofs.NextLaws.{row-more}
 use Rattle.traces.proofs.triple_row.Statement.{statement}
 use Rattle.traces.proofs.triple_row.Tie as tie
 
+record Filled-to (rows : List ℕ) (count e f : ℕ) (marks t₀ t : List ℕ) : Type 0 where
+  passed : e ≤ count
+  row : Row-filled rows marks e f t₀ t
+
 abbrev Inv-loop : tie.InvT-loop
-Inv-loop rows count next f marks t₀ e₀ t e = (e ≤ count) × Row-state rows e f marks t₀ t e t
+Inv-loop rows count next f marks t₀ e₀ t e = Filled-to rows count e f marks t₀ t
 
 abbrev μ-loop : tie.MeasureT-loop
 μ-loop rows count next f marks t₀ e₀ t e = count - e
 
 loop-holds : tie.Need-loop-holds Inv-loop μ-loop
-loop-holds c = (omega arith, ((λ d h. absurd (omega arith)), λ i. ((λ h. refl), λ h. refl)))
+loop-holds c =
+    record {
+      passed = omega arith;
+      row = record { filled = λ d h. absurd (omega arith); others = λ i. ((λ h. refl), λ h. refl) };
+    }
 
-element-copy-out-place : tie.Need-element-copy-out-place Inv-loop μ-loop
-element-copy-out-place c = omega (arith, c .before .before .before .pre .0 .formed .few)
+is-next-requires : tie.Need-is-next-requires Inv-loop μ-loop
+is-next-requires c κs = omega (arith, c .before .before .pre .0 .limited .formed .few)
 
 element-copy-out-wide : tie.Need-element-copy-out-wide Inv-loop μ-loop
-element-copy-out-wide c = omega (arith, c .before .before .before .before .pre .0 .formed .few)
+element-copy-out-wide c = omega (arith, c .before .before .before .before .pre .0 .limited .formed .few)
 
 wide-requires : tie.Need-wide-requires Inv-loop μ-loop
 wide-requires c κs = search needs
 
-element-copy-out-place-2 : tie.Need-element-copy-out-place-2 Inv-loop μ-loop
-element-copy-out-place-2 c = omega (arith, c .before .before .before .before .before .before .pre .0 .formed .few)
+element-copy-out-place : tie.Need-element-copy-out-place Inv-loop μ-loop
+element-copy-out-place c = omega (arith, c .before .before .before .before .before .before .pre .0 .limited .formed .few)
 
 place-requires : tie.Need-place-requires Inv-loop μ-loop
 place-requires c κs =
-    let at-lent = c .before .before .before .before in
-    let at-test = at-lent .before in
-    let loop = at-test .before .loop in
-    let start = at-test .before .before in (
+    let lent = c .before .before .before .place-arg in
+    let next = c .before .before .before .before .is-next in
+    let in-table = c .before .before .before .before .before .loop-test .taken in
+    let loop = c .before .before .before .before .before .before .loop in
+    let start = c .before .before .before .before .before .before .before in
+    let small = next-small (start .pre .0 .limited) (loop .e) in-table in (
       omega arith,
       λ o. omega (
         arith,
-        at-lent .place-arg .given .0 .1,
+        lent .given .0 .1,
         c .before .wide .ensures,
-        start .pre .1 .0 (loop .e) (at-test .loop-test .taken),
-        next-small (start .pre .0) (loop .e) (at-test .loop-test .taken) o,
+        start .pre .0 .ranked (loop .e) in-table,
+        small (sym (next .ensures) ∙ o),
       ),
     )
 
@@ -53,23 +65,25 @@ loop-less c = search needs
 
 loop-again : tie.Need-loop-again Inv-loop μ-loop
 loop-again c =
-    let at-wide = c .before .before in
-    let at-lent = at-wide .before .before .before in
-    let at-test = at-lent .before in
-    let loop = at-test .before .loop in
-    let start = at-test .before .before in (
-      omega arith,
-      row-more (start .args .rows .now) (loop .e) (start .args .f) (start .args .marks .now) (start .args .t .now) (loop .t)
-          (at-wide .wide .result) (c .place .last .0) (at-lent .place-arg .given .0 .1)
-          (at-wide .wide .ensures ∙ start .pre .1 .0 (loop .e) (at-test .loop-test .taken)) (start .pre .1 .1)
-          (next-small (start .pre .0) (loop .e) (at-test .loop-test .taken)) (c .place .ensures .0) (c .place .ensures .1)
-          (loop .inv .1),
-    )
+    let wide = c .before .before .wide in
+    let lent = c .before .before .before .before .place-arg in
+    let next = c .before .before .before .before .before .is-next in
+    let in-table = c .before .before .before .before .before .before .loop-test .taken in
+    let loop = c .before .before .before .before .before .before .before .loop in
+    let start = c .before .before .before .before .before .before .before .before in
+    record {
+      passed = omega arith;
+      row =
+          row-more (start .args .rows .now) (loop .e) (start .args .f) (start .args .marks .now) (start .args .t .now) (loop .t)
+          (loop .inv .row) (wide .result) (c .place .last .0) (lent .given .0 .1)
+          (wide .ensures ∙ start .pre .0 .ranked (loop .e) in-table) (start .pre .1)
+          (next-small (start .pre .0 .limited) (loop .e) in-table) (next .ensures) (c .place .ensures);
+    }
 
 returns : tie.Need-returns Inv-loop μ-loop
 returns c =
-    let loop = c .before .loop in
-    ((λ d h. loop .inv .1 .0 d (omega arith)), loop .inv .1 .1)
+    let row = c .before .loop .inv .row in
+    record { filled = λ d h. row .filled d (omega arith); others = row .others }
 
 pub triple-row-spec : {M : Type 1} → statement M
 triple-row-spec =
@@ -78,10 +92,10 @@ triple-row-spec =
     Inv-loop
     μ-loop
     loop-holds
-    element-copy-out-place
+    is-next-requires
     element-copy-out-wide
     wide-requires
-    element-copy-out-place-2
+    element-copy-out-place
     place-requires
     add-e
     loop-less

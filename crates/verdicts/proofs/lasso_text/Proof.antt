@@ -33,14 +33,14 @@ same-length : tie.Need-same-length
 same-length c = search needs
 
 returns : tie.Need-returns
-returns c = simp (
-  c .before .before .before .before .before .before .before .before .before .before .before .verdict .given .1,
-  sym
-      (c .before .before .before .before .before .before .before .before .before .part .ensures),
-  sym
-      (c .before .before .before .before .part2 .ensures),
-)
-    (then (c .before .before .before .before .before .before .before .letters .ensures) (c .before .before .letters2 .ensures))
+returns c =
+    let cycle = c .before .before in
+    let around = cycle .before .before in
+    let stem = around .before .before .before in
+    let there = stem .before .before in
+    let told = there .before .before in
+    simp (told .verdict .given .1, sym (there .part .ensures), sym (around .part2 .ensures))
+    (then (stem .letters .ensures) (cycle .letters2 .ensures))
 
 returns-2 : tie.Need-returns-2
 returns-2 c = simp (c .enum-told .given .1) nothing

@@ -26,11 +26,14 @@ same-length : tie.Need-same-length
 same-length c = search needs
 
 returns : tie.Need-returns
-returns c = then (then (then (then (c .before .before .before .before .before .before .before .before .before .before .before .before
-    .before .before .before .before .before .before .put-all .ensures)
-    (c .before .before .before .before .before .before .before .before .before .before .before .before .before .before .number
-    .ensures)) (c .before .before .before .before .before .before .before .before .before .before .number2 .ensures))
-    (c .before .before .before .before .before .before .number3 .ensures)) (c .before .before .number4 .ensures)
+returns c =
+    let profiles = c .before .before in
+    let nodes = profiles .before .before .before .before in
+    let cycle = nodes .before .before .before .before in
+    let stem = cycle .before .before .before .before in
+    let word = stem .before .before .before .before in
+    then (then (then (then (word .put-all .ensures) (stem .number .ensures)) (cycle .number2 .ensures)) (nodes .number3 .ensures))
+    (profiles .number4 .ensures)
 
 pub met-text-spec : {M : Type 1} → statement M
 met-text-spec =

@@ -20,8 +20,11 @@ same-length : tie.Need-same-length
 same-length c = search needs
 
 returns : tie.Need-returns
-returns c = then (then (c .before .before .before .before .before .before .before .before .before .before .put-all .ensures)
-    (c .before .before .before .before .before .before .number .ensures)) (c .before .before .number2 .ensures)
+returns c =
+    let profiles = c .before .before in
+    let nodes = profiles .before .before .before .before in
+    let word = nodes .before .before .before .before in
+    then (then (word .put-all .ensures) (nodes .number .ensures)) (profiles .number2 .ensures)
 
 pub not-text-spec : {M : Type 1} → statement M
 not-text-spec =

@@ -26,9 +26,11 @@ same-length : tie.Need-same-length
 same-length c = search needs
 
 returns : tie.Need-returns
-returns c = then (then (c .before .before .before .before .before .before .before .before .before .before .before .before .before
-    .verdict-text .ensures) (c .before .before .before .before .before .before .before .before .before .put .ensures))
-    (c .before .before .lasso-text .ensures)
+returns c =
+    let witness = c .before .before in
+    let end = witness .before .before .before .before .before .before .before in
+    let verdict = end .before .before .before .before in
+    then (then (verdict .verdict-text .ensures) (end .put .ensures)) (witness .lasso-text .ensures)
 
 pub program-text-spec : {M : Type 1} → statement M
 program-text-spec =

@@ -17,7 +17,10 @@ same-length : tie.Need-same-length
 same-length c = search needs
 
 returns : tie.Need-returns
-returns c = then (c .before .before .before .before .before .before .put-all .ensures) (c .before .before .number .ensures)
+returns c =
+    let code = c .before .before in
+    let word = code .before .before .before .before in
+    then (word .put-all .ensures) (code .number .ensures)
 
 pub refused-spec : {M : Type 1} → statement M
 refused-spec =

@@ -7,6 +7,8 @@ use Rattle.verdicts.proofs.Showing.{shows}
 use Prim.Native.Nat.{ℕ, zero-le}
 use Rattle.io.proofs.Counting.{counts}
 use lib.ListN.{length-replicate}
+use Rattle.decision.specs.Verdict.{workspace-size, witness-size}
+use Rattle.yuktrob.specs.Printed.{nodes, profiles}
 use Rattle.yuktrob.proofs.Room.{prints}
 use Rattle.yuktrob.proofs.decided.Statement.{statement}
 use Rattle.yuktrob.proofs.decided.Tie as tie
@@ -33,7 +35,7 @@ returns : tie.Need-returns
 returns c =
     let wrote = c .before .before .program-text .ensures in
     let d = shows program-text (c .before .before .before .before .before .before .before .decide .ensures)
-    (length-replicate {A = ℕ} 59648 0) (length-replicate {A = ℕ} 556 0) wrote in
+    (length-replicate {A = ℕ} (workspace-size nodes profiles) 0) (length-replicate {A = ℕ} (witness-size nodes profiles) 0) wrote in
     (counts _ _ (place-within wrote zero-le), record { shown = d; whole = prints d })
 
 pub decided-spec : {M : Type 1} → statement M

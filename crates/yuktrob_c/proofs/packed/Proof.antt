@@ -1,57 +1,53 @@
--- `yuktrob_c::packed`: the three bytes, one above the other. Assumes nothing.
-use Rattle.yuktrob_c.proofs.EntryLaws.{packed-number}
+-- `yuktrob_c::packed`: the opcode, the argument and the end, one above the other. Each fits into a byte. Assumes nothing.
+use native.Mathlib.Omega.{arith}
 use borrow.Author.Needs.{needs}
+use Rattle.formula.specs.Access.{decoded}
+use Rattle.yuktrob_c.proofs.EntryLaws.{argument-fits}
 use Rattle.yuktrob_c.proofs.packed.Statement.{statement}
 use Rattle.yuktrob_c.proofs.packed.Tie as tie
 
-kept-requires : tie.Need-kept-requires
-kept-requires c κs = search needs
-
-wide-requires : tie.Need-wide-requires
-wide-requires c κs = search needs
-
-wide-requires-2 : tie.Need-wide-requires-2
-wide-requires-2 c κs = search needs
+argument-requires : tie.Need-argument-requires
+argument-requires c κs = search needs
 
 mul-behind : tie.Need-mul-behind
 mul-behind c = search needs
 
 add-behind : tie.Need-add-behind
-add-behind c = search needs
+add-behind c = omega (arith, argument-fits (decoded (c .before .args .operator)) (c .before .pre .0))
 
-wide-requires-3 : tie.Need-wide-requires-3
-wide-requires-3 c κs = search needs
+opcode-byte-requires : tie.Need-opcode-byte-requires
+opcode-byte-requires c κs = search needs
+
+wide-requires : tie.Need-wide-requires
+wide-requires c κs = search needs
 
 mul-number : tie.Need-mul-number
-mul-number c = search needs
+mul-number c =
+    let start = c .before .before .before in
+    omega (arith, argument-fits (decoded (start .args .operator)) (start .pre .0))
 
 add-number : tie.Need-add-number
-add-number c = search needs
+add-number c =
+    let start = c .before .before .before in
+    omega (arith, argument-fits (decoded (start .args .operator)) (start .pre .0))
 
 number-requires : tie.Need-number-requires
-number-requires c κs = search needs
+number-requires c κs =
+    let start = c .before .before .before in
+    omega (arith, argument-fits (decoded (start .args .operator)) (start .pre .0))
 
 returns : tie.Need-returns
-returns c =
-    let at-wide3 = c .before in
-    let at-wide2 = at-wide3 .before in
-    let at-wide = at-wide2 .before in
-    let at-kept = at-wide .before in
-    let at-start = at-kept .before in
-    packed-number (at-start .args .op) (at-start .args .argument) (at-start .args .end) (at-kept .kept .result) (at-wide .wide .result)
-    (at-wide2 .wide2 .result) (at-wide3 .wide3 .result) (c .number .result) (at-start .pre .0) (at-start .pre .1) (at-kept .kept .ensures)
-    (at-wide .wide .ensures) (at-wide2 .wide2 .ensures) (at-wide3 .wide3 .ensures) (c .number .ensures)
+returns c = search needs
 
 pub packed-spec : {M : Type 1} → statement M
 packed-spec =
     tie.close
     (tie.spec
-    kept-requires
-    wide-requires
-    wide-requires-2
+    argument-requires
     mul-behind
     add-behind
-    wide-requires-3
+    opcode-byte-requires
+    wide-requires
     mul-number
     add-number
     number-requires

@@ -2,7 +2,6 @@
 use mathlib.Core.Path.{sym, ap, subst, _∙_}
 use native.Mathlib.Omega.{arith}
 use Rattle.yuktrob_c.specs.Numbers.{VerdictFits, verdict-number}
-use Rattle.yuktrob_c.proofs.Early.{early-fits}
 use borrow.Author.Needs.{needs}
 use Rattle.yuktrob_c.proofs.verdict_number.Statement.{statement}
 use Rattle.yuktrob_c.proofs.verdict_number.Tie as tie
@@ -10,14 +9,14 @@ use Rattle.yuktrob_c.proofs.verdict_number.Tie as tie
 enum-known-v : tie.Need-enum-known-v
 enum-known-v c = search needs
 
-number-requires : tie.Need-number-requires
-number-requires c κs = early-fits (subst VerdictFits (c .before .v .given .1) (c .before .before .before .pre))
+refusal-number-requires : tie.Need-refusal-number-requires
+refusal-number-requires c κs = subst VerdictFits (c .before .v .given .1) (c .before .before .before .pre)
 
 enum-known-v-2 : tie.Need-enum-known-v-2
 enum-known-v-2 c = search needs
 
-number-requires-2 : tie.Need-number-requires-2
-number-requires-2 c κs = search needs
+number-requires : tie.Need-number-requires
+number-requires c κs = search needs
 
 enum-known-v-3 : tie.Need-enum-known-v-3
 enum-known-v-3 c = search needs
@@ -32,10 +31,10 @@ found-requires-2 : tie.Need-found-requires-2
 found-requires-2 c κs = (omega arith, subst VerdictFits (c .before .v4 .given .1) (c .before .before .before .pre))
 
 returns : tie.Need-returns
-returns c = c .number .ensures ∙ sym (ap verdict-number (c .before .before .v .given .1))
+returns c = c .refusal-number .ensures ∙ sym (ap verdict-number (c .before .before .v .given .1))
 
 returns-2 : tie.Need-returns-2
-returns-2 c = c .number2 .ensures ∙ sym (ap verdict-number (c .before .before .v2 .given .1))
+returns-2 c = c .number .ensures ∙ sym (ap verdict-number (c .before .before .v2 .given .1))
 
 returns-3 : tie.Need-returns-3
 returns-3 c = c .found .ensures ∙ sym (ap verdict-number (c .before .before .v3 .given .1))
@@ -48,9 +47,9 @@ verdict-number-spec =
     tie.close
     (tie.spec
     enum-known-v
-    number-requires
+    refusal-number-requires
     enum-known-v-2
-    number-requires-2
+    number-requires
     enum-known-v-3
     found-requires
     enum-known-v-4

@@ -3,9 +3,10 @@ use mathlib.Core.Path.{sym, ap, _∙_}
 use borrow.Author.Needs.{needs}
 use Rattle.formula.specs.Table.{Entries}
 use Rattle.formula.specs.Reading.{Reading}
+use Rattle.formula.proofs.FitLaws.{accepted-readable}
 use Rattle.yuktrob_c.specs.Entry.{entry-number}
-use Rattle.yuktrob_c.proofs.Early.{reading-refused, reading-early, early-fits}
-use Rattle.yuktrob_c.proofs.EntryLaws.{accepted-commands, reading-accepted}
+use Rattle.yuktrob_c.proofs.Early.{refused-reading, refused-early}
+use Rattle.yuktrob_c.proofs.EntryLaws.{reading-accepted}
 use Rattle.yuktrob_c.proofs.yuktrob_entry.Statement.{statement}
 use Rattle.yuktrob_c.proofs.yuktrob_entry.Tie as tie
 
@@ -15,10 +16,10 @@ read-requires c κs = search needs
 enum-known-outcome : tie.Need-enum-known-outcome
 enum-known-outcome c = search needs
 
-number-requires : tie.Need-number-requires
-number-requires c κs =
+refusal-number-requires : tie.Need-refusal-number-requires
+refusal-number-requires c κs =
     let at-read = c .before .before .before .before in
-    early-fits (reading-early _ (at-read .read .result) (at-read .read .ensures .0) _ (c .before .outcome .given .1))
+    refused-early _ (at-read .read .result) (at-read .read .ensures .0) (c .before .outcome .given .1)
 
 enum-told : tie.Need-enum-told
 enum-told c = search needs
@@ -26,7 +27,7 @@ enum-told c = search needs
 entry-requires : tie.Need-entry-requires
 entry-requires c κs =
     let at-read = c .before .before .before in
-    accepted-commands _ (at-read .read .result) (at-read .read .ensures .0) (c .enum-told .given .1)
+    accepted-readable _ (at-read .read .result) (at-read .read .ensures .0) (c .enum-told .given .1)
 
 returns : tie.Need-returns
 returns c =
@@ -34,9 +35,9 @@ returns c =
     let at-read = c .before .before .before .before .before in
     let at-start = at-read .before .before in
     let e = at-start .args .e in
-    c .number .ensures ∙ sym
+    c .refusal-number .ensures ∙ sym
     (ap (λ (x : Reading Entries). entry-number x e)
-    (reading-refused (at-start .args .rule .now) (at-read .read .result) (at-read .read .ensures .0) _ (outcome .given .1)))
+    (refused-reading (at-start .args .rule .now) (at-read .read .result) (at-read .read .ensures .0) (outcome .given .1)))
 
 returns-2 : tie.Need-returns-2
 returns-2 c =
@@ -53,7 +54,7 @@ yuktrob-entry-spec =
     (tie.spec
     read-requires
     enum-known-outcome
-    number-requires
+    refusal-number-requires
     enum-told
     entry-requires
     returns

@@ -3,9 +3,10 @@ use mathlib.Core.Path.{sym, ap, _∙_}
 use Prim.Native.Nat.{ℕ, _≤_, _<_}
 use native.Mathlib.Omega.{arith}
 use borrow.Author.Needs.{needs}
+use Rattle.formula.proofs.FitLaws.{accepted-readable}
 use Rattle.yuktrob_c.specs.Numbers.{number, reading-number}
-use Rattle.yuktrob_c.proofs.Early.{reading-refused, reading-early, early-fits}
-use Rattle.yuktrob_c.proofs.EntryLaws.{accepted-commands, reading-accepted, accepted-count}
+use Rattle.yuktrob_c.proofs.Early.{refused-reading, refused-early}
+use Rattle.yuktrob_c.proofs.EntryLaws.{reading-accepted, accepted-count}
 use Rattle.yuktrob_c.proofs.yuktrob_read.Statement.{statement}
 use Rattle.yuktrob_c.proofs.yuktrob_read.Tie as tie
 
@@ -15,19 +16,19 @@ read-requires c κs = search needs
 enum-known-outcome : tie.Need-enum-known-outcome
 enum-known-outcome c = search needs
 
-number-requires : tie.Need-number-requires
-number-requires c κs =
+refusal-number-requires : tie.Need-refusal-number-requires
+refusal-number-requires c κs =
     let at-read = c .before .before .before .before in
-    early-fits (reading-early _ (at-read .read .result) (at-read .read .ensures .0) _ (c .before .outcome .given .1))
+    refused-early _ (at-read .read .result) (at-read .read .ensures .0) (c .before .outcome .given .1)
 
 enum-told : tie.Need-enum-told
 enum-told c = search needs
 
-number-requires-2 : tie.Need-number-requires-2
-number-requires-2 c κs =
+number-requires : tie.Need-number-requires
+number-requires c κs =
     let at-read = c .before .before .before in
     let x = at-read .read .result in
-    few-fits (accepted-commands _ x (at-read .read .ensures .0) (c .enum-told .given .1) .few)
+    few-fits (accepted-readable _ x (at-read .read .ensures .0) (c .enum-told .given .1) .few)
   where
     few-fits : {n : ℕ} → n ≤ 48 → n < 72057594037927936
     few-fits h = omega arith
@@ -37,8 +38,8 @@ returns c =
     let outcome = c .before .before .outcome in
     let at-read = c .before .before .before .before .before in
     let at-start = at-read .before .before in
-    c .number .ensures ∙ sym
-    (ap reading-number (reading-refused (at-start .args .rule .now) (at-read .read .result) (at-read .read .ensures .0) _
+    c .refusal-number .ensures ∙ sym
+    (ap reading-number (refused-reading (at-start .args .rule .now) (at-read .read .result) (at-read .read .ensures .0)
     (outcome .given .1)))
 
 returns-2 : tie.Need-returns-2
@@ -47,7 +48,7 @@ returns-2 c =
     let at-read = at-told .before .before .before in
     let at-start = at-read .before .before in
     let x = at-read .read .result in
-    c .number2 .ensures ∙ sym
+    c .number .ensures ∙ sym
     (ap (number 0) (accepted-count (at-start .args .rule .now) x (at-read .read .ensures .0) (at-told .enum-told .given .1))) ∙
     ap reading-number (reading-accepted (at-start .args .rule .now) x (at-read .read .ensures .0) (at-told .enum-told .given .1))
 
@@ -57,8 +58,8 @@ yuktrob-read-spec =
     (tie.spec
     read-requires
     enum-known-outcome
-    number-requires
+    refusal-number-requires
     enum-told
-    number-requires-2
+    number-requires
     returns
     returns-2)

@@ -8,8 +8,8 @@ pub depth-spec : {M : Type 1} → statement M
 depth-spec =
     tie.close
     (tie.spec
-    (λ rows s binder e n₀ f₀ n f. e < 48)
-    (λ rows s binder e n₀ f₀ n f. e - f)
+    (λ rows s e n₀ f₀ n f. e < 48)
+    (λ rows s e n₀ f₀ n f. e - f)
     (λ c. search needs)
     (λ c κs. search needs)
     (λ c κs. search needs)

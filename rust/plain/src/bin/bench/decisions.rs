@@ -4,7 +4,7 @@ use crate::shapes::{always, each, eventually, until};
 use crate::timing::{head, once, row, time, BOTH};
 use std::hint::black_box;
 use std::time::Duration;
-use yuktrob::{course_len, work_len};
+use yuktrob::{course_len, work_len, MOST_NODES, MOST_PROFILES};
 use yuktrob_plain::decision::{decide, Verdict};
 use yuktrob_plain::random::Random;
 
@@ -14,7 +14,7 @@ struct Areas {
 }
 
 pub fn tables() {
-    let mut areas = Areas { work: vec![0; work_len(1024, 4096)], course: vec![0; course_len(1024, 4096)] };
+    let mut areas = Areas { work: vec![0; work_len(MOST_NODES, MOST_PROFILES)], course: vec![0; course_len(MOST_NODES, MOST_PROFILES)] };
     typical(&mut areas);
     let timed = random_rules(&mut areas);
     heaviest(&mut areas, &timed);
@@ -71,9 +71,9 @@ fn random_rules(areas: &mut Areas) -> Vec<Timed> {
         let rule = random.rule(size);
         let (work, course) = (&mut areas.work[..], &mut areas.course[..]);
         let ours = once(|| {
-            black_box(yuktrob::decide(&rule, 1024, 4096, work, course)).ok();
+            black_box(yuktrob::decide(&rule, MOST_NODES, MOST_PROFILES, work, course)).ok();
         });
-        let theirs = once(|| plain(&rule, 1024, 4096, work));
+        let theirs = once(|| plain(&rule, MOST_NODES, MOST_PROFILES, work));
         timed.push(Timed { ours, theirs, rule });
     }
     timed.sort_by_key(|t| t.ours);
@@ -82,13 +82,13 @@ fn random_rules(areas: &mut Areas) -> Vec<Timed> {
 
 /// The verdict of the independent implementation with the largest room.
 fn settled(rule: &[u8]) -> Verdict {
-    decide(rule, 1024, 4096, work_len(1024, 4096), course_len(1024, 4096))
+    decide(rule, MOST_NODES, MOST_PROFILES, work_len(MOST_NODES, MOST_PROFILES), course_len(MOST_NODES, MOST_PROFILES))
 }
 
 fn heaviest(areas: &mut Areas, timed: &[Timed]) {
     head("Decision, N = 1,024, M = 4,096: the ten heaviest of 10,000 random rules, and the sum over all of them", &BOTH);
     for Timed { rule, .. } in timed.iter().rev().take(10) {
-        let (ours, theirs) = decision(areas, rule, 1024, 4096);
+        let (ours, theirs) = decision(areas, rule, MOST_NODES, MOST_PROFILES);
         let sizes = match settled(rule) {
             Verdict::Met { nodes, profiles, .. } => format!("MET, K {nodes}, P {profiles}"),
             Verdict::Not { nodes, profiles } => format!("NOT, K {nodes}, P {profiles}"),
@@ -117,7 +117,7 @@ fn shapes(areas: &mut Areas) {
         ("G of a signal or its absence 11 places on", always(&later(11))),
     ];
     for (name, rule) in &rules {
-        let (ours, theirs) = decision(areas, rule, 1024, 4096);
+        let (ours, theirs) = decision(areas, rule, MOST_NODES, MOST_PROFILES);
         row(name, ours, theirs);
     }
 }
@@ -135,7 +135,7 @@ fn by_size(areas: &mut Areas, timed: &[Timed]) {
             .filter(|(_, p, _)| p * 4 >= near * 3 && p * 4 <= near * 5)
             .collect();
         if let Some((k, p, rule)) = group.get(group.len() / 2) {
-            let (ours, theirs) = decision(areas, rule, 1024, 4096);
+            let (ours, theirs) = decision(areas, rule, MOST_NODES, MOST_PROFILES);
             row(&format!("K {k}, P {p}"), ours, theirs);
         }
     }
