@@ -10,13 +10,9 @@ use native.Mathlib.Omega.{arith}
 use lib.Dec.{T}
 use lib.ListN.{length, getD, drop}
 use Rattle.base.specs.Lists.{first}
+pub use Rattle.base.specs.Lists.{At, here, there}
 use Rattle.base.proofs.BoolLaws.{of-T}
 use Rattle.base.proofs.TestLaws.{not-of-T}
-
--- x stands at number i
-pub data At {A : Type 0} : List A → ℕ → A → Type 0 where
-  here : {x : A} {xs : List A} → At (x ∷ xs) zero x
-  there : {x y : A} {xs : List A} {i : ℕ} → At xs i x → At (y ∷ xs) (suc i) x
 
 module _ {A : Type 0} where
   pub at-lt : {xs : List A} {i : ℕ} {x : A} → At xs i x → i < length xs
@@ -52,6 +48,11 @@ module _ {A : Type 0} where
   pub at-left : {xs : List A} (ys : List A) {i : ℕ} {x : A} → At xs i x → At (xs ++ ys) i x
   at-left ys here = here
   at-left ys (there a) = there (at-left ys a)
+
+  pub at-before : (xs ys : List A) {i : ℕ} {x : A} → At (xs ++ ys) i x → i < length xs → At xs i x
+  at-before [] ys a h = absurd (omega arith)
+  at-before (y ∷ xs) ys here h = here
+  at-before (y ∷ xs) ys (there a) h = there (at-before xs ys a (omega arith))
 
   pub at-next : (xs : List A) (x : A) (ys : List A) → At (xs ++ (x ∷ ys)) (length xs) x
   at-next [] x ys = here

@@ -9,10 +9,13 @@ pub mod MemberLaws
 pub mod CondLaws
 pub mod SearchLaws
 pub mod SearchOrder
+pub mod SpreadLaws
+pub mod MatchLaws
 pub mod NumberLaws
 pub mod FirstLaws
 pub mod TestLaws
 pub mod At
+pub mod IndexLaws
 pub mod Pairs
 pub mod AppendLaws
 pub mod ShiftLaws

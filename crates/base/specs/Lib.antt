@@ -2,5 +2,6 @@ pub mod Lists
 pub mod Bits
 pub mod Bytes
 pub mod Search
+pub mod Spread
 pub mod Sets
 pub mod Ask

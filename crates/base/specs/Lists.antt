@@ -10,6 +10,11 @@ abbrev pub numbers : ℕ → ℕ → List ℕ
 numbers k zero = []
 numbers k (suc n) = k ∷ numbers (suc k) n
 
+-- x stands at number i of a list
+pub data At {A : Type 0} : List A → ℕ → A → Type 0 where
+  here : {x : A} {xs : List A} → At (x ∷ xs) zero x
+  there : {x y : A} {xs : List A} {i : ℕ} → At xs i x → At (y ∷ xs) (suc i) x
+
 module _ {A B : Type 0} where
   -- what f gives for each element, one after another
   abbrev pub gather : (A → List B) → List A → List B
@@ -31,6 +36,11 @@ module _ {A : Type 0} where
   abbrev pub first : (A → Bool) → List A → Option A
   first q [] = none
   first q (x ∷ xs) = let r = first q xs in cond (q x) (some x) r
+
+  -- the number of the first element that q holds of, or the length
+  abbrev pub index : (A → Bool) → List A → ℕ
+  index q [] = 0
+  index q (x ∷ xs) = let r = suc (index q xs) in cond (q x) 0 r
 
   -- f applied n times
   abbrev pub repeat : ℕ → (A → A) → A → A

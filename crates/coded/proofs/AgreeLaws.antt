@@ -3,16 +3,17 @@
 -- letters of its run; parents have smaller numbers, so that ends. It holds for the table of every accepted formula (`agrees`), and the
 -- first accepting one of the kept profiles is the first of all (`first-accepting`). Assumes nothing.
 use mathlib.Core.Path.{_≡_, ap, subst, subst⁻¹, _∙_}
-use mathlib.Core.Logic.{_⊎_}
 use mathlib.Core.Bool.{Bool, false, not, _&&_}
 use mathlib.Core.Option.{none, some}
-use mathlib.Core.List.{List, [], _∷_, _++_, map, List·Memᴰ}
+use mathlib.Core.List.{List, map, List·Memᴰ}
 use Prim.Native.Nat.{ℕ, suc, _≤_, _<_}
 use native.Mathlib.Omega.{arith}
 use lib.Dec.{T}
 use lib.ListN.{length, getD}
 use Rattle.base.specs.Lists.{first}
+use Rattle.base.specs.Spread.{each-label, labels-to, Linked}
 use Rattle.base.proofs.At.{At, at-lt, at-some, at-one, first-at, first-nowhere}
+use Rattle.base.proofs.MatchLaws.{Matches, matches-at, matches-length, matches-linked, labels-letters}
 use Rattle.formula.specs.Formula.{Formula}
 use Rattle.formula.specs.Table.{Table, table}
 use Rattle.formula.specs.Reading.{Reading, parse}
@@ -27,7 +28,6 @@ use Rattle.coded.specs.Runs.{Found, profiles, accepting}
 use Rattle.coded.proofs.CarryLaws.{carries-rejecting}
 use Rattle.coded.proofs.TableLaws.{Formed}
 use Rattle.coded.proofs.FormedLaws.{parse-formed}
-use Rattle.coded.proofs.MatchLaws.{labels-to, Matches, matches-at, matches-length, labels-letters}
 use Rattle.coded.proofs.NodeNumbers.{sets, same-numbers}
 use Rattle.coded.proofs.RunLaws.{Listed, letter, Codes, profiles-match}
 
@@ -35,21 +35,21 @@ use Rattle.coded.proofs.RunLaws.{Listed, letter, Codes, profiles-match}
 abbrev pub letters-of : Listed → List ℕ
 letters-of y = map (λ (s : Transition). s .letter) (y .way)
 
--- x, number i of the profiles xs that are kept, and its counterpart among the profiles ys
-pub record Agreed (t : Table) (xs : List Found) (ys : List Listed) (i : ℕ) (x : Found) : Type 0 where
+-- x, number i of the profiles that are kept, and its counterpart among the profiles ys
+pub record Agreed (t : Table) (ys : List Listed) (i : ℕ) (x : Found) : Type 0 where
   pub item : Listed
   pub stands : At ys i item
   pub first : At (sets (nodes t)) (x .at .first) (item .at .first)
   pub last : At (sets (nodes t)) (x .at .last) (item .at .last)
   pub accepts : accepting t x ≡ literal.accepting t item
-  pub before : x .parent ≤ i
-  pub way : ((x .parent ≡ 0) × (letters-of item ≡ x .label ∷ []))
-      ⊎ ((p : Listed) × (j : ℕ) × (x .parent ≡ suc j) × At ys j p × (letters-of item ≡ letters-of p ++ (x .label ∷ [])))
-  pub letters : labels-to xs (suc i) ≡ letters-of item
 
+-- all of them, where `of` gives the profile of each number
 pub record Agrees (t : Table) (xs : List Found) (ys : List Listed) : Type 0 where
   pub count : length xs ≡ length ys
-  pub each : (i : ℕ) (x : Found) → At xs i x → Agreed t xs ys i x
+  pub each : (i : ℕ) (x : Found) → At xs i x → Agreed t ys i x
+  pub linked : (of : ℕ → Found) → ((i : ℕ) → i < length xs → At xs i (of i)) → Linked of (length xs)
+  pub letters : (of : ℕ → Found) → ((i : ℕ) → i < length xs → At xs i (of i)) → (i : ℕ) (y : Listed) → At ys i y
+      → labels-to each-label of (suc i) ≡ letters-of y
 
 -- the first accepting one among the kept is the first accepting one of all, and where none is, none is
 module _ {t : Table} {xs : List Found} {ys : List Listed} (a : Agrees t xs ys) where
@@ -79,25 +79,20 @@ module _ (t : Table) (formed : Formed t) (apart : (v : Subset) (s : Transition) 
       ap (λ (b : Bool). b && not (rejecting (λ i. getD (leasts t) i false) (length (operands t)) (x .at .carried))) back
       ∙ ap (λ (b : Bool). same-subset (y .at .first) (y .at .last) && not b) good
 
-  matched : {xs : List Found} {ys : List Listed} → Matches letter (Codes t) xs ys → Agrees t xs ys
-  matched {xs} {ys} m =
-      record {
-        count = matches-length letter (Codes t) m;
-        each = λ i x a.
-            let (y, b) = at-some ys i (omega (arith, at-lt a, matches-length letter (Codes t) m)) in
-            let (z, d, f, l) = matches-at letter (Codes t) m b in
-            subst (Agreed t xs ys i) (at-one d a)
-            (record {
-              item = y;
-              stands = b;
-              first = f .codes .first;
-              last = f .codes .last;
-              accepts = accepting-same z y (f .codes);
-              before = l;
-              way = f .way;
-              letters = labels-letters letter (Codes t) m b;
-            });
-      }
+  -- an item and its counterpart
+  stands-for : {ys : List Listed} (i : ℕ) (x : Found) (y : Listed) → At ys i y → Codes t (x .at) (y .at) → Agreed t ys i x
+  stands-for i x y a c = record { item = y; stands = a; first = c .first; last = c .last; accepts = accepting-same x y c }
+
+  matched : {xs : List Found} {ys : List Listed} → Matches letter each-label (Codes t) xs ys → Agrees t xs ys
+  matched {xs} {ys} m = record {
+    count = matches-length letter each-label (Codes t) m;
+    each = λ i x a.
+        let (y, b) = at-some ys i (omega (arith, at-lt a, matches-length letter each-label (Codes t) m)) in
+        let (z, d, f, l) = matches-at letter each-label (Codes t) m b in
+        subst (Agreed t ys i) (at-one d a) (stands-for i z y b (f .codes));
+    linked = matches-linked letter each-label (Codes t) m;
+    letters = λ of stands i y a. labels-letters letter each-label (Codes t) m of stands a;
+  }
 
   pub formed-agrees : (fuel : ℕ) → length (literal.profiles t (nodes t)) ≤ fuel
       → Agrees t (profiles fuel t (sets (nodes t))) (literal.profiles t (nodes t))

@@ -1,7 +1,5 @@
 pub mod TriplesLaws
 pub mod LapsLaws
-pub mod SpreadLaws
-pub mod MatchLaws
 pub mod ThinLaws
 pub mod RankLaws
 pub mod RiseLaws

@@ -1,17 +1,15 @@
 -- Nodes by number: the code keeps the nodes as a list and speaks of them by where they stand in it, the root first. Each node has one
 -- number (`one-number`), the one that `number-of` finds (`number-at`), so equal numbers are equal nodes (`same-numbers`). Assumes nothing.
 use mathlib.Core.Path.{_≡_, refl, sym, ap, subst, subst⁻¹}
-use mathlib.Core.Logic.{inl, inr}
-use mathlib.Core.Bool.{cond}
-use mathlib.Core.List.{List, [], _∷_, map, List·Memᴰ, List·Memᴰ·not-nil, List·Memᴰ·cases-cons, Memᴰ·map, Memᴰ·cast}
+use mathlib.Core.List.{List, [], _∷_, map, List·Memᴰ, Memᴰ·map, Memᴰ·cast}
 use Prim.Native.Nat.{ℕ, suc, _+_, _<_}
 use native.Mathlib.Omega.{arith}
 use lib.Dec.{T, eqb, eqb→eq, eqb-refl}
 use Rattle.base.specs.Lists.{tail}
 use Rattle.base.specs.Search.{Item}
-use Rattle.base.proofs.BoolLaws.{by-test}
 use Rattle.base.proofs.TestLaws.{same-truth}
 use Rattle.base.proofs.At.{At, at-in, at-one, at-map, at-unmap}
+use Rattle.base.proofs.IndexLaws.{index-at}
 use Rattle.base.proofs.SearchLaws.{Visits, Distinct}
 use Rattle.formula.specs.Table.{Table}
 use Rattle.tableau.specs.Saturation.{Subset, same-subset}
@@ -42,13 +40,7 @@ one-number (x ∷ xs) (Distinct.more n d) (At.there a) At.here =
 one-number (x ∷ xs) (Distinct.more n d) (At.there a) (At.there b) = ap suc (one-number xs d a b)
 
 pub number-at : (vs : List Subset) {v : Subset} → List·Memᴰ v vs → At vs (number-of vs v) v
-number-at [] m = absurd (List·Memᴰ·not-nil m)
-number-at (u ∷ us) {v} m =
-    by-test (same-subset u v) (λ b. At (u ∷ us) (cond b 0 (suc (number-of us v))) v)
-    (λ h. subst (λ (w : Subset). At (w ∷ us) 0 v) (sym (subset-sound u v h)) At.here)
-    (λ h.
-    elim (List·Memᴰ·cases-cons m)
-    [ inl e ↦ absurd (h (subst⁻¹ (λ (w : Subset). T (same-subset u w)) e (subset-refl u))) | inr r ↦ At.there (number-at us r) ])
+number-at vs {v} m = index-at (λ u. same-subset u v) vs (λ u h. subset-sound u v h) (subset-refl v) m
 
 module _ (t : Table) where
   abbrev pub node-sets : List Subset

@@ -7,14 +7,14 @@ use mathlib.Core.List.{List, [], _∷_, _++_, map}
 use Prim.Native.Nat.{ℕ, suc, _≤_}
 use native.Mathlib.Omega.{arith}
 use Rattle.base.specs.Lists.{tail}
+use Rattle.base.specs.Spread.{seen, add, adds}
 use Rattle.base.proofs.At.{At, at-lt, at-split}
+use Rattle.base.proofs.SpreadLaws.{adds-append}
 use Rattle.formula.specs.Table.{Table}
 use Rattle.tableau.specs.Saturation.{Subset}
 use Rattle.tableau.specs.Transition.{Transition, transitions}
-use Rattle.coded.specs.Spread.{seen, add, adds}
 use Rattle.coded.specs.Marks.{triples}
 use Rattle.coded.specs.Runs.{Found, same-profile, single-of, ones-of, ones-from, ones}
-use Rattle.coded.proofs.SpreadLaws.{adds-append}
 
 -- items by rising first node, none above k
 pub record Rise (k : ℕ) (xs : List Found) : Type 0 where

@@ -5,17 +5,20 @@
 use mathlib.Core.Path.{_≡_, refl, sym, ap, subst, subst⁻¹, _∙_}
 use mathlib.Core.Logic.{inl, inr}
 use mathlib.Core.Bool.{Bool, true, false, cond, _&&_}
-use mathlib.Core.List.{List, [], _∷_, _++_, map, map-append, append-nil, append-assoc, List·Memᴰ, List·Memᴰ·head, List·Memᴰ·not-nil}
+use mathlib.Core.List.{List, [], _∷_, _++_, map, map-append, map-map, append-nil, List·Memᴰ, List·Memᴰ·head, List·Memᴰ·not-nil}
 use Prim.Native.Nat.{ℕ, zero, suc, _+_, _≤_, _<_}
 use native.Mathlib.Omega.{arith}
 use lib.Dec.{T, eqb, eqb→eq, eqb-refl}
 use lib.ListN.{length}
 use Rattle.base.specs.Lists.{gather, tail}
 use Rattle.base.specs.Search.{Item, onward}
+use Rattle.base.specs.Spread.{adds, spread, each-label}
+use Rattle.base.proofs.AppendLaws.{gather-append}
 use Rattle.base.proofs.BoolLaws.{by-test, of-T, to-T, and-left, and-right, and-both}
 use Rattle.base.proofs.At.{At, at-one}
 use Rattle.base.proofs.Pairs.{Pairs, pairs-append, pairs-maps}
 use Rattle.base.proofs.SearchLaws.{Visits, visits-cons, visits-later, Distinct, onwards}
+use Rattle.base.proofs.MatchLaws.{start, item, Follows, Matches, Thins, search-matches, pairs-thins}
 use Rattle.formula.specs.Table.{Table}
 use Rattle.tableau.specs.Saturation.{Subset, same-subset}
 use Rattle.tableau.specs.Transition.{Transition, transitions}
@@ -25,7 +28,6 @@ use Rattle.tableau.proofs.NodeLaws.{nodes-distinct, nodes-first}
 use Rattle.profile.specs.Traces as literal-triples
 use Rattle.profile.specs.Profiles as literal
 use Rattle.profile.proofs.ProfileLaws.{profile-sound, profile-refl, few}
-use Rattle.coded.specs.Spread.{adds, spread}
 use Rattle.coded.specs.Triples.{same-triples, join}
 use Rattle.coded.specs.Marks.{triples}
 use Rattle.coded.specs.Runs.{Profile, same-profile, Found, follow, longer, number-of, single-of, ones-from, ones, profiles-from}
@@ -35,7 +37,6 @@ use Rattle.coded.proofs.NodeNumbers.{same-numbers}
 use Rattle.coded.proofs.TriplesLaws.{same-triples-sound, same-triples-refl}
 use Rattle.coded.proofs.CarryLaws.{Carries, carries-set, carries-table, carries-join}
 use Rattle.coded.proofs.TableLaws.{Formed, carries-triples}
-use Rattle.coded.proofs.MatchLaws.{Follows, Matches, Thins, search-matches, pairs-thins}
 use Rattle.coded.proofs.ThinLaws.{all-of, adds-thin, Steps, gather-thins}
 
 -- the tests on coded profiles
@@ -57,11 +58,6 @@ same-refl a =
     (same-triples-refl (a .carried))
 
 -- of lists for each node, those of one node alone
-gather-append : {A B : Type 0} (f : A → List B) (xs ys : List A) → gather f (xs ++ ys) ≡ gather f xs ++ gather f ys
-gather-append f [] ys = refl
-gather-append f (x ∷ xs) ys =
-    ap (λ l. f x ++ l) (gather-append f xs ys) ∙ sym (append-assoc (f x) (gather f xs) (gather f ys))
-
 module _ {D : Type 0} (u : Subset) (next : Subset → List Transition) (k : Transition → D) where
   abbrev pick : Bool → Transition → List D
   pick b s = cond b (k s ∷ []) []
@@ -109,10 +105,6 @@ module _ {D : Type 0} (u : Subset) (next : Subset → List Transition) (k : Tran
 cond-one : {A : Type 0} (b : Bool) {x y : A} → cond b (x ∷ []) [] ≡ y ∷ [] → T b × (x ≡ y)
 cond-one true e = (tt, cc)
 cond-one false e = absurd (let z : _≡_ {A = ℕ} 0 1 = cc in omega arith)
-
-map-again : {A B C : Type 0} (f : B → C) (g : A → B) (xs : List A) → map f (map g xs) ≡ map (λ x. f (g x)) xs
-map-again f g [] = refl
-map-again f g (x ∷ xs) = ap (λ l. f (g x) ∷ l) (map-again f g xs)
 
 later : {x : Item Transition Subset} {xs : List (Item Transition Subset)} → Distinct (x ∷ xs) → Distinct xs
 later (Distinct.more n d) = d
@@ -190,12 +182,12 @@ module _ (t : Table) where
     abbrev starts : List Listed
     starts = gather (λ (n : Item Transition Subset). map (literal.one-transition t (n .at)) (transitions t (n .at))) (tail (nodes t))
 
-    start-thins : Thins letter Codes [] [] all-ones starts
+    start-thins : Thins letter each-label Codes [] [] all-ones starts
     unfolding literal-triples.triples
     start-thins =
         pairs-thins
-        (ones-pairs (Follows letter Codes []) (literal.one-transition t) (tail (nodes t)) 1 (λ k x a. others t a)
-        (λ j v s a m. record { codes = single-codes j v s a m; way = inl (refl, refl) })) []
+        (ones-pairs (Follows letter each-label Codes []) (literal.one-transition t) (tail (nodes t)) 1 (λ k x a. others t a)
+        (λ j v s a m. record { codes = single-codes j v s a m; before = []; parent = start; way = refl })) []
 
     -- What a profile leads to.
     module _ (all : List Listed) (p : ℕ) (x : Found) (y : Listed) (here : At all p y)
@@ -221,7 +213,7 @@ module _ (t : Table) where
         follow-is s = refl
 
         gone-follows : (j : ℕ) (v : Subset) (s : Transition) → At (node-sets t) j v → List·Memᴰ s (transitions t v) → u ≡ v
-            → Follows letter Codes all (gone (one j v s)) (next s)
+            → Follows letter each-label Codes all (gone (one j v s)) (next s)
         unfolding literal-triples.triples literal-triples.join
         gone-follows j v s a m q =
             let d = single-codes j v s a m in
@@ -238,15 +230,17 @@ module _ (t : Table) where
                         (literal-triples.triples t v (s .choice)) (c .carried)
                         (d .carried));
                   };
-              way = inr (y, p, refl, here, map-append letter (y .way) (s ∷ []));
+              before = map letter (y .way);
+              parent = item here;
+              way = map-append letter (y .way) (s ∷ []);
             }
 
         steps : (j : ℕ) (v : Subset) (s : Transition) → At (node-sets t) j v → List·Memᴰ s (transitions t v)
-            → Steps letter Codes one-profile all (follow n p x) (one j v s) (picked u (transitions t) next v s)
+            → Steps letter each-label Codes one-profile all (follow n p x) (one j v s) (picked u (transitions t) next v s)
         steps j v s a m = by (same-subset u v) refl
           where
             by : (b : Bool) → same-subset u v ≡ b
-                → Steps letter Codes one-profile all (follow n p x) (one j v s) (picked u (transitions t) next v s)
+                → Steps letter each-label Codes one-profile all (follow n p x) (one j v s) (picked u (transitions t) next v s)
             by true e =
                 inr (
                   gone (one j v s),
@@ -271,30 +265,31 @@ module _ (t : Table) where
               ap goes-to q ∙ ap (λ (a : Found). a .at) r,
             )
 
-        expands : Thins letter Codes all [] (longer n (ones t (node-sets t)) p x) (onwards literal.same-profile (literal.profile-edges t) y)
+        expands : Thins letter each-label Codes all [] (longer n (ones t (node-sets t)) p x)
+            (onwards literal.same-profile (literal.profile-edges t) y)
         unfolding join literal-triples.triples literal-triples.join
         expands =
             let (kept, e, thin) = adds-thin same-profile same-sound [] [] all-ones (λ z m. m) in
-            subst⁻¹ (λ (l : List Found). Thins letter Codes all [] (gather (follow n p x) l)
+            subst⁻¹ (λ (l : List Found). Thins letter each-label Codes all [] (gather (follow n p x) l)
             (onwards literal.same-profile (literal.profile-edges t) y))
             (ones-are ∙ e)
-            (subst (Thins letter Codes all [] (gather (follow n p x) kept))
+            (subst (Thins letter each-label Codes all [] (gather (follow n p x) kept))
             (one-picked u (transitions t) next (tail (nodes t)) (later (subst Distinct (nodes-first t) (nodes-distinct t)))
             (other-visits t (c .last) (c .on))
-            ∙ sym (map-again (onward literal.same-profile (literal.profile-edges t) y) (literal.longer t (y .at)) (transitions t u)))
-            (gather-thins letter Codes one-profile all (follow n p x) follows-alike thin
-            (ones-pairs (Steps letter Codes one-profile all (follow n p x)) (picked u (transitions t) next) (tail (nodes t)) 1
+            ∙ sym (map-map (onward literal.same-profile (literal.profile-edges t) y) (literal.longer t (y .at)) (transitions t u)))
+            (gather-thins letter each-label Codes one-profile all (follow n p x) follows-alike thin
+            (ones-pairs (Steps letter each-label Codes one-profile all (follow n p x)) (picked u (transitions t) next) (tail (nodes t)) 1
             (λ k x a. others t a) steps)
             [] (λ z m. absurd (List·Memᴰ·not-nil m))))
 
     -- Theorem: with fuel enough the profiles match.
     pub profiles-match : (fuel : ℕ) → length (literal.profiles t (nodes t)) ≤ fuel
-        → Matches letter Codes (profiles fuel t (node-sets t)) (literal.profiles t (nodes t))
+        → Matches letter each-label Codes (profiles fuel t (node-sets t)) (literal.profiles t (nodes t))
     unfolding profiles profiles-from join literal.profiles literal-triples.triples literal-triples.join
     profiles-match fuel h =
-        subst⁻¹ (λ (l : List Found). Matches letter Codes
+        subst⁻¹ (λ (l : List Found). Matches letter each-label Codes
         (spread same-profile (longer (length (operands t)) (ones t (node-sets t))) fuel 0 l) (literal.profiles t (nodes t))) ones-are
-        (search-matches letter Codes literal.same-profile (literal.profile-edges t) profile-sound profile-refl same-profile same-sound
-        same-refl one-profile one-code
+        (search-matches letter each-label Codes literal.same-profile (literal.profile-edges t) profile-sound profile-refl same-profile
+        same-sound same-refl one-profile one-code
         (longer (length (operands t)) (ones t (node-sets t))) expands (literal.profile-room t (length (nodes t))) fuel starts all-ones
         start-thins (omega (arith, few t)) h)

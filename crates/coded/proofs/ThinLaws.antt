@@ -10,12 +10,12 @@ use native.Mathlib.Omega.{arith}
 use lib.Dec.{T}
 use Rattle.base.specs.Lists.{gather}
 use Rattle.base.specs.Search.{Item}
+use Rattle.base.specs.Spread.{Numbered, seen, adds}
 use Rattle.base.proofs.BoolLaws.{by-test}
 use Rattle.base.proofs.MemberLaws.{any-of}
 use Rattle.base.proofs.Pairs.{Pairs}
 use Rattle.base.proofs.SearchLaws.{Visits, visits-later}
-use Rattle.coded.specs.Spread.{Numbered, seen, adds}
-use Rattle.coded.proofs.MatchLaws.{Follows, Thins}
+use Rattle.base.proofs.MatchLaws.{Follows, Thins}
 
 module _ {M J : Type 0} where
   -- some of a list, where s is seen: those left out are at vertices seen before
@@ -52,14 +52,15 @@ not-both e f = let z : _≡_ {A = ℕ} 0 1 = cc in omega arith
 one-only : {A : Type 0} {xs : List A} {x y : A} → xs ≡ x ∷ [] → xs ≡ y ∷ [] → x ≡ y
 one-only e f = cc
 
-module _ {L K M J : Type 0} (letter : L → M) (Codes : J → K → Type 0) (one-k : (j : J) (k l : K) → Codes j k → Codes j l → k ≡ l)
+module _ {L K M J : Type 0} (letter : L → M) (own : Numbered M J → List M) (Codes : J → K → Type 0)
+    (one-k : (j : J) (k l : K) → Codes j k → Codes j l → k ≡ l)
     (all : List (Item L K)) (follow : Numbered M J → List (Numbered M J))
   where
     -- both lead nowhere, or each to one, the one's standing for the other's
     abbrev pub Steps : Numbered M J → List (Item L K) → Type 0
     Steps x ys =
         ((follow x ≡ []) × (ys ≡ []))
-        ⊎ ((x₁ : Numbered M J) × (y₁ : Item L K) × (follow x ≡ x₁ ∷ []) × (ys ≡ y₁ ∷ []) × Follows letter Codes all x₁ y₁)
+        ⊎ ((x₁ : Numbered M J) × (y₁ : Item L K) × (follow x ≡ x₁ ∷ []) × (ys ≡ y₁ ∷ []) × Follows letter own Codes all x₁ y₁)
 
     abbrev Covers : List (Numbered M J) → List (Item L K) → Type 0
     Covers old s = (z : Numbered M J) → List·Memᴰ z old → (z₁ : Numbered M J) → follow z ≡ z₁ ∷ [] → (k : K) → Codes (z₁ .at) k → Visits k s
@@ -69,13 +70,13 @@ module _ {L K M J : Type 0} (letter : L → M) (Codes : J → K → Type 0) (one
         → (z₁ : Numbered M J) × (follow z ≡ z₁ ∷ []) × (z₁ .at ≡ x₁ .at))
       where
         pub gather-thins : {old xs ys : List (Numbered M J)} {bs : List (List (Item L K))} → Thin old xs ys → Pairs Steps ys bs
-            → (s : List (Item L K)) → Covers old s → Thins letter Codes all s (gather follow xs) (all-of bs)
+            → (s : List (Item L K)) → Covers old s → Thins letter own Codes all s (gather follow xs) (all-of bs)
         gather-thins Thin.none Pairs.none s c = Thins.none
         gather-thins (Thin.keep {xs} {x} r) (Pairs.more {y = b} {ys = bs} h p) s c =
             elim h [
               | inl e ↦
-                  subst⁻¹ (λ (l : List (Numbered M J)). Thins letter Codes all s (l ++ gather follow xs) (b ++ all-of bs)) (e .0)
-                  (subst⁻¹ (λ (l : List (Item L K)). Thins letter Codes all s (gather follow xs) (l ++ all-of bs)) (e .1)
+                  subst⁻¹ (λ (l : List (Numbered M J)). Thins letter own Codes all s (l ++ gather follow xs) (b ++ all-of bs)) (e .0)
+                  (subst⁻¹ (λ (l : List (Item L K)). Thins letter own Codes all s (gather follow xs) (l ++ all-of bs)) (e .1)
                   (gather-thins r p s
                   (λ z m z₁ q k d.
                   elim (List·Memᴰ·cases-cons m)
@@ -83,8 +84,8 @@ module _ {L K M J : Type 0} (letter : L → M) (Codes : J → K → Type 0) (one
               | inr e ↦
                   let x₁ = e .0 in
                   let y₁ = e .1 in
-                  subst⁻¹ (λ (l : List (Numbered M J)). Thins letter Codes all s (l ++ gather follow xs) (b ++ all-of bs)) (e .2)
-                  (subst⁻¹ (λ (l : List (Item L K)). Thins letter Codes all s (x₁ ∷ gather follow xs) (l ++ all-of bs)) (e .3)
+                  subst⁻¹ (λ (l : List (Numbered M J)). Thins letter own Codes all s (l ++ gather follow xs) (b ++ all-of bs)) (e .2)
+                  (subst⁻¹ (λ (l : List (Item L K)). Thins letter own Codes all s (x₁ ∷ gather follow xs) (l ++ all-of bs)) (e .3)
                   (Thins.both (e .4)
                   (gather-thins r p (y₁ ∷ s)
                   (λ z m z₁ q k d.
@@ -102,10 +103,10 @@ module _ {L K M J : Type 0} (letter : L → M) (Codes : J → K → Type 0) (one
         gather-thins (Thin.omit {xs} {z} {y} m q r) (Pairs.more {y = b} {ys = bs} h p) s c =
             elim h [
               | inl e ↦
-                  subst⁻¹ (λ (l : List (Item L K)). Thins letter Codes all s (gather follow xs) (l ++ all-of bs)) (e .1)
+                  subst⁻¹ (λ (l : List (Item L K)). Thins letter own Codes all s (gather follow xs) (l ++ all-of bs)) (e .1)
                   (gather-thins r p s c)
               | inr e ↦
                   let (z₁, i, j) = alike z y q (e .0) (e .2) in
-                  subst⁻¹ (λ (l : List (Item L K)). Thins letter Codes all s (gather follow xs) (l ++ all-of bs)) (e .3)
+                  subst⁻¹ (λ (l : List (Item L K)). Thins letter own Codes all s (gather follow xs) (l ++ all-of bs)) (e .3)
                   (Thins.skip (c z m z₁ i (e .1 .at) (subst⁻¹ (λ (w : J). Codes w (e .1 .at)) j (e .4 .codes))) (gather-thins r p s c))
             ]

@@ -1,4 +1,3 @@
-pub mod Spread
 pub mod Triples
 pub mod Marks
 pub mod Runs

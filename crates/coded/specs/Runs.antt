@@ -5,12 +5,12 @@ use mathlib.Core.List.{List, [], _∷_, _++_, map}
 use Prim.Native.Nat.{ℕ, suc}
 use lib.Dec.{eqb}
 use lib.ListN.{length, getD}
-use Rattle.base.specs.Lists.{gather, tail}
+use Rattle.base.specs.Lists.{gather, index, tail}
+use Rattle.base.specs.Spread.{Numbered, adds, spread}
 use Rattle.formula.specs.Table.{Table}
 use Rattle.tableau.specs.Saturation.{Subset, same-subset}
 use Rattle.tableau.specs.Transition.{Transition, transitions}
 use Rattle.tableau.specs.Nodes.{operands}
-use Rattle.coded.specs.Spread.{Numbered, adds, spread}
 use Rattle.coded.specs.Triples.{Triples, same-triples, join, rejecting}
 use Rattle.coded.specs.Marks.{triples, leasts}
 
@@ -53,8 +53,7 @@ profiles-from fuel n ones = spread same-profile (longer n ones) fuel 0 ones
 
 -- the number of a node
 abbrev pub number-of : List Subset → Subset → ℕ
-number-of [] v = 0
-number-of (u ∷ us) v = let r = suc (number-of us v) in cond (same-subset u v) 0 r
+number-of vs v = index (λ u. same-subset u v) vs
 
 -- the profile of a transition of node i, which is the set v
 abbrev pub single-of : Table → List Subset → (i : ℕ) → Subset → Transition → Found

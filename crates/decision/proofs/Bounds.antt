@@ -17,8 +17,8 @@ use Rattle.formula.proofs.Fuel.{parse-stopped}
 use Rattle.formula.proofs.Early.{parse-early}
 use Rattle.tableau.specs.Saturation.{Subset}
 use Rattle.tableau.specs.Transition.{Transition}
-use Rattle.tableau.proofs.TransitionLaws.{letter-bound}
 use Rattle.tableau.specs.Run.{Along}
+use Rattle.tableau.proofs.TransitionLaws.{letter-bound}
 use Rattle.profile.specs.Profiles.{Profile}
 use Rattle.profile.specs.Cycle.{Run}
 use Rattle.decision.specs.Verdict.{Verdict, verdict}

@@ -3,9 +3,7 @@ pub mod WitnessLaws
 pub mod LendsLaws
 pub mod VerdictLaws
 pub mod Answer
-pub mod ChainLaws
-pub mod StemLaws
-pub mod TryLaws
+pub mod AcceptingLaws
 pub mod ConcludeLaws
 pub mod SettleLaws
 pub mod SearchedLaws

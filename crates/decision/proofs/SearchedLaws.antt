@@ -1,8 +1,8 @@
 -- The nodes and then the profiles in the workspace: what the two searches promise, put together. The nodes stand at the beginning of the
--- workspace and the shelf of profiles behind them, so the search of profiles leaves the nodes as they are; both leave all behind the
--- shelf. The counts are K and P, or one more than there is room for. Assumes nothing.
-use mathlib.Core.Path.{_≡_, sym, ap, subst, subst⁻¹, _∙_}
-use mathlib.Core.List.{List, _++_, map}
+-- workspace and the shelf of profiles behind them; both searches leave all behind the shelf. The counts are K and P, or one more than
+-- there is room for. Assumes nothing.
+use mathlib.Core.Path.{_≡_, sym, ap, subst, _∙_}
+use mathlib.Core.List.{List, [], _++_, map, List·Memᴰ}
 use Prim.Native.Nat.{ℕ, _+_, _*_, _-_, _≤_, _<_}
 use native.Mathlib.Omega.{arith}
 use lib.ListN.{length, length-append, length-map, length-take, length-drop, getD, take, drop}
@@ -10,34 +10,36 @@ use lib.Seq.{getD-append-add, getD-drop, ext-getD}
 use Rattle.base.specs.Lists.{gather}
 use Rattle.base.specs.Bits.{word}
 use Rattle.base.specs.Search.{Item}
+use Rattle.base.proofs.At.{at-lt, at-of}
+use Rattle.base.proofs.SpreadLaws.{spread-length}
 use Rattle.formula.specs.Table.{Table}
 use Rattle.tableau.specs.Saturation.{Subset}
-use Rattle.tableau.specs.Transition.{Transition}
+use Rattle.tableau.specs.Transition.{Transition, transitions}
 use Rattle.tableau.specs.Nodes.{operands, nodes}
 use Rattle.tableau.specs.Promise.{table-of}
 use Rattle.tableau.specs.Area.{bytes8, Holds, reachable, Sized}
+use Rattle.tableau.specs.Origins.{Origins}
 use Rattle.tableau.proofs.NodeLaws.{nodes-first}
 use Rattle.tableau.proofs.LoopLaws.{table-length}
 use Rattle.tableau.proofs.AreaLaws.{stored-length}
-use Rattle.tableau.proofs.NodeReads.{reachable-sized, Kept, nodes-kept, kept-at, kept-same}
-use Rattle.profile.specs.Profiles as literal
-use Rattle.coded.specs.Runs.{same-profile, longer, profiles-from, ones, profiles}
-use Rattle.coded.proofs.NodeNumbers.{sets}
-use Rattle.coded.proofs.AgreeLaws.{Agrees, agrees}
+use Rattle.tableau.proofs.NodeReads.{reachable-sized, Kept, nodes-kept}
+use Rattle.coded.specs.Runs.{same-profile, longer, profiles-from, number-of, ones, profiles}
+use Rattle.coded.proofs.NodeNumbers.{leads-in}
 use Rattle.traces.specs.Promise.{Limited, Ranks-of}
 use Rattle.traces.specs.declared.Ranks.{Ranks}
 use Rattle.runs.specs.Stored.{stored, Lent, Grown}
-use Rattle.runs.specs.Singles.{Given, nodes-in}
+use Rattle.runs.specs.Singles.{Given, node-in, nodes-in}
 use Rattle.runs.specs.declared.Shelf.{Shelf}
-use Rattle.coded.proofs.SpreadLaws.{spread-length}
 use Rattle.runs.proofs.GrowLaws.{grown-longer, grown-on}
-use Rattle.runs.proofs.SingleLaws.{nodes-in-are, node-sets}
 use Rattle.decision.specs.Verdict.{workspace-size}
 use Rattle.decision.specs.Lends.{Lends}
+use Rattle.runs.proofs.SingleLaws.{nodes-in-are, node-in-are, node-sets}
+use Rattle.witness.specs.Letters.{over}
 use Rattle.decision.specs.Promise.{node-count, profile-count}
 use Rattle.decision.specs.Searched.{Decoded, Profiled, Answers, concluded, Within, Searched}
 use Rattle.decision.specs.declared.Verdict as code
 use Rattle.decision.specs.declared.Verdict.the-variants.{Refused}
+use Rattle.decision.proofs.ConcludeLaws.{decoded-agrees}
 use Rattle.decision.proofs.SettleLaws.{searched-14, searched-15, searched-on}
 
 -- The profiles of one transition, and then all.
@@ -68,13 +70,13 @@ within-of {n} {a} {b} e f =
 
 -- A list written over the beginning of another.
 module _ (g a : List ℕ) (h : length g ≤ length a) where
-  over-length : length (g ++ drop (length g) a) ≡ length a
+  over-length : length (over g a) ≡ length a
   over-length = omega (arith, length-append g (drop (length g) a), length-drop (length g) a)
 
-  over-beyond : (i : ℕ) → length g ≤ i → getD (g ++ drop (length g) a) i 0 ≡ getD a i 0
+  over-beyond : (i : ℕ) → length g ≤ i → getD (over g a) i 0 ≡ getD a i 0
   over-beyond i l =
       let j = i - length g in
-      ap (λ (k : ℕ). getD (g ++ drop (length g) a) k 0) {x = i} {y = length g + j} (omega arith)
+      ap (λ (k : ℕ). getD (over g a) k 0) {x = i} {y = length g + j} (omega arith)
       ∙ getD-append-add g (drop (length g) a) j 0
       ∙ getD-drop (length g) a j 0
       ∙ ap (λ (k : ℕ). getD a k 0) {x = length g + j} {y = i} (omega arith)
@@ -95,7 +97,7 @@ module _ {rows : List ℕ} {count : ℕ} (d : Decoded rows count) {N M buffer : 
     words-few : length (gather bytes8 words) ≤ 8 * N
     words-few = omega (arith, stored-length words, length-take N (map word (reachable t)))
 
-    area-is : area ≡ gather bytes8 words ++ drop (length (gather bytes8 words)) a
+    area-is : area ≡ over (gather bytes8 words) a
     area-is = holds .area-is ∙ ap (λ (k : ℕ). gather bytes8 words ++ drop k a) (sym (stored-length words))
 
     area-length : length area ≡ length a
@@ -113,18 +115,20 @@ module _ {rows : List ℕ} {count : ℕ} (d : Decoded rows count) {N M buffer : 
         (within-of area-length (λ i k. area-beyond i (omega arith)))
 
 -- The nodes have room, and the shelf s stands behind them.
-pub record Behind (rows : List ℕ) (count N M buffer : ℕ) (a area : List ℕ) (known : ℕ) (r : Ranks) (s : Shelf) : Type 0 where
+pub record Behind (rows : List ℕ) (count N M buffer : ℕ) (a area origins : List ℕ) (known : ℕ) (r : Ranks) (s : Shelf) : Type 0 where
   pub decoded : Decoded rows count
   pub lends : Lends N M (length a) buffer
   pub holds : Holds N known a area (reachable (table-of rows count))
   pub fits : known ≤ N
+  pub notes-are : Origins (table-of rows count) origins known
+  pub notes-room : 2 * N ≤ length origins
   pub ranks : Ranks-of rows count r
   pub base-is : s .base ≡ 8 * N
   pub capacity-is : s .capacity ≡ M
   pub nexts-are : s .n ≡ r .nexts
 
-module _ {rows : List ℕ} {count N M buffer : ℕ} {a area : List ℕ} {known : ℕ} {r : Ranks} {s : Shelf}
-    (b : Behind rows count N M buffer a area known r s) where
+module _ {rows : List ℕ} {count N M buffer : ℕ} {a area origins : List ℕ} {known : ℕ} {r : Ranks} {s : Shelf}
+    (b : Behind rows count N M buffer a area origins known r s) where
   abbrev table′ : Table
   table′ = table-of rows count
 
@@ -145,6 +149,18 @@ module _ {rows : List ℕ} {count N M buffer : ℕ} {a area : List ℕ} {known :
 
   kept : Kept (reachable table′) area
   kept = nodes-kept (limited .formed) (b .holds) (b .fits)
+
+  nodes-are : nodes-in count area known ≡ reachable table′
+  nodes-are = ap (nodes-in count area) known-length ∙ nodes-in-are sized kept
+
+  -- a transition of a node leads to a node
+  closed : (i : ℕ) → i < known → (x : Transition) → List·Memᴰ x (transitions table′ (node-in count area i))
+      → number-of (nodes-in count area known) (x .to) < known
+  closed i h x m =
+      let there = at-of (reachable table′) i [] (omega (arith, known-length)) in
+      let same = node-in-are sized kept i (omega (arith, known-length)) in
+      let leads = leads-in table′ x there (subst (λ (v : Subset). List·Memᴰ x (transitions table′ v)) same m) in
+      omega (arith, ap (λ (us : List Subset). number-of us (x .to)) nodes-are, at-lt leads, known-length)
 
   on-shelf : (x : List ℕ) → length x ≡ length a → Lent s (length x)
   on-shelf x e =
@@ -167,6 +183,7 @@ module _ {rows : List ℕ} {count N M buffer : ℕ} {a area : List ℕ} {known :
         few = omega (arith, b .fits, b .lends .capacity .few-nodes);
         behind = omega (arith, b .fits, b .base-is);
         sets = λ i h. node-sets sized kept i (omega (arith, known-length));
+        closed = closed;
       }
 
   module _ {all : ℕ} {after : List ℕ}
@@ -178,13 +195,10 @@ module _ {rows : List ℕ} {count N M buffer : ℕ} {a area : List ℕ} {known :
     grown : Grown s 0 area all after (profiles fuel table′ (reachable table′))
     grown =
         subst (λ (l : List Subset). Grown s 0 area all after (profiles fuel table′ l))
-        (ap (nodes-in count area) known-length ∙ nodes-in-are sized kept) (g fuel (omega (arith, b .capacity-is)))
+        nodes-are (g fuel (omega (arith, b .capacity-is)))
 
     profiles-length : length (profiles fuel table′ (reachable table′)) ≡ profile-count table′
-    profiles-length =
-        subst⁻¹ (λ (u : Table). length (literal.profiles u (nodes u)) ≤ fuel
-        → Agrees u (profiles fuel u (sets (nodes u))) (literal.profiles u (nodes u)))
-        (b .decoded .is) (agrees (b .decoded .bytes) (b .decoded .formula) (b .decoded .parsed) fuel) (omega arith) .count
+    profiles-length = decoded-agrees (b .decoded) fuel (omega arith) .count
 
     all-within : Within (workspace-size N M) a after
     all-within =
@@ -203,33 +217,27 @@ module _ {rows : List ℕ} {count N M buffer : ℕ} {a area : List ℕ} {known :
       all-is : all ≡ profile-count table′
       all-is = omega (arith, grown .count-is, profiles-length, b .capacity-is)
 
-      -- Theorem: with room, all nodes and all profiles stand in the workspace,
-      pub all-profiled : Profiled rows count after s known all
+      -- Theorem: with room, all profiles stand in the workspace, and the notes are those of all nodes,
+      pub all-profiled : Profiled rows count origins after s known all
       all-profiled =
           record {
             decoded = b .decoded;
-            standing =
-                record {
-                  formed = limited .formed;
-                  few = omega (arith, known-is, b .fits, b .lends .capacity .few-nodes);
-                  room = omega (arith, known-is, b .fits, b .lends .workspace-fits, grown .elsewhere .same-length, same-length);
-                  words = λ i l.
-                      kept-at (kept-same kept after
-                      (λ j k. grown .elsewhere .below j (omega (arith, b .fits, b .base-is, known-length)))) i
-                      (omega (arith, known-is, known-length));
-                };
+            notes-are = b .notes-are;
+            notes-room = omega (arith, b .notes-room, b .fits);
             lent = on-shelf after (grown .elsewhere .same-length ∙ same-length);
             operands-are = b .nexts-are ∙ b .ranks .nexts-are;
             few = omega (arith, b .capacity-is);
             nodes-are = known-is;
             profiles-are = all-is;
-            stored-are = (fuel, omega (arith, all-is), grown .records (omega (arith, b .capacity-is)));
+            fuel = fuel;
+            enough = omega (arith, all-is);
+            stored-are = grown .records (omega (arith, b .capacity-is));
           }
 
       pub buffer-room : known + all ≤ buffer
       buffer-room = omega (arith, b .fits, b .lends .buffer-fits)
 
       -- and the answer over them is the answer.
-      pub answer-on : {before after′ : List ℕ} {v : code.Verdict} → Answers table′ (concluded table′) before after′ v
+      pub answer-on : {before after′ : List ℕ} {v : code.Verdict} → Answers (concluded table′) before after′ v
           → Searched table′ N M a after before after′ v
       answer-on v = searched-on N M table′ (omega (arith, known-is, b .fits)) (omega (arith, all-is)) v all-within

@@ -23,12 +23,12 @@ use Rattle.traces.proofs.LimitLaws.{held-limited}
 use Rattle.profile.specs.Profiles as literal
 use Rattle.decision.specs.Verdict.{Verdict, conclude, decide, workspace-size, witness-size, lent, after-reading, verdict}
 use Rattle.decision.specs.Lends.{Capacity, Lends}
-use Rattle.decision.specs.Promise.{says, node-count, profile-count, Witness, Buffered, zeroed, cleared, Decided}
-use Rattle.decision.specs.Searched.{Decoded, Leaves, Answers, Within, Searched, Settled, concluded}
+use Rattle.decision.specs.Promise.{says, node-count, profile-count, Buffered, zeroed, cleared, Decided}
+use Rattle.decision.specs.Searched.{Decoded, leaves, Answers, Within, Searched, Settled, concluded}
 use Rattle.decision.specs.declared.Verdict as code
 use Rattle.decision.specs.declared.Verdict.the-variants.{Refused, Unread}
 use Rattle.decision.proofs.VerdictLaws.{From11, From14, lent-asked, decide-asked}
-use Rattle.decision.proofs.Answer.{past-13, witness-holds, verdict-met, verdict-unmet}
+use Rattle.decision.proofs.Answer.{past-13, verdict-met, verdict-unmet}
 
 -- The questions 14 and 15.
 module _ (N M : ℕ) (t : Table) where
@@ -51,8 +51,8 @@ module _ (N M : ℕ) (t : Table) where
       (λ _. every-outcome (Clears w) refl
       (λ _ o e. subst⁻¹ (Clears w) e (concluded-clears w found))) (decide N M t) from-14
 
-  answers-refused : (c : ℕ) {l : List ℕ} → decide N M t ≡ Verdict.refused c → Answers t (decide N M t) l l (Refused c)
-  answers-refused c {l} e = subst⁻¹ (λ (v : Verdict). Answers t v l l (Refused c)) e (record { answered = refl; buffered = refl })
+  answers-refused : (c : ℕ) {l : List ℕ} → decide N M t ≡ Verdict.refused c → Answers (decide N M t) l l (Refused c)
+  answers-refused c {l} e = subst⁻¹ (λ (v : Verdict). Answers v l l (Refused c)) e (record { answered = refl; buffered = refl })
 
   pub searched-14 : {area area′ : List ℕ} (l : List ℕ) → N < node-count t → Within (workspace-size N M) area area′
       → Searched t N M area area′ l l (Refused 14)
@@ -63,10 +63,10 @@ module _ (N M : ℕ) (t : Table) where
   searched-15 l k h w = record { answers = answers-refused 15 (first-refusal (passed from-14 k) (λ j. omega arith)); within = w }
 
   pub searched-on : {area area′ before after : List ℕ} {r : code.Verdict} → node-count t ≤ N → profile-count t ≤ M
-      → Answers t (concluded t) before after r
+      → Answers (concluded t) before after r
       → Within (workspace-size N M) area area′ → Searched t N M area area′ before after r
   searched-on {before = before} {after} {r} k h a w =
-      record { answers = subst⁻¹ (λ (v : Verdict). Answers t v before after r) (passed (passed from-14 k) h) a; within = w }
+      record { answers = subst⁻¹ (λ (v : Verdict). Answers v before after r) (passed (passed from-14 k) h) a; within = w }
 
 -- The questions 11 to 13.
 module _ (N M : ℕ) (workspace buffer : List ℕ) (t : Table) where
@@ -83,7 +83,7 @@ module _ (N M : ℕ) (workspace buffer : List ℕ) (t : Table) where
       → Settled t N M workspace workspace buffer buffer (Refused c)
   refuses c k e =
       record {
-        answers = subst⁻¹ (λ (v : Verdict). Answers t v buffer buffer (Refused c)) e (record { answered = refl; buffered = refl });
+        answers = subst⁻¹ (λ (v : Verdict). Answers v buffer buffer (Refused c)) e (record { answered = refl; buffered = refl });
         worked = sym (ap (λ (v : Verdict). cleared N M v workspace) e ∙ k);
       }
 
@@ -103,7 +103,7 @@ module _ (N M : ℕ) (workspace buffer : List ℕ) (t : Table) where
       → Settled t N M workspace area″ buffer buffer′ r
   settled-on {area′} {area″} {buffer′} {bytes} {r} l s z e =
       record {
-        answers = subst⁻¹ (λ (v : Verdict). Answers t v buffer buffer′ r) whole (s .answers);
+        answers = subst⁻¹ (λ (v : Verdict). Answers v buffer buffer′ r) whole (s .answers);
         worked = e ∙ ap (λ (k : ℕ). zeros k ++ drop k area′) z
             ∙ ap (λ (x : List ℕ). zeros (workspace-size N M) ++ x) (s .within .behind)
             ∙ sym (ap (λ (v : Verdict). cleared N M v workspace) whole ∙ decided-clears N M t workspace);
@@ -113,35 +113,19 @@ module _ (N M : ℕ) (workspace buffer : List ℕ) (t : Table) where
       whole = past-13 from-11 l
 
 -- An answer over the table of what was read.
-same-formula : {f g : Formula} → Reading.accepted f ≡ Reading.accepted g → f ≡ g
-same-formula e = cc
-
 module _ (bytes : List ℕ) (N M : ℕ) (workspace buffer : List ℕ) where
   abbrev whole-verdict : Verdict
   whole-verdict = verdict N M (length workspace) (length buffer) bytes
 
-  buffered : (f : Formula) (buffer′ : List ℕ) → parse bytes ≡ Reading.accepted f → (v : Verdict) → whole-verdict ≡ v
-      → Leaves (table f) v buffer buffer′
-      → Buffered bytes v buffer buffer′
-  buffered f buffer′ p (Verdict.unread why) e l = l
-  buffered f buffer′ p (Verdict.refused c) e l = l
-  buffered f buffer′ p (Verdict.unsatisfiable K P) e l = (verdict-unmet N M (length workspace) (length buffer) bytes K P e, l)
-  buffered f buffer′ p (Verdict.satisfiable stem cycle K P ls) e (letters, w, q) =
-      let m = verdict-met N M (length workspace) (length buffer) bytes stem cycle K P ls e in
-      let same : f ≡ m .formula = same-formula (sym p ∙ m .reads) in
-      let u : Witness (table (m .formula)) stem cycle letters = subst (λ (g : Formula). Witness (table g) stem cycle letters) same w in
+  buffered : (buffer′ : List ℕ) (v : Verdict) → whole-verdict ≡ v → buffer′ ≡ leaves v buffer → Buffered bytes v buffer buffer′
+  buffered buffer′ (Verdict.unread why) e l = l
+  buffered buffer′ (Verdict.refused c) e l = l
+  buffered buffer′ (Verdict.unsatisfiable K P) e l = (verdict-unmet N M (length workspace) (length buffer) bytes K P e, l)
+  buffered buffer′ (Verdict.satisfiable stem cycle K P ls) e l =
       record {
-        letters = letters;
-        met =
-            record {
-              formula = m .formula;
-              reads = m .reads;
-              holds = witness-holds bytes (m .formula) (m .reads) u;
-              witness = u;
-              nodes-counted = m .nodes-counted;
-              profiles-counted = m .profiles-counted;
-            };
-        filled = q;
+        letters = ls;
+        met = verdict-met N M (length workspace) (length buffer) bytes stem cycle K P ls e;
+        filled = l;
       }
 
   settled-decided : {workspace′ buffer′ : List ℕ} {r : code.Verdict} (f : Formula) → parse bytes ≡ Reading.accepted f
@@ -152,8 +136,7 @@ module _ (bytes : List ℕ) (N M : ℕ) (workspace buffer : List ℕ) where
       ap (after-reading N M (length workspace) (length buffer)) p in
       record {
         answered = s .answers .answered ∙ sym (ap says e);
-        buffered = buffered f buffer′ p whole-verdict refl
-            (subst⁻¹ (λ (v : Verdict). Leaves (table f) v buffer buffer′) e (s .answers .buffered));
+        buffered = buffered buffer′ whole-verdict refl (s .answers .buffered ∙ sym (ap (λ (v : Verdict). leaves v buffer) e));
         worked = s .worked ∙ sym (ap (λ (v : Verdict). cleared N M v workspace) e);
       }
 

@@ -1,7 +1,7 @@
 -- What the decision hands back beside K and P. The profiles stand by rank: by the length of the run, and at equal length by the distance
 -- of the first node from the root. So the first accepting one is that of an accepting cycle with the fewest transitions, at a node that is
 -- nearest to the root of all that have such a cycle; and where there is none, there is no accepting cycle. Assumes nothing.
-use mathlib.Core.Path.{_≡_, refl, sym, ap, subst, subst⁻¹, _∙_}
+use mathlib.Core.Path.{_≡_, refl, sym, ap, subst, subst⁻¹}
 use mathlib.Core.Logic.{inl, inr}
 use mathlib.Core.Bool.{cond}
 use mathlib.Core.Option.{none, some}
@@ -11,7 +11,7 @@ use native.Mathlib.Omega.{arith}
 use native.Mathlib.Nat.{add-mul, one-mul, mul-le-mul-right}
 use native.Mathlib.Decide.{decLe}
 use lib.Dec.{T}
-use lib.ListN.{length, length-append, length-map}
+use lib.ListN.{length}
 use Rattle.base.specs.Lists.{first, tail}
 use Rattle.base.specs.Search.{Item}
 use Rattle.base.proofs.BoolLaws.{by-test}
@@ -31,12 +31,6 @@ use Rattle.decision.specs.Verdict.{stem-to}
 use Rattle.decision.specs.Promise.{node-count, Witness}
 use Rattle.tableau.specs.Run.{Reachable, Along}
 use Rattle.profile.specs.Cycle.{Run, AcceptingCycle}
-
--- so many letters, one for each transition
-pub witness-length : {t : Table} {stem cycle : ℕ} {letters : List ℕ} → Witness t stem cycle letters → length letters ≡ stem + cycle
-witness-length w =
-    ap length (w .letters-are) ∙ length-map (w .there ++ w .around) (λ (s : Transition). s .letter)
-    ∙ omega (arith, length-append (w .there) (w .around), w .stem-is, w .cycle-is)
 
 -- the stem to a node is the way that the node comes with
 pub stem-of : (ns : List (Item Transition Subset)) → Distinct ns → {x : Item Transition Subset} → List·Memᴰ x ns

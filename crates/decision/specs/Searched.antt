@@ -1,8 +1,11 @@
 -- What the functions promise that build the tableau, search the profiles and answer. A reader of the decision's contract need not read
 -- it. Assumes nothing.
 use mathlib.Core.Path.{_≡_}
+use mathlib.Core.Bool.{Bool, not, _&&_}
 use mathlib.Core.List.{List, _++_}
-use Prim.Native.Nat.{ℕ, _+_, _≤_}
+use mathlib.Core.Option.{Option, none, some}
+use Prim.Native.Nat.{ℕ, _+_, _*_, _≤_}
+use lib.Dec.{eqb}
 use lib.ListN.{length, drop}
 use Rattle.base.specs.Lists.{first}
 use Rattle.formula.specs.Formula.{Formula}
@@ -11,15 +14,28 @@ use Rattle.formula.specs.Reading.{Reading, parse}
 use Rattle.tableau.specs.Nodes.{operands, nodes}
 use Rattle.tableau.specs.Promise.{table-of}
 use Rattle.tableau.specs.Area.{reachable}
+use Rattle.tableau.specs.Origins.{Origins}
 use Rattle.profile.specs.Profiles as literal
-use Rattle.coded.specs.Runs.{profiles}
+use Rattle.coded.specs.Triples.{rejecting}
+use Rattle.coded.specs.Runs.{Found, profiles}
 use Rattle.traces.specs.Promise.{Limited}
 use Rattle.runs.specs.Stored.{stored, Lent}
 use Rattle.runs.specs.declared.Shelf.{Shelf}
 use Rattle.decision.specs.Verdict.{Verdict, conclude, decide, workspace-size, lent}
-use Rattle.decision.specs.Promise.{says, node-count, profile-count, Witness, cleared}
+use Rattle.decision.specs.Promise.{says, node-count, profile-count, cleared}
 use Rattle.decision.specs.declared.Verdict as code
-use Rattle.decision.specs.Stem.{Standing}
+use Rattle.decision.specs.declared.Cycle.{Cycle}
+use Rattle.decision.specs.declared.Cycle.the-variants as cycle
+
+-- back to its first node, and not rejecting, where a test tells the least fixpoints
+unfoldable pub accepts : (ℕ → Bool) → ℕ → Found → Bool
+unfolding rejecting
+accepts least n x = eqb (x .at .first) (x .at .last) && not (rejecting least n (x .at .carried))
+
+-- the number of the profile of an accepting cycle, if there is one
+abbrev pub number-in : Cycle → Option ℕ
+number-in (cycle.Accepting p) = some p
+number-in cycle.None = none
 
 -- The rows hold the table of a formula that was read.
 pub record Decoded (rows : List ℕ) (count : ℕ) : Type 0 where
@@ -29,29 +45,31 @@ pub record Decoded (rows : List ℕ) (count : ℕ) : Type 0 where
   pub is : table-of rows count ≡ table formula
   pub limited : Limited rows count
 
--- The area holds the K nodes, and on the shelf the P profiles, of the rows' table.
-pub record Profiled (rows : List ℕ) (count : ℕ) (area : List ℕ) (s : Shelf) (K P : ℕ) : Type 0 where
+-- The area holds on the shelf the P profiles of the rows' table, and the notes are those of its K nodes.
+pub record Profiled (rows : List ℕ) (count : ℕ) (origins area : List ℕ) (s : Shelf) (K P : ℕ) : Type 0 where
   pub decoded : Decoded rows count
-  pub standing : Standing rows count area
+  pub notes-are : Origins (table-of rows count) origins K
+  pub notes-room : 2 * K ≤ length origins
   pub lent : Lent s (length area)
   pub operands-are : s .n ≡ length (operands (table-of rows count))
   pub few : P ≤ s .capacity
   pub nodes-are : K ≡ node-count (table-of rows count)
   pub profiles-are : P ≡ profile-count (table-of rows count)
-  pub stored-are : (fuel : ℕ) × (P ≤ fuel) × (stored s area P ≡ profiles fuel (table-of rows count) (reachable (table-of rows count)))
+  pub fuel : ℕ
+  pub enough : P ≤ fuel
+  pub stored-are : stored s area P ≡ profiles fuel (table-of rows count) (reachable (table-of rows count))
 
--- What the answer leaves in the witness buffer: for MET the letters of a witness, which need not be the definition's.
-abbrev pub Leaves : Table → Verdict → (before after : List ℕ) → Type 0
-Leaves t (Verdict.unread why) before after = after ≡ before
-Leaves t (Verdict.refused c) before after = after ≡ before
-Leaves t (Verdict.satisfiable stem cycle K P _) before after =
-    (letters : List ℕ) × Witness t stem cycle letters × (after ≡ letters ++ drop (stem + cycle) before)
-Leaves t (Verdict.unsatisfiable K P) before after = after ≡ before
+-- the witness buffer after a verdict: for MET its letters, then what was there
+abbrev pub leaves : Verdict → List ℕ → List ℕ
+leaves (Verdict.unread why) l = l
+leaves (Verdict.refused c) l = l
+leaves (Verdict.satisfiable stem cycle K P letters) l = letters ++ drop (stem + cycle) l
+leaves (Verdict.unsatisfiable K P) l = l
 
 -- The answer to a verdict, and what it leaves in the witness buffer.
-pub record Answers (t : Table) (v : Verdict) (before after : List ℕ) (r : code.Verdict) : Type 0 where
+pub record Answers (v : Verdict) (before after : List ℕ) (r : code.Verdict) : Type 0 where
   pub answered : r ≡ says v
-  pub buffered : Leaves t v before after
+  pub buffered : after ≡ leaves v before
 
 -- the definition's verdict once K and P fit
 abbrev pub concluded : Table → Verdict
@@ -64,10 +82,10 @@ pub record Within (n : ℕ) (before after : List ℕ) : Type 0 where
 
 -- The answer to the questions 14 and 15 and what comes after them.
 pub record Searched (t : Table) (N M : ℕ) (area area′ before after : List ℕ) (r : code.Verdict) : Type 0 where
-  pub answers : Answers t (decide N M t) before after r
+  pub answers : Answers (decide N M t) before after r
   pub within : Within (workspace-size N M) area area′
 
 -- The answer to all questions after reading, and what it leaves.
 pub record Settled (t : Table) (N M : ℕ) (workspace workspace′ buffer buffer′ : List ℕ) (r : code.Verdict) : Type 0 where
-  pub answers : Answers t (lent N M (length workspace) (length buffer) t) buffer buffer′ r
+  pub answers : Answers (lent N M (length workspace) (length buffer) t) buffer buffer′ r
   pub worked : workspace′ ≡ cleared N M (lent N M (length workspace) (length buffer) t) workspace

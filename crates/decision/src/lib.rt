@@ -3,25 +3,21 @@ use formula::Outcome;
 use formula::Refusal;
 use formula::Table;
 use runs::Shelf;
-use tableau::NodeNumber;
-use tableau::Step;
 use traces::Ranks;
 ghost use mathlib.Core.Path.{_≡_};
-ghost use Prim.Native.Nat.{ℕ, suc, _+_, _*_, _≤_, _<_};
+ghost use Prim.Native.Nat.{ℕ, _+_, _*_, _≤_, _<_};
 ghost use lib.ListN.{length};
 ghost use Rattle.base.specs.Bits.{bit};
-ghost use Rattle.tableau.specs.Transition.{by-word, transitions};
-ghost use Rattle.tableau.specs.Promise.{table-of, Formed, Unmet};
-ghost use Rattle.coded.specs.Runs.{accepting, profiles};
+ghost use Rattle.base.specs.Lists.{numbers, first};
+ghost use Rattle.tableau.specs.Promise.{table-of};
+ghost use Rattle.coded.specs.Runs.{profiles};
 ghost use Rattle.traces.specs.Promise.{fix-rank, Ranked};
 ghost use Rattle.runs.specs.Stored.{record-of, Lent, Grown};
 ghost use Rattle.runs.specs.Singles.{Given, nodes-in};
 ghost use Rattle.decision.specs.Verdict.{between, within-capacity, workspace-size, witness-size};
 ghost use Rattle.decision.specs.Lends.{Lends, ToLend};
-ghost use Rattle.decision.specs.Promise.{node-count, Decided};
-ghost use Rattle.decision.specs.Stem.{Standing, Tries, Comes, Written, Stemmed};
-ghost use Rattle.decision.specs.Chain.{letters-to, Linked, accepts, First};
-ghost use Rattle.decision.specs.Searched.{Decoded, Profiled, Answers, concluded, Searched, Settled};
+ghost use Rattle.decision.specs.Promise.{Decided};
+ghost use Rattle.decision.specs.Searched.{number-in, accepts, Decoded, Profiled, Answers, concluded, Searched, Settled};
 
 pub enum Verdict {
     Satisfiable {
@@ -87,141 +83,10 @@ pub fn witness_size(n: usize, m: usize) -> usize
     0
 }
 
-// The node that a transition comes from, and its letter.
-enum Came {
-    From(NodeNumber, u64),
-    Nowhere,
-}
-
-// Whether the transition of a choice word leads from a node, with its number, to a set.
-fn by_choice(
-    rows: &[u8; 144],
-    count: usize,
-    unmet: &[u64; 24],
-    choice_word: u64,
-    number: NodeNumber,
-    from: u64,
-    set: u64,
-) -> Came
-    requires { ⌜ Formed (now rows) count ⌝ }
-    requires { ⌜ Unmet (now rows) count from (now unmet) ⌝ }
-    ensures { λ r. ⌜ Tries (by-word (table-of (now (rows .entry)) count) «choice_word») count number from set r ⌝ }
-{
-    match tableau::by_word(rows, count, unmet, choice_word, from) {
-        Step::Nothing => Came::Nowhere,
-        Step::Leads { to, letter } => {
-            if to == set {
-                return Came::From(number, letter);
-            }
-            Came::Nowhere
-        }
-    }
-}
-
-// The same for the first choice word whose transition leads there.
-fn to_set(rows: &[u8; 144], count: usize, number: NodeNumber, from: u64, set: u64) -> Came
-    requires { ⌜ Formed (now rows) count ⌝ }
-    ensures { λ r. ⌜ Tries (transitions (table-of (now (rows .entry)) count)) count number from set r ⌝ }
-{
-    let unmet = tableau::unmet(rows, count, from);
-    let end = base::power(tableau::ors(rows, count));
-    let mut word = 0u64;
-    while word < end {
-        let c = by_choice(rows, count, &unmet, word, number, from, set);
-        if let Came::From(_, _) = c {
-            return c;
-        }
-        word += 1;
-    }
-    Came::Nowhere
-}
-
-// The first node from which a transition leads to a node other than the root.
-fn came_from(rows: &[u8; 144], count: usize, area: &[u8], number: NodeNumber) -> Came
-    requires { ⌜ Standing (now rows) count (now area) ⌝ }
-    requires { ⌜ (0 < number .0) × (number .0 < node-count (table-of (now rows) count)) ⌝ }
-    ensures { λ r. ⌜ Comes (table-of (now (rows .entry)) count) (number .0) r ⌝ }
-{
-    let me = number.0;
-    let set = tableau::node(area, number);
-    let mut i = 0;
-    while i < me {
-        let from = tableau::node(area, NodeNumber(i));
-        let c = to_set(rows, count, NodeNumber(i), from, set);
-        if let Came::From(_, _) = c {
-            return c;
-        }
-        i += 1;
-    }
-    Came::Nowhere
-}
-
-// Writes the letters of a shortest stem to a node; how many. It calls itself for the node that the last transition comes from, at most
-// 1,023 deep.
-fn write_stem(
-    rows: &[u8; 144],
-    count: usize,
-    area: &[u8],
-    number: NodeNumber,
-    letters: &mut [u16],
-) -> usize
-    requires { ⌜ Standing (now rows) count (now area) ⌝ }
-    requires { ⌜ (number .0 < node-count (table-of (now rows) count)) × (node-count (table-of (now rows) count) ≤ length (now letters)) ⌝ }
-    ensures { λ r. ⌜ Stemmed (table-of (now (rows .entry)) count) (number .0) (now (letters .entry)) (now (letters .exit)) r ⌝ }
-{
-    let at = number.0;
-    if at == 0 {
-        return 0;
-    }
-    match came_from(rows, count, area, number) {
-        Came::Nowhere => 0,
-        Came::From(before, letter) => {
-            let n = write_stem(rows, count, area, before, letters);
-            letters[n] = (letter % 65536) as u16;
-            n + 1
-        }
-    }
-}
-
-fn narrow(x: usize) -> u16
-    requires { ⌜ x < 65536 ⌝ }
-    ensures { λ r. ⌜ r ≡ x ⌝ }
-{
-    x as u16
-}
-
-// How many transitions profile p has.
-fn length_of(area: &[u8], shelf: Shelf, p: usize) -> usize
-    requires { ⌜ Lent shelf (length (now area)) ⌝ }
-    requires { ⌜ (p < shelf .capacity) × Linked (record-of shelf (now area)) (suc p) ⌝ }
-    ensures { λ r. ⌜ r ≡ length (letters-to (record-of shelf (now (area .entry))) (suc p)) ⌝ }
-{
-    let mut n = 0usize;
-    let mut at = p + 1;
-    while 0 < at {
-        n += 1;
-        let e = runs::ends_of(area, shelf, at - 1);
-        at = e.parent;
-    }
-    n
-}
-
-// Writes the n letters of profile p from index `from` on, the last first.
-fn write_cycle(area: &[u8], shelf: Shelf, p: usize, letters: &mut [u16], from: usize, n: usize)
-    requires { ⌜ Lent shelf (length (now area)) ⌝ }
-    requires { ⌜ (p < shelf .capacity) × Linked (record-of shelf (now area)) (suc p) ⌝ }
-    requires { ⌜ (n ≡ length (letters-to (record-of shelf (now area)) (suc p))) × (from + n ≤ length (now letters)) ⌝ }
-    ensures { λ r. ⌜ Written from (letters-to (record-of shelf (now (area .entry))) (suc p)) (now (letters .entry))
-        (now (letters .exit)) ⌝ }
-{
-    let mut at = p + 1;
-    let mut left = n;
-    while 0 < at {
-        left -= 1;
-        let e = runs::ends_of(area, shelf, at - 1);
-        letters[from + left] = narrow(e.letter);
-        at = e.parent;
-    }
+// The accepting cycle of the profile with this number, or none.
+enum Cycle {
+    Accepting(usize),
+    None,
 }
 
 // Whether profile p is that of an accepting cycle, where the mask has the least fixpoints.
@@ -237,77 +102,54 @@ fn is_accepting(area: &[u8], shelf: Shelf, p: usize, mask: u8) -> bool
     !triples::is_rejecting(area, runs::place(shelf, p), mask, shelf.n)
 }
 
-// The number of the first such profile, or `count`.
-fn accepting(area: &[u8], shelf: Shelf, count: usize, mask: u8) -> usize
+// The first such profile.
+fn accepting(area: &[u8], shelf: Shelf, count: usize, mask: u8) -> Cycle
     requires { ⌜ Lent shelf (length (now area)) ⌝ }
     requires { ⌜ count ≤ shelf .capacity ⌝ }
-    ensures { λ r. ⌜ First (λ p. accepts (bit mask) (shelf .n) (record-of shelf (now (area .entry)) p)) count r ⌝ }
+    ensures { λ r. ⌜ number-in r ≡ first (λ p. accepts (bit mask) (shelf .n) (record-of shelf (now (area .entry)) p)) (numbers 0 count) ⌝ }
 {
     let mut p = 0;
     while p < count {
         if is_accepting(area, shelf, p, mask) {
-            return p;
+            return Cycle::Accepting(p);
         }
         p += 1;
     }
-    count
+    Cycle::None
 }
 
-// The answer where profile p is the first accepting one: a shortest stem to its first node, then its letters.
-fn witnessed(
-    rows: &[u8; 144],
-    count: usize,
-    area: &[u8],
-    shelf: Shelf,
-    nodes: usize,
-    profiles: usize,
-    p: usize,
-    letters: &mut [u16],
-) -> Verdict
-    requires { ⌜ Profiled (now rows) count (now area) shelf nodes profiles ⌝ }
-    requires { ⌜ (p < profiles) × First (λ i. accepting (table-of (now rows) count) (record-of shelf (now area) i)) profiles p ⌝ }
-    requires { ⌜ nodes + profiles ≤ length (now letters) ⌝ }
-    ensures { λ r. ⌜ Answers (table-of (now (rows .entry)) count) (concluded (table-of (now (rows .entry)) count))
-        (now (letters .entry)) (now (letters .exit)) r ⌝ }
-{
-    let cycle = length_of(area, shelf, p);
-    let e = runs::ends_of(area, shelf, p);
-    let first = e.first;
-    let stem = write_stem(rows, count, area, first, letters);
-    write_cycle(area, shelf, p, letters, stem, cycle);
-    Verdict::Satisfiable {
-        stem: stem,
-        cycle: cycle,
-        nodes: nodes,
-        profiles: profiles,
-    }
-}
-
-// The answer once all profiles are found.
+// The answer once all profiles are found: for the first accepting one the stem to its first node, then its letters.
 fn answered(
     rows: &[u8; 144],
     count: usize,
     fix: &[u8; 48],
+    origins: &[u16],
     area: &[u8],
     shelf: Shelf,
     nodes: usize,
     profiles: usize,
     letters: &mut [u16],
 ) -> Verdict
-    requires { ⌜ Profiled (now rows) count (now area) shelf nodes profiles ⌝ }
+    requires { ⌜ Profiled (now rows) count (now origins) (now area) shelf nodes profiles ⌝ }
     requires { ⌜ Ranked (fix-rank (now rows)) count (now fix) ⌝ }
     requires { ⌜ nodes + profiles ≤ length (now letters) ⌝ }
-    ensures { λ r. ⌜ Answers (table-of (now (rows .entry)) count) (concluded (table-of (now (rows .entry)) count))
-        (now (letters .entry)) (now (letters .exit)) r ⌝ }
+    ensures { λ r. ⌜ Answers (concluded (table-of (now (rows .entry)) count)) (now (letters .entry)) (now (letters .exit)) r ⌝ }
 {
     let mask = traces::least_mask(rows, count, fix);
-    let p = accepting(area, shelf, profiles, mask);
-    if p < profiles {
-        return witnessed(rows, count, area, shelf, nodes, profiles, p, letters);
-    }
-    Verdict::Unsatisfiable {
-        nodes: nodes,
-        profiles: profiles,
+    match accepting(area, shelf, profiles, mask) {
+        Cycle::None => Verdict::Unsatisfiable {
+            nodes: nodes,
+            profiles: profiles,
+        },
+        Cycle::Accepting(p) => {
+            let w = witness::write(origins, area, shelf, p, letters);
+            Verdict::Satisfiable {
+                stem: w.stem,
+                cycle: w.cycle,
+                nodes: nodes,
+                profiles: profiles,
+            }
+        }
     }
 }
 
@@ -345,7 +187,8 @@ fn searched(
     ensures { λ r. ⌜ Searched (table-of (now (rows .entry)) count) «node_capacity» «profile_capacity» (now (area .entry))
         (now (area .exit)) (now (letters .entry)) (now (letters .exit)) r ⌝ }
 {
-    let nodes = tableau::nodes(rows, count, area, node_capacity);
+    let mut origins = [0u16; 2048];
+    let nodes = tableau::nodes(rows, count, area, node_capacity, &mut origins);
     if node_capacity < nodes {
         return Verdict::Refused(14);
     }
@@ -360,7 +203,17 @@ fn searched(
         return Verdict::Refused(15);
     }
     let fix = r.fix;
-    answered(rows, count, &fix, area, shelf, nodes, profiles, letters)
+    answered(
+        rows,
+        count,
+        &fix,
+        &origins,
+        area,
+        shelf,
+        nodes,
+        profiles,
+        letters,
+    )
 }
 
 // The questions after reading, in their order.

@@ -4,18 +4,19 @@
 use mathlib.Core.Path.{_≡_, refl, sym, ap, _∙_}
 use mathlib.Core.List.{List, [], _∷_}
 use Prim.Native.Nat.{ℕ, _+_, _≤_}
-use native.Mathlib.Nat.{add-zero, zero-add}
+use native.Mathlib.Nat.{add-zero}
 use native.Mathlib.Omega.{arith}
 use lib.ListN.{length, drop, drop-of-length-le}
 use Rattle.formula.specs.Formula.{Formula}
-use Rattle.formula.specs.Refusal.{at-byte, code-of, place-of}
+use Rattle.formula.specs.Refusal.{at-byte}
 use Rattle.formula.specs.Reading.{Head, Read, Reading, ended, whole, formula, start, parse, with-entries, reading, counted-from}
 use Rattle.formula.specs.Reading.{reading-from}
+use Rattle.formula.proofs.RefusalLaws.{places-from-zero}
 use Rattle.formula.proofs.Alike.{Alike, Near, moved, formula-alike}
 use Rattle.formula.proofs.Fuel.{Stopped, Same, looks-same, near}
 
 counted-from-zero : {A : Type 0} (r : Reading A) → counted-from 0 r ≡ r
-counted-from-zero (Reading.refused why) = ap (λ (p : ℕ). Reading.refused (at-byte (code-of why) p)) (zero-add (place-of why))
+counted-from-zero (Reading.refused why) = ap Reading.refused (places-from-zero why)
 counted-from-zero (Reading.accepted a) = refl
 
 pub reading-from-start : (bytes : List ℕ) → reading-from bytes 0 ≡ reading bytes

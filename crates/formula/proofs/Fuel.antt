@@ -1,7 +1,7 @@
 -- What reading means without its bound on the nesting, and where refusals stand. The bound does not matter once it is at least the
 -- number of bytes left, so the definition's recursion can be read as if it had none. A refusal's number is 1 to 9; where a byte is
 -- missing (1, 5) its place is the length, else the place of a byte. Both come from reading an input beside itself (Alike). Assumes nothing.
-use mathlib.Core.Path.{_≡_, refl, ap, subst}
+use mathlib.Core.Path.{_≡_, refl, sym, ap, subst}
 use mathlib.Core.Logic.{_⊎_, ⊎-elim}
 use mathlib.Core.List.{List, [], _∷_}
 use Prim.Native.Nat.{ℕ, suc, _+_, _≤_, _<_}
@@ -11,6 +11,7 @@ use Rattle.formula.specs.Formula.{Formula}
 use Rattle.formula.specs.Refusal.{at-byte, code-of, place-of}
 use Rattle.formula.specs.declared.Refusal.{Refusal}
 use Rattle.formula.specs.Reading.{Head, Read, Reader, Scope, questions, formula, Reading, ended, whole, start, parse}
+use Rattle.formula.proofs.RefusalLaws.{moved-nowhere}
 use Rattle.formula.proofs.Alike.{AtByte, AtEnd, Alike, Look, Looks, Near, same, over, questions-alike, formula-alike}
 
 -- a refusal of an input of `total` bytes: at the length where a byte is missing, else at one of the bytes
@@ -78,7 +79,7 @@ module _ (total : ℕ) where
   Kept n m = Alike (Stopped total) same (Near (Same total) n m 1)
 
   kept-equal : {n m : ℕ} {x y : Read Formula} → Kept n m x y → x ≡ y
-  kept-equal (Alike.refused p) = refl
+  kept-equal (Alike.refused {why} p) = ap Read.refused (sym (moved-nowhere why))
   kept-equal (Alike.got {a} {h} r) = ap (λ (l : List ℕ). Read.got a (over h l)) (r .alike .same)
 
   -- reading beside itself, with two bounds on the nesting

@@ -1,5 +1,6 @@
 pub mod Examples
 pub mod Commands
+pub mod RefusalLaws
 pub mod Alike
 pub mod Fuel
 pub mod Prefix

@@ -1,6 +1,6 @@
 -- MEANING 1.6: 97 bytes decide the outcome. Every operator has at most two bytes and at most 48 are read, so reading never looks at a
 -- place above 96: two inputs that agree so far are read alike (Alike). Assumes nothing.
-use mathlib.Core.Path.{_≡_, refl, ap}
+use mathlib.Core.Path.{_≡_, refl, sym, ap}
 use mathlib.Core.List.{List, [], _∷_}
 use Prim.Native.Nat.{ℕ, suc, _+_, _-_, _*_, _≤_}
 use native.Mathlib.Omega.{arith}
@@ -8,7 +8,8 @@ use lib.ListN.{length, take}
 use lib.Seq.{take-take}
 use Rattle.formula.specs.Formula.{Formula}
 use Rattle.formula.specs.declared.Refusal.{Refusal}
-use Rattle.formula.specs.Reading.{Head, Read, ended, whole, start, parse, reading, with-entries}
+use Rattle.formula.specs.Reading.{Head, Read, Reading, ended, whole, start, parse, reading, with-entries}
+use Rattle.formula.proofs.RefusalLaws.{moved-nowhere}
 use Rattle.formula.proofs.Alike.{Alike, Look, Looks, Near, same, over, formula-alike}
 
 -- s more bytes may be looked at before the next command counts, and the bytes left agree up to place 97
@@ -49,7 +50,7 @@ ended-alike f h (Look.none p) = refl
 ended-alike f h (Look.some r) = refl
 
 whole-alike : {n m : ℕ} {x y : Read Formula} → Alike Any same (Near Window n m 1) x y → whole x ≡ whole y
-whole-alike (Alike.refused p) = refl
+whole-alike (Alike.refused {why} p) = ap Reading.refused (sym (moved-nowhere why))
 whole-alike (Alike.got {a} {h} {l} r) = ended-alike a h (looks-in .look 0 h l (r .alike))
 
 -- what agrees in the first 97 bytes is the same formula, or refused alike

@@ -87,9 +87,9 @@ module _ (c : Lasso) (ρ σ : List Positions) where
       cons q (same-sets a (holds c (Formula.fix g a) (xs ++ ρ) ∷ xs) h ∙ ap (λ (s : Positions). sets c a (s ∷ (xs ++ σ))) q)
 
 -- the same of a subformula that the rows have: all sets of the fixpoints around it give the same sets
-pub alone-sets : (rows : List ℕ) (c : Lasso) (e : ℕ) → Alone rows e → (f : Formula) (s : Scope) (bs : List ℕ) → Written rows e s bs f
+pub alone-sets : (rows : List ℕ) (c : Lasso) {e : ℕ} → Alone rows e → {s : Scope} {bs : List ℕ} {f : Formula} → Written rows e s bs f
     → (ρ σ : List Positions) → sets c f ρ ≡ sets c f σ
-alone-sets rows c e alone f s bs h ρ σ =
+alone-sets rows c {e} alone {s} {bs} {f} h ρ σ =
     same-sets c ρ σ f []
     (closes rows bs e (λ d l. h .enclosed d l .before) f e s [] h (λ k l m. alone k l (omega (arith, written-end rows h))))
 
@@ -156,7 +156,7 @@ module _ (rows : List ℕ) (c : Lasso) (e : ℕ) (w : List ℕ) where
     done = λ known f s bs h.
         record {
           shown = known .shown e (omega arith) (omega (arith, written-end rows h, size-some f)) alone f s bs h
-              ∙ alone-sets rows c e alone f s bs h [] (map (column n w) bs);
+              ∙ alone-sets rows c alone h [] (map (column n w) bs);
           kept = kept-refl n e (e + size f) w;
         };
   }
@@ -182,7 +182,7 @@ module _ (rows : List ℕ) (c : Lasso) (e : ℕ) (w : List ℕ) where
           let after : Known rows c (end-at rows e) hi v =
           known-kept rows c (end-at rows e) hi e (end-at rows e) w v (ev .kept) (λ k l m. inl l) behind in
           known-first
-          (λ a f s bs h. ev .done part f s bs h .shown ∙ alone-sets rows c e alone f s bs h (map (column n w) bs) [])
+          (λ a f s bs h. ev .done part f s bs h .shown ∙ alone-sets rows c alone h (map (column n w) bs) [])
           (known-join (end-at rows e) inside after);
     }
 

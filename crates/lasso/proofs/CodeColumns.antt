@@ -55,6 +55,9 @@ module _ (n : ℕ) where
       rest = q .rest ∙ p .rest;
     }
 
+  pub kept-both : {lo hi : ℕ} {w v x : List ℕ} → Kept n lo hi w v → Kept n lo hi v x → Kept n lo hi w x
+  kept-both p q = kept-then p q (omega arith) (omega arith) (omega arith) (omega arith)
+
   pub kept-wide : {lo hi lo₁ hi₁ : ℕ} {w v : List ℕ} → Kept n lo₁ hi₁ w v → lo ≤ lo₁ → hi₁ ≤ hi → Kept n lo hi w v
   kept-wide p a b = record {
     long = p .long;

@@ -110,13 +110,11 @@ module _ (rows : List ℕ) (c : Lasso) (ss : List Positions) where
       (λ q. found a (e + 1) (map (λ _. true) s) bs ρ (written-next rows h) (at .1) k q (omega arith))
   found (Formula.fix g a) e s bs ρ h at k l m =
       or-behind e k l (first e s bs ρ (Formula.fix g a) h at)
-      (λ q. found a (e + 1) (false ∷ s) (e ∷ bs) (holds c (Formula.fix g a) ρ ∷ ρ) (written-body rows h)
-      (at .1) k
-      q (omega arith))
+      (λ q. found a (e + 1) (false ∷ s) (e ∷ bs) (holds c (Formula.fix g a) ρ ∷ ρ) (written-body rows h) (at .1) k q (omega arith))
 
--- the fixpoint f stands at e, inside fixpoints that have their columns of the words w for sets
-module _ (rows : List ℕ) (c : Lasso) (e : ℕ) (w : List ℕ) (room : Room (length (c .letters)) (c .stem) (length w)) (f : Formula) (s : Scope)
-    (bs : List ℕ) (h : Written rows e s bs f) where
+-- the formula f stands at e, inside fixpoints that have their columns of the words w for sets
+module _ (rows : List ℕ) (c : Lasso) (w : List ℕ) (room : Room (length (c .letters)) (c .stem) (length w)) {e : ℕ} {s : Scope}
+    {bs : List ℕ} {f : Formula} (h : Written rows e s bs f) where
   abbrev n : ℕ
   n = length (c .letters)
 
@@ -188,7 +186,7 @@ module _ (rows : List ℕ) (c : Lasso) (e : ℕ) (w : List ℕ) (room : Room (le
       let few : k - m < size g = omega (arith, shut .around, shut .before) in
       let shown : columns n w m (size g) ≡ sets c g (x .around) =
       known .shown m (omega (arith, shut .behind)) (omega (arith, shut .before)) (shut .alone) g (x .scope) (x .binders) (x .written)
-      ∙ alone-sets rows c m (shut .alone) g (x .scope) (x .binders) (x .written) [] (x .around) in
+      ∙ alone-sets rows c (shut .alone) (x .written) [] (x .around) in
       let at : k ≡ m + (k - m) = omega (arith, shut .before) in
       ap (λ (j : ℕ). getD ss j []) at
       ∙ each-at (Stands ss) m (sets c g (x .around)) [] (x .sits) (k - m) (omega (arith, length-sets c g (x .around)))
@@ -228,8 +226,9 @@ sets-move : (c : Lasso) (g : Bool) (a : Formula) (ρ : List Positions) (s t : Po
 sets-move c false a ρ s t h j i = inside-at (within-at (monotone-sets c a (Within.put h (within-refl ρ))) j) i
 sets-move c true a ρ s t h j i = inside-at (within-at (monotone-sets c a (Within.put h (within-refl ρ))) j) i
 
-module _ (rows : List ℕ) (c : Lasso) (g : Bool) (e : ℕ) (w : List ℕ) (room : Room (length (c .letters)) (c .stem) (length w)) (a : Formula)
-    (s : Scope) (bs : List ℕ) (h : Written rows e s bs (Formula.fix g a)) where
+-- the same of a fixpoint
+module _ (rows : List ℕ) (c : Lasso) (w : List ℕ) (room : Room (length (c .letters)) (c .stem) (length w)) {g : Bool} {e : ℕ}
+    {s : Scope} {bs : List ℕ} {a : Formula} (h : Written rows e s bs (Formula.fix g a)) where
   abbrev n₁ : ℕ
   n₁ = length (c .letters)
 
@@ -241,38 +240,35 @@ module _ (rows : List ℕ) (c : Lasso) (g : Bool) (e : ℕ) (w : List ℕ) (room
   Good y k i = Moves g (bit (getD y i 0) k) (getD (getD (goal c w e bs f) k []) i false)
 
   abbrev outer : List Positions
-  outer = map (column (length (c .letters)) w) bs
+  outer = map (column n₁ w) bs
 
   -- the set that the rounds come to
   abbrev pub final : Positions
   final = holds c f outer
 
   final-at : getD (goal c w e bs f) e [] ≡ final
-  final-at = ap (λ (k : ℕ). getD (goal c w e bs f) k []) {x = e} {y = e + 0} (omega arith) ∙ goal-from rows c e w room f s bs h 0
+  final-at = ap (λ (k : ℕ). getD (goal c w e bs f) k []) {x = e} {y = e + 0} (omega arith) ∙ goal-from rows c w room h 0
 
-  pub final-length : length final ≡ length (c .letters)
+  pub final-length : length final ≡ n₁
   final-length =
-      length-approximant c (omega (arith, room .cycle)) a outer (closed rows c e w room f s bs h)
-      (columns-sized (length (c .letters)) w (room .words) bs) g
-      (length (c .letters))
+      length-approximant c (omega (arith, room .cycle)) a outer (closed rows c w room h) (columns-sized n₁ w (room .words) bs) g n₁
 
   -- the fixpoint's column is not past its final set
-  pub own-within : (v : List ℕ) → length (c .letters) ≤ length v → Under (length (c .letters)) g (goal c w e bs f) (e + size f) v
-      → Toward g (column (length (c .letters)) v e) final
+  pub own-within : (v : List ℕ) → n₁ ≤ length v → Under n₁ g (goal c w e bs f) (e + size f) v
+      → Toward g (column n₁ v e) final
   own-within v long u =
-      let n = length (c .letters) in
-      toward-of g (column n v e) final (column-length n e v long ∙ sym final-length)
+      toward-of g (column n₁ v e) final (column-length n₁ e v long ∙ sym final-length)
       (λ i l.
-      let m : i < n = omega (arith, column-length n e v long) in
-      subst (λ (b : Bool). Moves g b (getD final i false)) (sym (column-at n e v long i m))
+      let m : i < n₁ = omega (arith, column-length n₁ e v long) in
+      subst (λ (b : Bool). Moves g b (getD final i false)) (sym (column-at n₁ e v long i m))
       (subst (λ (t : Positions). Moves g (bit (getD v i 0) e) (getD t i false)) final-at (u .at e (omega (arith, size-some f)) i m)))
 
   -- behind a round: the words y have the body's sets for the fixpoint's set E, and the first of them for the fixpoint
   pub goal-round : (E : Positions) (y : List ℕ) → n₁ ≤ length y → Toward g E final
-      → ((k : ℕ) → k < e → column (n₁) y k ≡ column (n₁) w k)
-      → column (n₁) y e ≡ holds c a (E ∷ outer)
-      → columns (n₁) y (e + 1) (size a) ≡ sets c a (E ∷ outer)
-      → Under (n₁) g (goal c w e bs f) (e + size f) y
+      → ((k : ℕ) → k < e → column n₁ y k ≡ column n₁ w k)
+      → column n₁ y e ≡ holds c a (E ∷ outer)
+      → columns n₁ y (e + 1) (size a) ≡ sets c a (E ∷ outer)
+      → Under n₁ g (goal c w e bs f) (e + size f) y
   goal-round E y long near below own shown = record { at = λ k l i m. by k l i m (decLt k e) (decLt e k) }
     where
       -- by the column and by the set of the goal
@@ -287,7 +283,7 @@ module _ (rows : List ℕ) (c : Lasso) (g : Bool) (e : ℕ) (w : List ℕ) (room
       first i m =
           by-sets e i m (holds c a (E ∷ outer)) final own final-at
           (subst (λ (t : Positions). Moves g (getD (holds c a (E ∷ outer)) i false) (getD t i false))
-          (fixed c (omega (arith, room .cycle)) a outer (closed rows c e w room f s bs h) (columns-sized n₁ w (room .words) bs) g)
+          (fixed c (omega (arith, room .cycle)) a outer (closed rows c w room h) (columns-sized n₁ w (room .words) bs) g)
           (sets-move c g a outer E final near 0 i))
 
       inner : (k i : ℕ) → e < k → k < e + size f → i < n₁ → Good y k i
@@ -298,12 +294,12 @@ module _ (rows : List ℕ) (c : Lasso) (g : Bool) (e : ℕ) (w : List ℕ) (room
           by-sets k i m (getD (sets c a (E ∷ outer)) j []) (getD (sets c a (final ∷ outer)) j [])
           (ap (column n₁ y) at ∙ sym (values-at (column n₁ y) (e + 1) (size a) j [] (omega arith))
           ∙ ap (λ (t : List Positions). getD t j []) shown)
-          (ap (λ (x : ℕ). getD (goal c w e bs f) x []) next ∙ goal-from rows c e w room f s bs h (suc j))
+          (ap (λ (x : ℕ). getD (goal c w e bs f) x []) next ∙ goal-from rows c w room h (suc j))
           (sets-move c g a outer E final near j i)
 
       by : (k : ℕ) → k < e + size f → (i : ℕ) → i < n₁ → Dec (k < e) → Dec (e < k) → Good y k i
       by k l i m (yes q) r =
           let t = column n₁ w k in
-          by-sets k i m t t (below k q) (goal-below rows c e w room f s bs h k q) (moves-refl g (getD t i false))
+          by-sets k i m t t (below k q) (goal-below rows c w room h k q) (moves-refl g (getD t i false))
       by k l i m (no q) (yes r) = inner k i r l m
       by k l i m (no q) (no r) = let same : k ≡ e = omega arith in rw same (first i m)

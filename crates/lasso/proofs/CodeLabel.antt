@@ -197,7 +197,7 @@ module _ (rows : List ℕ) (c : Lasso) (e : ℕ) (w : List ℕ) (room : Room (le
         (swept-by y v kept t (Operator.next (e + 1)) (sits-first (h .operators))))
 
     module _ (o : Bool) (l r : ℕ) (q : operator-at rows e ≡ Operator.pair o l r) where
-      -- every subformula from the first operand on ends before the second, or stands in it
+      -- every subformula that begins before the second operand ends before it
       earlier : (j : ℕ) → e + 1 ≤ j → j < r → end-at rows j ≤ r
       earlier j k h =
           let p = pair-operands rows e held q in

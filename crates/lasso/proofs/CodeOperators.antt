@@ -13,7 +13,7 @@ use Rattle.formula.specs.declared.Operator.the-variants.{Constant, Signal, Vari
 use Rattle.formula.proofs.Operator.{the-type}
 use Rattle.lasso.specs.Promise.{outside-of}
 
--- one of some variants, by their numbers
+-- one of some variants, by their numbers: a constant 0, a signal 1, a variable 2, a pair 3, a next 4, a fixpoint 5
 abbrev pub Among : List ℕ → Operator → Type 0
 Among numbers op = OneOf numbers (tagOf the-type op)
 

@@ -24,7 +24,7 @@ use Rattle.lasso.specs.Promise.{columns, Kept, Labelled, Known, Filled, 
 use Rattle.lasso.specs.Promise.{Outcome, Rounded}
 use Rattle.lasso.proofs.Fixpoint.{body, rounds-mono}
 use Rattle.lasso.proofs.CodeWritten.{written-end, written-body, by-operator, held-some, nested, fix-operand}
-use Rattle.lasso.proofs.CodeColumns.{column-length, column-at, column-is, columns-sized, kept-refl, kept-wide, kept-then}
+use Rattle.lasso.proofs.CodeColumns.{column-length, column-at, column-is, columns-sized, kept-refl, kept-wide, kept-then, kept-both}
 use Rattle.lasso.proofs.CodeSweep.{other-bit}
 use Rattle.lasso.proofs.CodeColumns.{same-column, kept-bits, outer-kept, columns-above, swept-kept, swept-is}
 use Rattle.lasso.proofs.CodeClosed.{known-same, known-part}
@@ -99,7 +99,7 @@ module _ (rows : List ℕ) (c : Lasso) (g : Bool) (e : ℕ) where
       let longer : n ≤ length x = omega (arith, f .long, room .words) in
       let kx = filled-kept mask w x (room .words) o f in
       let kv = passed-kept list count x v longer m p in
-      let kept : Kept n e (end-at rows e) w v = kept-then n kx kv (omega arith) (omega arith) (omega arith) (omega arith) in
+      let kept : Kept n e (end-at rows e) w v = kept-both n kx kv in
       record {
         movable = m;
         kept = kept;
@@ -112,11 +112,10 @@ module _ (rows : List ℕ) (c : Lasso) (g : Bool) (e : ℕ) where
               kept = subst (λ (k : ℕ). Kept n e k w v) last kept;
               known = known-same rows c e (end-at rows e) x v (passed-shut list count x v longer m p)
                   (known-same rows c e (end-at rows e) w x (filled-shut mask w x (room .words) o f) known);
-              under = p .within (e + size F) (goal c w e bs F) (goal-keeps rows c e w room F s bs h list count m)
-                  (goal-start rows c e w room F s bs h g mask x o f known);
+              under = p .within (e + size F) (goal c w e bs F) (goal-keeps rows c w room h list count m)
+                  (goal-start rows c w room h g mask x o f known);
               reaches = subst (λ (t : Positions). Toward g (repeat n (body c a outer) t) (repeat n (body c a outer) (column n v e))) start
-                  (rounds-mono c (omega (arith, room .cycle)) a outer (closed rows c e w room F s bs h)
-                  (columns-sized n w (room .words) bs) g n
+                  (rounds-mono c (omega (arith, room .cycle)) a outer (closed rows c w room h) (columns-sized n w (room .words) bs) g n
                   (column n x e) (column n v e) (passed-onward list count x v longer m p e));
             };
       }
@@ -140,7 +139,7 @@ module _ (rows : List ℕ) (c : Lasso) (g : Bool) (e : ℕ) where
   pub rounded-both : (half left : ℕ) (w x v : List ℕ) (b r : Bool) → half ≤ left → b ≡ true → Rounded rows c g e half w x b
       → Rounded rows c g e (left - half) x v r → Rounded rows c g e left w v r
   rounded-both half left w x v b r l moves p q = record {
-    kept = kept-then n (p .kept) (q .kept) (omega arith) (omega arith) (omega arith) (omega arith);
+    kept = kept-both n (p .kept) (q .kept);
     done = λ a s bs h first more go.
         q .done a s bs h first more
         (subst (Outcome rows c g e first bs a (left - half + more) x) moves
@@ -171,7 +170,7 @@ module _ (rows : List ℕ) (c : Lasso) (g : Bool) (e : ℕ) where
     longer : n ≤ length x
     longer = omega (arith, room .words, body-kept .long)
 
-    module _ (a : Formula) (s : Scope) (bs : List ℕ) (h : Written rows e s bs (Formula.fix g a)) (first : List ℕ) (left : ℕ)
+    module _ {a : Formula} {s : Scope} {bs : List ℕ} (h : Written rows e s bs (Formula.fix g a)) {first : List ℕ} {left : ℕ}
         (go : Going rows c g e first bs a left w) where
       abbrev f : Formula
       f = Formula.fix g a
@@ -189,15 +188,14 @@ module _ (rows : List ℕ) (c : Lasso) (g : Bool) (e : ℕ) where
       labelled : Labelled c a (e + 1) (e ∷ bs) w x
       labelled =
           ev .done (known-part (e + 1) (end-at rows (e + 1)) (omega arith) (nested rows e held (e + 1) (omega arith) inside)
-          (go .known)) a (false ∷ s)
-          (e ∷ bs) (written-body rows h)
+          (go .known)) a (false ∷ s) (e ∷ bs) (written-body rows h)
 
       round-shown : columns n x (e + 1) (size a) ≡ sets c a (E ∷ outer)
       round-shown =
           labelled .shown ∙ ap (λ (σ : List Positions). sets c a (E ∷ σ)) (outer-kept n (go .kept) bs (λ d l. h .enclosed d l .before))
 
-      near : Toward g E (final rows c g e first first-room a s bs h)
-      near = own-within rows c g e first first-room a s bs h w (room .words) (go .under)
+      near : Toward g E (final rows c first first-room h)
+      near = own-within rows c first first-room h w (room .words) (go .under)
 
       -- where the set is the final one, the fixpoint is labelled
       settled : E ≡ holds c f outer → Labelled c f e bs first x
@@ -222,7 +220,7 @@ module _ (rows : List ℕ) (c : Lasso) (g : Bool) (e : ℕ) where
 
         round-under : Under n g (goal c first e bs f) (e + size f) y
         round-under =
-            goal-round rows c g e first first-room a s bs h E y (omega (arith, longer, copy-kept .long)) near
+            goal-round rows c first first-room h E y (omega (arith, longer, copy-kept .long)) near
             (λ k l. copy-kept .below k l ∙ body-kept .below k (omega arith) ∙ go .kept .below k l) copied
             (columns-above n copy-kept (e + 1) (size a) (omega arith) ∙ round-shown)
 
@@ -238,17 +236,16 @@ module _ (rows : List ℕ) (c : Lasso) (g : Bool) (e : ℕ) where
             let round = body c a outer in
             let ky : Kept n e (end-at rows e) w y =
             kept-then n body-kept copy-kept (omega arith) (omega arith) (omega arith) (omega (arith, inside)) in
-            let kz : Kept n e (end-at rows e) w z =
-            kept-then n ky (passed-kept list count y z long m p) (omega arith) (omega arith) (omega arith) (omega arith) in
+            let kz : Kept n e (end-at rows e) w z = kept-both n ky (passed-kept list count y z long m p) in
             let taken : repeat left round E ≡ repeat more round (column n y e) =
             ap (λ (k : ℕ). repeat k round E) {x = left} {y = suc more} (omega arith) ∙ ap (repeat more round) (sym copied) in
             record {
               kept = kept-then n (go .kept) kz (omega arith) (omega arith) (omega arith) (omega arith);
               known = known-same rows c e (end-at rows e) y z (passed-shut list count y z long m p) round-known;
-              under = p .within (e + size f) (goal c first e bs f) (goal-keeps rows c e first first-room f s bs h list count m) round-under;
+              under = p .within (e + size f) (goal c first e bs f) (goal-keeps rows c first first-room h list count m) round-under;
               reaches = toward-trans g (holds c f outer) (repeat more round (column n y e)) (repeat more round (column n z e))
                   (subst (Toward g (holds c f outer)) taken (go .reaches))
-                  (rounds-mono c (omega (arith, room .cycle)) a outer (closed rows c e first first-room f s bs h)
+                  (rounds-mono c (omega (arith, room .cycle)) a outer (closed rows c first first-room h)
                   (columns-sized n first (first-room .words) bs) g more (column n y e) (column n z e)
                   (passed-onward list count y z long m p e));
             }
@@ -274,19 +271,19 @@ module _ (rows : List ℕ) (c : Lasso) (g : Bool) (e : ℕ) where
       pub rounded-more : (list : List ℕ) (count : ℕ) (z : List ℕ) → Movable rows e list count → Passed rows c list count g y z
           → Rounded rows c g e 1 w z true
       rounded-more list count z m p = record {
-        kept = kept-then n round-kept (passed-kept list count y z (omega (arith, room .words, round-kept .long)) m p)
-            (omega arith) (omega arith) (omega arith) (omega arith);
-        done = λ a s bs h first more go. going-on a s bs h first (1 + more) go y t more refl list count z m p;
+        kept = kept-both n round-kept (passed-kept list count y z (omega (arith, room .words, round-kept .long)) m p);
+        done = λ a s bs h first more go. going-on h go y t more refl list count z m p;
       }
 
       -- a round that changes nothing is the last
       pub rounded-still : y ≡ x → Rounded rows c g e 1 w y false
       rounded-still same = record {
         kept = round-kept;
-        done = λ a s bs h first more go. (
-          subst (Labelled c (Formula.fix g a) e bs first) (sym same) (unchanged a s bs h first (1 + more) go y t same),
-          round-known a s bs h first (1 + more) go y t,
-        );
+        done = λ a s bs h first more go.
+            record {
+              labelled = subst (Labelled c (Formula.fix g a) e bs first) (sym same) (unchanged h go y t same);
+              known = round-known h go y t;
+            };
       }
 
   -- The fixpoint is labelled: its rounds are begun, the words w becoming x, and taken, x becoming u; and if the set moved to the end,
@@ -311,18 +308,17 @@ module _ (rows : List ℕ) (c : Lasso) (g : Bool) (e : ℕ) where
 
     pub fixpoint-settled : (b : Bool) → b ≡ false → Rounded rows c g e n x u b → Evaluated rows c (e + 1) e w u
     fixpoint-settled b still q = record {
-      kept = kept-then n (begins .kept) (q .kept) (omega arith) (omega arith) (omega arith) (omega arith);
+      kept = kept-both n (begins .kept) (q .kept);
       known = λ known. by-own (Known rows c (e + 1) (end-at rows e) u)
-          (λ a h. outcome b false still q a (held .scope) (held .binders) h known .1);
+          (λ a h. outcome b false still q a (held .scope) (held .binders) h known .known);
       done = λ known f s bs.
-          by-fix s bs (λ f. Labelled c f e bs w u) (λ a h. outcome b false still q a s bs h known .0) f;
+          by-fix s bs (λ f. Labelled c f e bs w u) (λ a h. outcome b false still q a s bs h known .labelled) f;
     }
 
     pub fixpoint-last : (b : Bool) → b ≡ true → (v : List ℕ) → Rounded rows c g e n x u b → Evaluated rows c (e + 1) (e + 1) u v
         → Evaluated rows c (e + 1) e w v
     fixpoint-last b moves v q ev =
-        let k : Kept n e (end-at rows e) w u = kept-then n (begins .kept) (q .kept) (omega arith) (omega arith) (omega arith)
-        (omega arith) in
+        let k : Kept n e (end-at rows e) w u = kept-both n (begins .kept) (q .kept) in
         let same : Room n (c .stem) (length u) = record { cycle = room .cycle; words = omega (arith, room .words, k .long) } in
         record {
           kept = kept-then n k (body-kept held is u v same ev) (omega arith) (omega arith) (omega arith) (omega arith);
@@ -331,5 +327,5 @@ module _ (rows : List ℕ) (c : Lasso) (g : Bool) (e : ℕ) where
               (λ a h. body-known held is u v same ev (outcome b true moves q a (held .scope) (held .binders) h known .known));
           done = λ known f s bs.
               by-fix s bs (λ f. Labelled c f e bs w v)
-              (λ a h. none-left held is u v same ev a s bs h w 0 (outcome b true moves q a s bs h known) refl) f;
+              (λ a h. none-left held is u v same ev h (outcome b true moves q a s bs h known) refl) f;
         }

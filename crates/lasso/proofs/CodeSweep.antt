@@ -1,7 +1,7 @@
 -- Words are changed one after another. Those before one are done, that one and those after it are as they were; of a word that is done
 -- every bit that is not chosen is as it was. A sweep chooses one bit, a filling those of a mask. Assumes nothing.
 use mathlib.Core.Path.{_≡_, refl, sym, ap, subst, _∙_}
-use mathlib.Core.Bool.{Bool, true, false, cond}
+use mathlib.Core.Bool.{Bool, true, false, not, cond, _||_, true≢false}
 use mathlib.Core.List.{List}
 use Prim.Native.Nat.{ℕ, _+_, _≤_, _<_}
 use native.Mathlib.Omega.{arith}
@@ -62,9 +62,15 @@ module _ (chosen f : ℕ → Bool) (w : List ℕ) where
         rest = λ i l. getD-set-other v n i x 0 (λ q. omega arith) ∙ s .rest i (omega arith);
       }
 
-      -- the same where the word stays
-      pub changed-same : x ≡ getD v n 0 → Changed (n + 1) chosen f w v
-      changed-same same = subst (λ (y : List ℕ). Changed (n + 1) chosen f w y) (ap (set v n) same ∙ set-getD v n 0) changed-put
+-- words of which none was changed so far are as they were, and so with one more that stays
+pub still-more : (v : List ℕ) (n x : ℕ) (changed : Bool) {w : List ℕ} → (changed ≡ false → v ≡ w)
+    → (changed || not (eqb x (getD v n 0))) ≡ false → set v n x ≡ w
+still-more v n x true {w} h q = absurd (true≢false q)
+still-more v n x false {w} h q = by (eqb x (getD v n 0)) refl q
+  where
+    by : (b : Bool) → eqb x (getD v n 0) ≡ b → not b ≡ false → set v n x ≡ w
+    by true same r = ap (set v n) (eqb-true x (getD v n 0) same) ∙ set-getD v n 0 ∙ h refl
+    by false apart r = absurd (true≢false r)
 
 -- an operator that has its operands after e does not look at bit e of the successor's word
 local-there : (rows : List ℕ) (op : Operator) (e letter here x y : ℕ) → Operands (operator-at rows) (end-at rows) 48 e op

@@ -23,8 +23,13 @@ use Rattle.lasso.specs.declared.Truth as code
 abbrev pub after : (n stem i : ℕ) → ℕ
 after n stem i = cond (eqb (i + 1) n) stem (i + 1)
 
+-- j is that successor
+pub record Successor (n stem i j : ℕ) : Type 0 where
+  pub is : j ≡ after n stem i
+  pub below : j < n
+
 -- what an operator says of a position by the letter there, where subformulas are true as told there and at the successor; a fixpoint
--- has its body's truth. And the same of two words
+-- has its body's truth
 abbrev pub said : Operator → (letter : ℕ) → (here there : ℕ → Bool) → Bool
 said (Operator.leaf l) letter here there = leaf-at l letter
 said (Operator.variable m) letter here there = here m
@@ -32,9 +37,11 @@ said (Operator.pair o l r) letter here there = joined o (here l) (here r)
 said (Operator.next l) letter here there = there l
 said (Operator.fix g l) letter here there = here l
 
+-- the same of the words there and at the successor
 abbrev pub local : Operator → (letter here there : ℕ) → Bool
 local op letter here there = said op letter (λ k. bit here k) (λ k. bit there k)
 
+-- the same of position i, by the words of all positions
 abbrev pub local-at : Lasso → Operator → List ℕ → ℕ → Bool
 local-at c op w i = local op (getD (c .letters) i 0) (getD w i 0) (getD w (after (length (c .letters)) (c .stem) i) 0)
 
@@ -44,14 +51,15 @@ pub record Changed (n : ℕ) (chosen f : ℕ → Bool) (w v : List ℕ) : Type 0
   pub bits : (i : ℕ) → i < n → (k : ℕ) → bit (getD v i 0) k ≡ cond (chosen k) (f i) (bit (getD w i 0) k)
   pub rest : (i : ℕ) → n ≤ i → getD v i 0 ≡ getD w i 0
 
--- bit e is chosen; or the bits of a mask, all as told
+-- the same where bit e is chosen
 abbrev pub Swept : (n e : ℕ) → (ℕ → Bool) → (w v : List ℕ) → Type 0
 Swept n e f = Changed n (λ k. eqb k e) f
 
+-- the same where the bits of a mask are, all as told
 abbrev pub Filled : (n mask : ℕ) → (on : Bool) → (w v : List ℕ) → Type 0
 Filled n mask on = Changed n (λ k. bit mask k) (λ _. on)
 
--- the words v are w with bit e of each position's as the operator of e says; unless r, none was changed
+-- the words v are w with bit e of each position as the operator of e says; unless r is true, none was changed
 pub record Sweeping (rows : List ℕ) (c : Lasso) (e : ℕ) (w v : List ℕ) (r : Bool) : Type 0 where
   pub swept : Swept (length (c .letters)) e (local-at c (operator-at rows e) w) w v
   pub still : r ≡ false → v ≡ w
@@ -77,7 +85,7 @@ pub record Ready (rows : List ℕ) (e n stem m : ℕ) : Type 0 where
   pub held : Held rows e
   pub room : Room n stem m
 
--- e is a fixpoint, the greatest or the least one
+-- e is a fixpoint, the greatest one if g
 pub record Fixes (rows : List ℕ) (g : Bool) (e : ℕ) : Type 0 where
   pub body : ℕ
   pub is : operator-at rows e ≡ Operator.fix g body
@@ -96,10 +104,11 @@ outside-of e (Operator.pair o l r) = false
 outside-of e (Operator.next l) = false
 outside-of e (Operator.fix g l) = false
 
--- no variable inside e names a fixpoint around e; and r tells whether that is so
+-- no variable inside e names a fixpoint around e
 abbrev pub Alone : List ℕ → ℕ → Type 0
 Alone rows e = (k : ℕ) → e ≤ k → k < end-at rows e → outside-of e (operator-at rows k) ≡ false
 
+-- r tells whether that is so
 pub record Closes (rows : List ℕ) (e : ℕ) (r : Bool) : Type 0 where
   pub yes : r ≡ true → Alone rows e
   pub no : r ≡ false → Alone rows e → ⊥
@@ -146,10 +155,11 @@ pub record ReadyRounds (rows : List ℕ) (g : Bool) (e : ℕ) (list : List ℕ) 
   pub fixes : Fixes rows g e
   pub movable : Movable rows e list count
 
--- bit e of the first n words: the set of positions that they have for subformula e; and for the k subformulas from e on
+-- bit e of the first n words: the set of positions that they have for subformula e
 abbrev pub column : ℕ → List ℕ → ℕ → Positions
 column n w e = map (λ x. bit x e) (take n w)
 
+-- the same for the k subformulas from e on
 abbrev pub columns : ℕ → List ℕ → ℕ → ℕ → List Positions
 columns n w e k = map (column n w) (numbers e k)
 
@@ -242,11 +252,17 @@ pub record Evaluated (rows : List ℕ) (c : Lasso) (lo e : ℕ) (w v : List ℕ)
   pub done : Known rows c lo (end-at rows e) w → (f : Formula) (scope : Scope) (binders : List ℕ) → Written rows e scope binders f
       → Labelled c f e binders w v
 
--- so many rounds are taken, or one of them changed nothing and the fixpoint is labelled
+-- the fixpoint at e is labelled, and closed subformulas inside it still are
+pub record Settled (rows : List ℕ) (c : Lasso) (g : Bool) (e : ℕ) (w bs : List ℕ) (a : Formula) (v : List ℕ) : Type 0 where
+  pub labelled : Labelled c (Formula.fix g a) e bs w v
+  pub known : Known rows c (e + 1) (end-at rows e) v
+
+-- what rounds come to: so many are left, or one of them changed nothing and the fixpoint is labelled
 abbrev pub Outcome : List ℕ → Lasso → (g : Bool) → (e : ℕ) → (w bs : List ℕ) → Formula → (left : ℕ) → (v : List ℕ) → Bool → Type 0
 Outcome rows c g e w bs a left v true = Going rows c g e w bs a left v
-Outcome rows c g e w bs a left v false = Labelled c (Formula.fix g a) e bs w v × Known rows c (e + 1) (end-at rows e) v
+Outcome rows c g e w bs a left v false = Settled rows c g e w bs a v
 
+-- so many rounds are taken from any state of them, with what they come to; r tells whether the set still moves
 pub record Rounded (rows : List ℕ) (c : Lasso) (g : Bool) (e left : ℕ) (w v : List ℕ) (r : Bool) : Type 0 where
   pub kept : Kept (length (c .letters)) e (end-at rows e) w v
   pub done : (a : Formula) (scope : Scope) (binders : List ℕ) → Written rows e scope binders (Formula.fix g a) → (first : List ℕ) (more : ℕ)

@@ -15,9 +15,9 @@ ghost use Rattle.formula.specs.Access.{decoded, Fits};
 ghost use Rattle.lasso.specs.Truth.{truth, written};
 ghost use Rattle.lasso.specs.Answer.{lasso, answer};
 ghost use Rattle.lasso.specs.Lasso.{joined};
-ghost use Rattle.lasso.specs.Promise.{Held, Ready, ReadyFixpoint, ReadyRounds, ReadyPass, Few, after, local, Sweeping, outside-of};
-ghost use Rattle.lasso.specs.Promise.{Closes, Open, Listed, Filled, Turned, Passed, Begun, Evaluated, Rounded, Closing, Answered};
-ghost use Rattle.lasso.specs.Promise.{Judged};
+ghost use Rattle.lasso.specs.Promise.{Held, Ready, ReadyFixpoint, ReadyRounds, ReadyPass, Few, Successor, local, Sweeping};
+ghost use Rattle.lasso.specs.Promise.{outside-of, Closes, Open, Listed, Filled, Turned, Passed, Begun, Evaluated, Rounded};
+ghost use Rattle.lasso.specs.Promise.{Closing, Answered, Judged};
 
 // The number of a position on a lasso (document 01: a place), kept apart from subformulas.
 pub struct Position(pub usize);
@@ -29,6 +29,7 @@ pub enum Truth {
     Unread(Refusal),
 }
 
+// A letter as a word.
 fn wide16(x: u16) -> u64
     ensures { λ r. ⌜ r ≡ x ⌝ }
 {
@@ -65,9 +66,10 @@ fn holds_at(op: Operator, letter: u16, here: u64, there: u64) -> bool
     }
 }
 
+// The next position; behind the last one the first of the cycle.
 fn successor(p: Position, n: usize, stem: usize) -> Position
     requires { ⌜ (p .0 < n) × (stem < n) ⌝ }
-    ensures { λ r. ⌜ (r .0 ≡ after n stem (p .0)) × (r .0 < n) ⌝ }
+    ensures { λ r. ⌜ Successor n stem (p .0) (r .0) ⌝ }
 {
     let i = p.0;
     if i + 1 == n {
@@ -93,13 +95,9 @@ fn sweep(rows: &[u8; 144], letters: &[u16], stem: usize, words: &mut [u64], s: S
         let here = words[i];
         let on = holds_at(op, letters[i], here, words[j]);
         let word = base::with(here, e, on);
-        if word == here {
-            i += 1;
-        } else {
-            words[i] = word;
-            changed = true;
-            i += 1;
-        }
+        words[i] = word;
+        changed = changed | (word != here);
+        i += 1;
     }
     changed
 }
@@ -516,6 +514,7 @@ fn round(
     false
 }
 
+// Puts 0 into the first n words.
 fn clear(words: &mut [u64], n: usize)
     requires { ⌜ n ≤ length (now words) ⌝ }
     ensures { λ _. ⌜ now (words .exit) ≡ replicate n 0 ++ drop n (now (words .entry)) ⌝ }

@@ -15,7 +15,7 @@ use Rattle.base.specs.Lists.{numbers}
 use Rattle.base.proofs.TestLaws.{not-of-T}
 use Rattle.base.proofs.NumberLaws.{values-add}
 use Rattle.coded.specs.Triples.{those}
-use Rattle.coded.specs.Spread.{seen}
+use Rattle.base.specs.Spread.{seen}
 use Rattle.coded.specs.Runs.{Profile, Found, same-profile}
 use Rattle.coded.proofs.RunLaws.{same-sound}
 use Rattle.triples.specs.Promise.{triples-in}

@@ -10,16 +10,17 @@ use Prim.Native.Nat.{ℕ, zero, suc, _+_, _-_, _≤_, _<_}
 use native.Mathlib.Nat.{zero-add}
 use native.Mathlib.Omega.{arith}
 use lib.ListN.{length, getD, length-append}
-use Rattle.base.specs.Lists.{numbers, gather, any}
+use Rattle.base.specs.Lists.{numbers, gather, any, At}
+use Rattle.base.specs.Spread.{seen, add, adds}
+use Rattle.base.proofs.At.{at-of}
+use Rattle.base.proofs.SpreadLaws.{adds-append, adds-length}
 use Rattle.base.proofs.BoolLaws.{of-T, to-T, or-left, or-right}
 use Rattle.base.proofs.AppendLaws.{any-append, gather-append, numbers-append}
 use Rattle.base.proofs.NumberLaws.{values-length, values-add, values-at, values-same, values-one}
-use Rattle.coded.specs.Spread.{seen, add, adds}
 use Rattle.coded.specs.Runs.{Profile, Found, same-profile}
 use Rattle.runs.specs.declared.Shelf.{Shelf}
 use Rattle.runs.specs.Stored.{place, record-of, stored, Changed, Chained, Grown, Added}
 use Rattle.runs.proofs.RecordLaws.{changed-none, changed-then, changed-wide, record-kept}
-use Rattle.coded.proofs.SpreadLaws.{adds-append, adds-length}
 
 module _ (s : Shelf) (b : List ℕ) where
   pub stored-length : (k : ℕ) → length (stored s b k) ≡ k
@@ -33,6 +34,11 @@ module _ (s : Shelf) (b : List ℕ) where
   pub stored-at : (k p : ℕ) (d : Found) → p < k → getD (stored s b k) p d ≡ record-of s b p
   unfolding stored
   stored-at k p d h = values-at (record-of s b) 0 k p d h ∙ ap (record-of s b) (zero-add p)
+
+  pub record-at : (k p : ℕ) → p < k → At (stored s b k) p (record-of s b p)
+  record-at k p h =
+      subst (At (stored s b k) p) (stored-at k p (record-of s b p) h)
+      (at-of (stored s b k) p (record-of s b p) (omega (arith, stored-length k)))
 
   pub stored-kept : (a : List ℕ) (k : ℕ) → ((p : ℕ) → p < k → record-of s b p ≡ record-of s a p) → stored s b k ≡ stored s a k
   unfolding stored

@@ -5,14 +5,14 @@ use mathlib.Core.Path.{_≡_, ap, subst}
 use mathlib.Core.List.{List}
 use Prim.Native.Nat.{ℕ, _+_, _≤_, _<_}
 use native.Mathlib.Omega.{arith}
-use Rattle.base.proofs.At.{At, at-of}
+use Rattle.base.proofs.At.{At}
 use Rattle.formula.specs.Table.{Table}
 use Rattle.tableau.specs.Saturation.{Subset}
 use Rattle.coded.specs.Runs.{Found, ones}
 use Rattle.coded.proofs.RiseLaws.{ones-rise}
 use Rattle.runs.specs.declared.Shelf.{Shelf}
-use Rattle.runs.specs.Stored.{record-of, stored, first-of, Rising, Parted, Grown}
-use Rattle.runs.proofs.GrowLaws.{stored-length, stored-at}
+use Rattle.runs.specs.Stored.{record-of, first-of, Rising, Parted, Grown}
+use Rattle.runs.proofs.GrowLaws.{record-at}
 
 pub rising-kept : (s : Shelf) (a b : List ℕ) {k : ℕ} → ((p : ℕ) → p < k → record-of s b p ≡ record-of s a p) → Rising s a k → Rising s b k
 rising-kept s a b e r p q l h =
@@ -26,8 +26,7 @@ ones-rising t vs {s} {b = b} {r = r} g h p q l m =
     there : (p : ℕ) → p < r → At (ones t vs) p (record-of s b p)
     there p m =
         subst (λ (xs : List Found). At xs p (record-of s b p)) (g .records h)
-        (subst (At (stored s b r) p) (stored-at s b r p (record-of s b p) m)
-        (at-of (stored s b r) p (record-of s b p) (omega (arith, stored-length s b r))))
+        (record-at s b r p m)
 
 pub record Halved (s : Shelf) (b : List ℕ) (k node low high : ℕ) : Type 0 where
   pub order : low ≤ high

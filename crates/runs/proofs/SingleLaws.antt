@@ -4,34 +4,39 @@
 -- (`of-turn`, `of-stop`, `of-done`), and all nodes but the root those of one transition (`all-turn`, `all-stop`, `all-done`). Assumes
 -- nothing.
 use mathlib.Core.Path.{_≡_, refl, sym, ap, subst, subst⁻¹, _∙_}
-use mathlib.Core.Bool.{Bool, true, false, cond}
-use mathlib.Core.List.{List, [], _∷_, _++_, map, List·Memᴰ·head, List·Memᴰ·tail}
+use mathlib.Core.Bool.{Bool, false, cond}
+use mathlib.Core.List.{List, [], _∷_, _++_, map, List·Memᴰ, List·Memᴰ·head, List·Memᴰ·tail, Memᴰ·map}
 use Prim.Native.Nat.{ℕ, zero, suc, _+_, _-_, _*_, _^_, _≤_, _<_}
 use native.Mathlib.Nat.{zero-add}
 use native.Mathlib.Omega.{arith}
-use lib.Dec.{T, eqb, eqb→eq, eqb-refl}
+use borrow.Author.Tests.{lt-ltb}
+use lib.Dec.{eqb}
 use lib.ListN.{length, getD}
 use Rattle.base.specs.Bits.{bit, word}
-use Rattle.base.specs.Lists.{numbers, gather, tail}
-use Rattle.base.proofs.TestLaws.{same-truth}
-use Rattle.base.proofs.AppendLaws.{map-gather}
+use Rattle.base.specs.Lists.{numbers, gather, index, tail}
+use Rattle.base.specs.Spread.{add, adds}
+use Rattle.base.proofs.TestLaws.{eqb-flip}
+use Rattle.base.proofs.IndexLaws.{index-same}
+use Rattle.base.proofs.MemberLaws.{gather-in, numbers-in}
+use Rattle.base.proofs.AppendLaws.{gather-map, map-gather}
 use Rattle.base.proofs.NumberLaws.{values-length, values-at}
 use Rattle.base.proofs.ShiftLaws.{same-low-bits}
 use Rattle.base.proofs.WordLaws.{word-bit, word-lt, word-inj}
 use Rattle.formula.specs.Table.{Table}
 use Rattle.tableau.specs.Saturation.{Subset, same-subset, saturate}
-use Rattle.tableau.specs.Transition.{ors, choice-of, Transition, by-word}
+use Rattle.tableau.specs.Transition.{ors, choice-of, Transition, transition-of, by-word, transitions}
 use Rattle.tableau.specs.Promise.{table-of, Leads-nowhere, Stepped-by}
-use Rattle.tableau.specs.Area.{eight, words-at, index, Sized}
+use Rattle.tableau.specs.Area.{eight, words-at, lookup, Sized}
 use Rattle.tableau.specs.declared.NodeNumber.{NodeNumber}
+use Rattle.tableau.specs.declared.Lookup.{Lookup}
+use Rattle.tableau.specs.declared.Lookup.the-variants.{Number, Absent}
 use Rattle.tableau.specs.declared.Step.the-variants.{Leads}
-use Rattle.tableau.proofs.TransitionLaws.{transition-with, letter-small, to-length, transitions-by-word}
+use Rattle.tableau.proofs.TransitionLaws.{transition-with, letter-small, to-length, transitions-by-word, word-in}
 use Rattle.tableau.proofs.WordSets.{same-word}
 use Rattle.tableau.proofs.LoopLaws.{table-length}
 use Rattle.tableau.proofs.StepLaws.{Found, a-step}
-use Rattle.tableau.proofs.NodeLoop.{at-sized}
-use Rattle.tableau.proofs.NodeReads.{Kept, kept-at, eight-same, words-same}
-use Rattle.coded.specs.Spread.{add, adds}
+use Rattle.tableau.proofs.SizeLaws.{at-sized}
+use Rattle.tableau.proofs.NodeReads.{Kept, kept-at, word-of-node, eight-same, words-same}
 use Rattle.coded.specs.Marks.{triples}
 use Rattle.coded.specs.Runs.{Found as Item, same-profile, number-of, single-of, ones-of, ones-from, ones}
 use Rattle.triples.specs.Promise.{triples-in}
@@ -59,33 +64,20 @@ word-subset count v h =
     word-inj (subset-of count (word v)) v (subset-length count (word v) ∙ sym h)
     (subset-word count (word v) (omega (arith, word-lt v, ap (λ (n : ℕ). 2 ^ n) h)))
 
-eqb-swap : (x y : ℕ) → eqb x y ≡ eqb y x
-eqb-swap x y = same-truth (eqb x y) (eqb y x) (λ h. subst (λ (z : ℕ). T (eqb z x)) (eqb→eq x y h) (eqb-refl x))
-    (λ h. subst (λ (z : ℕ). T (eqb z y)) (eqb→eq y x h) (eqb-refl y))
-
 -- the number of a node
-find-number : (count : ℕ) (a : List ℕ) (i n : ℕ) (v : Subset) → length v ≡ count
-    → ((j : ℕ) → i ≤ j → j < i + n → eight a (8 * j) < 2 ^ count)
-    → index (word v) (words-at a i n) ≡ number-of (map (subset-of count) (words-at a i n)) v
-find-number count a i zero v h f = refl
-find-number count a i (suc n) v h f =
-    let w = eight a (8 * i) in
-    let here : eqb (word v) w ≡ same-subset (subset-of count w) v =
-    eqb-swap (word v) w
-    ∙ ap (λ (x : ℕ). eqb x (word v)) (sym (subset-word count w (f i (omega arith) (omega arith))))
-    ∙ same-word (subset-of count w) v (subset-length count w ∙ sym h) in
-    rw (here, find-number count a (suc i) n v h (λ j l m. f j (omega arith) (omega arith)))
-
-index-few : (x : ℕ) (a : List ℕ) (i n : ℕ) → index x (words-at a i n) ≤ n
-index-few x a i zero = omega arith
-index-few x a i (suc n) = by (eqb x (eight a (8 * i))) (index-few x a (suc i) n)
+find-number : (count : ℕ) (a : List ℕ) (n : ℕ) (v : Subset) → length v ≡ count → ((j : ℕ) → j < n → eight a (8 * j) < 2 ^ count)
+    → index (eqb (word v)) (words-at a 0 n) ≡ number-of (map (subset-of count) (words-at a 0 n)) v
+find-number count a n v h f =
+    index-same (eqb (word v)) (λ u. same-subset u v) (subset-of count) (words-at a 0 n)
+    (λ w m.
+    eqb-flip (word v) w
+    ∙ ap (λ (x : ℕ). eqb x (word v)) (sym (subset-word count w (word-low w m)))
+    ∙ same-word (subset-of count w) v (subset-length count w ∙ sym h))
   where
-    by : (b : Bool) → index x (words-at a (suc i) n) ≤ n → cond b 0 (suc (index x (words-at a (suc i) n))) ≤ suc n
-    by true h = omega arith
-    by false h = omega arith
-
-pub index-small : (to : ℕ) (a : List ℕ) {nodes last : ℕ} → nodes ≤ 1024 → last ≡ index to (words-at a 0 nodes) → last < 65536
-index-small to a {nodes} h e = omega (arith, index-few to a 0 nodes)
+    word-low : (w : ℕ) → List·Memᴰ w (words-at a 0 n) → w < 2 ^ count
+    word-low w m =
+        let (j, l, e) = word-of-node a n m in
+        subst (λ (x : ℕ). x < 2 ^ count) e (f j l)
 
 -- the nodes of a list that stands in the area
 subsets-are : (count : ℕ) (l : List Subset) → Sized count l → map (subset-of count) (map word l) ≡ l
@@ -96,9 +88,26 @@ module _ {count : ℕ} {l : List Subset} {area : List ℕ} (s : Sized count l) (
   pub nodes-in-are : nodes-in count area (length l) ≡ l
   nodes-in-are = ap (map (subset-of count)) (k .words) ∙ subsets-are count l s
 
+  pub node-in-are : (i : ℕ) → i < length l → node-in count area i ≡ getD l i []
+  node-in-are i h = ap (subset-of count) (kept-at k i h) ∙ word-subset count (getD l i []) (at-sized count l i s h)
+
   pub node-sets : (i : ℕ) → i < length l → eight area (8 * i) < 2 ^ count
   node-sets i h =
       omega (arith, kept-at k i h, word-lt (getD l i []), ap (λ (n : ℕ). 2 ^ n) (at-sized count l i s h))
+
+-- what the answer to a lookup says, if there is such a node
+module _ (nodes n : ℕ) (low : n < nodes) where
+  answer : lookup nodes n ≡ Number (record { 0 = n })
+  answer = ap (λ (b : Bool). cond b (Number (record { 0 = n })) Absent) (lt-ltb n nodes low)
+
+  not-absent : lookup nodes n ≡ Absent → ⊥
+  not-absent e =
+      let h = answer in
+      let z : _≡_ {A = ℕ} 0 1 = cc in
+      omega arith
+
+  the-number : (last : NodeNumber) → lookup nodes n ≡ Number last → last .0 ≡ n
+  the-number last e = let h = answer in cc
 
 -- all choice words make the transitions of a node, and all nodes from i on theirs
 all-choices : (t : Table) (vs : List Subset) (i : ℕ) (v : Subset) → gather (singles-by t vs i v) (numbers 0 (2 ^ ors t)) ≡ ones-of t vs i v
@@ -129,6 +138,15 @@ module _ {rows : List ℕ} {count : ℕ} {r : Ranks} {s : Shelf} {nodes : ℕ} {
     node-kept : (i : ℕ) → i < nodes → eight b (8 * i) ≡ eight a (8 * i)
     node-kept i h = eight-same a b (8 * i) (λ k l. c .below k (omega (arith, g .behind)))
 
+    pub from-kept : {from : ℕ} (i : ℕ) → i < nodes → from ≡ eight a (8 * i) → from ≡ eight b (8 * i)
+    from-kept i h e = e ∙ sym (node-kept i h)
+
+    pub node-in-kept : (i : ℕ) → i < nodes → node-in count b i ≡ node-in count a i
+    node-in-kept i h = ap (subset-of count) (node-kept i h)
+
+    pub nodes-in-kept : nodes-in count b nodes ≡ nodes-in count a nodes
+    nodes-in-kept = ap (map (subset-of count)) (words-same a b 0 nodes (λ k l. c .below k (omega (arith, g .behind))))
+
     pub given-kept : Given rows count r s nodes b
     given-kept = record {
       limited = g .limited;
@@ -139,16 +157,10 @@ module _ {rows : List ℕ} {count : ℕ} {r : Ranks} {s : Shelf} {nodes : ℕ} {
       few = g .few;
       behind = g .behind;
       sets = λ i h. subst⁻¹ (λ (w : ℕ). w < 2 ^ count) (node-kept i h) (g .sets i h);
+      closed = λ i h x m.
+          subst⁻¹ (λ (us : List Subset). number-of us (x .to) < nodes) nodes-in-kept
+          (g .closed i h x (subst (λ (u : Subset). List·Memᴰ x (transitions (table-of rows count) u)) (node-in-kept i h) m));
     }
-
-    pub from-kept : {from : ℕ} (i : ℕ) → i < nodes → from ≡ eight a (8 * i) → from ≡ eight b (8 * i)
-    from-kept i h e = e ∙ sym (node-kept i h)
-
-    pub node-in-kept : (i : ℕ) → i < nodes → node-in count b i ≡ node-in count a i
-    node-in-kept i h = ap (subset-of count) (node-kept i h)
-
-    pub nodes-in-kept : nodes-in count b nodes ≡ nodes-in count a nodes
-    nodes-in-kept = ap (map (subset-of count)) (words-same a b 0 nodes (λ k l. c .below k (omega (arith, g .behind))))
 
   abbrev t : Table
   t = table-of rows count
@@ -176,32 +188,57 @@ module _ {rows : List ℕ} {count : ℕ} {r : Ranks} {s : Shelf} {nodes : ℕ} {
         grown-same (ap (λ (ys : List Transition). adds same-profile (stored s a had) (map (single-of t vs i v) ys))
         (sym (n .is v long (f ∙ node-is)))) (grown-still s had a l k)
 
-    module _ {from to letter : ℕ} (f : from ≡ eight a (8 * i)) (st : Stepped-by rows count x from (Leads to letter)) where
-      found : Found t w (saturate t w v) to letter
-      found = a-step t w (saturate t w v) (st .is v long (f ∙ node-is))
+    module _ {from to letter : ℕ} (choice : x < 2 ^ ors t) (f : from ≡ eight a (8 * i))
+        (st : Stepped-by rows count x from (Leads to letter))
+      where
+        found : Found t w (saturate t w v) to letter
+        found = a-step t w (saturate t w v) (st .is v long (f ∙ node-is))
 
-      pub single-letter : letter < 65536
-      single-letter = omega (arith, found .letter-is, letter-small t w (saturate t w v))
+        -- the transition that it is
+        abbrev y : Transition
+        y = transition-with t w (saturate t w v)
 
-      pub single-some : {choice had q : ℕ} {d : List ℕ} {number last : NodeNumber} (carried : List ℕ) → number .0 ≡ i
-          → last .0 ≡ index to (words-at a 0 nodes) → choice ≡ word w
-          → Triples-of rows count choice from carried
-          → Added s had a q d (found-of (record { first = number; last = last; parent = 0; letter = letter })
-          (triples-in (s .n) carried) ∷ [])
-          → Added s had a q d (singles-by t vs i v x)
-      single-some {had = had} {last = last} carried e l c k m =
-          let y = transition-with t w (saturate t w v) in
-          let p : last .0 ≡ number-of vs (y .to) =
-          l ∙ ap (λ (z : ℕ). index z (words-at a 0 nodes)) (found .to-is)
-          ∙ find-number count a 0 nodes (y .to) (to-length t w (saturate t w v) ∙ table-length rows count)
-          (λ j m n. g .sets j (omega arith)) in
-          let q : triples-in (s .n) carried ≡ triples t v w =
-          ap (λ (n : ℕ). triples-in n carried) (g .nexts ∙ g .ranks .nexts-are) ∙ k v w (f ∙ node-is) c in
-          grown-same
-          ((λ j. add same-profile (stored s a had)
-          (record { at = record { first = e j; last = p j; carried = q j }; parent = 0; label = found .letter-is j }))
-          ∙ ap (λ (ys : List Transition). adds same-profile (stored s a had) (map (single-of t vs i v) ys)) (sym (found .exists)))
-          m
+        pub single-letter : letter < 65536
+        single-letter = omega (arith, found .letter-is, letter-small t w (saturate t w v))
+
+        -- where the area has its node
+        abbrev place : ℕ
+        place = index (eqb to) (words-at a 0 nodes)
+
+        place-is : place ≡ number-of vs (y .to)
+        place-is =
+            ap (λ (z : ℕ). index (eqb z) (words-at a 0 nodes)) (found .to-is)
+            ∙ find-number count a nodes (y .to) (to-length t w (saturate t w v) ∙ table-length rows count) (λ j m. g .sets j m)
+
+        place-low : place < nodes
+        place-low =
+            subst⁻¹ (λ (n : ℕ). n < nodes) place-is
+            (g .closed i h y (word-in t v x choice (subst⁻¹ (List·Memᴰ y) (found .exists) (List·Memᴰ·head refl))))
+
+        -- it has one
+        pub single-there : {q : Lookup} → q ≡ lookup nodes place → q ≡ Absent → ⊥
+        single-there e n = not-absent nodes place place-low (sym e ∙ n)
+
+        pub single-last : {q : Lookup} (last : NodeNumber) → q ≡ lookup nodes place → q ≡ Number last → last .0 ≡ number-of vs (y .to)
+        single-last last e n = the-number nodes place place-low last (sym e ∙ n) ∙ place-is
+
+        pub single-small : {q : Lookup} (last : NodeNumber) → q ≡ lookup nodes place → q ≡ Number last → last .0 < 65536
+        single-small last e n = omega (arith, the-number nodes place place-low last (sym e ∙ n), place-low, g .few)
+
+        pub single-some : {choice had q : ℕ} {d : List ℕ} {number last : NodeNumber} (carried : List ℕ) → number .0 ≡ i
+            → last .0 ≡ number-of vs (y .to) → choice ≡ word w
+            → Triples-of rows count choice from carried
+            → Added s had a q d (found-of (record { first = number; last = last; parent = 0; letter = letter })
+            (triples-in (s .n) carried) ∷ [])
+            → Added s had a q d (singles-by t vs i v x)
+        single-some {had = had} carried e l c k m =
+            let q : triples-in (s .n) carried ≡ triples t v w =
+            ap (λ (n : ℕ). triples-in n carried) (g .nexts ∙ g .ranks .nexts-are) ∙ k v w (f ∙ node-is) c in
+            grown-same
+            ((λ j. add same-profile (stored s a had)
+            (record { at = record { first = e j; last = l j; carried = q j }; parent = 0; label = found .letter-is j }))
+            ∙ ap (λ (ys : List Transition). adds same-profile (stored s a had) (map (single-of t vs i v) ys)) (sym (found .exists)))
+            m
 
   -- the loop over the choice words of node i, with a shelf of `had` records
   module _ (i had : ℕ) where

@@ -4,16 +4,17 @@
 use mathlib.Core.Path.{_≡_, sym, ap, subst, _∙_}
 use mathlib.Core.Bool.{Bool, cond}
 use mathlib.Core.List.{List, [], _∷_}
-use Prim.Native.Nat.{ℕ, suc, _+_, _-_, _≤_, _<_}
+use Prim.Native.Nat.{ℕ, suc, _+_, _≤_, _<_}
 use native.Mathlib.Nat.{zero-add}
 use native.Mathlib.Numerals.{add-one}
 use native.Mathlib.Omega.{arith}
 use borrow.Author.Tests.{ne-eqb, eq-eqb}
 use lib.ListN.{length, getD}
-use Rattle.base.specs.Lists.{numbers}
+use Rattle.base.specs.Lists.{numbers, At}
+use Rattle.base.specs.Spread.{adds}
 use Rattle.base.proofs.AppendLaws.{gather-map}
+use Rattle.base.proofs.SpreadLaws.{After-turns, turns-start, turns-next, turns-done, turns-length}
 use Rattle.coded.specs.Triples.{Triples, join}
-use Rattle.coded.specs.Spread.{adds, spread}
 use Rattle.coded.specs.Runs.{Found, same-profile, follow, longer, profiles-from}
 use Rattle.triples.specs.Promise.{triples-in}
 use Rattle.triples.proofs.CellLaws.{triples-copied}
@@ -21,9 +22,8 @@ use Rattle.runs.specs.declared.Ends.{Ends}
 use Rattle.runs.specs.declared.Shelf.{Shelf}
 use Rattle.runs.specs.Stored.{found-of, place, record-of, stored, first-of, Ends-of, Chained, Grown, Added}
 use Rattle.runs.proofs.RecordLaws.{carried-at}
-use Rattle.runs.proofs.GrowLaws.{stored-length, stored-at, stored-kept, grown-still, grown-longer, grown-then, with-first}
+use Rattle.runs.proofs.GrowLaws.{stored-length, record-at, stored-kept, grown-still, grown-longer, grown-then, with-first}
 use Rattle.runs.proofs.GrowLaws.{turn-more, turn-stop, turn-past}
-use Rattle.coded.proofs.SpreadLaws.{spread-length, spread-done, spread-step}
 
 pub grown-same : {s : Shelf} {count r : ℕ} {a b : List ℕ} {xs ys : List Found} → xs ≡ ys → Grown s count a r b xs → Grown s count a r b ys
 grown-same {s} {count} {r} {a} {b} e g = subst (Grown s count a r b) e g
@@ -122,55 +122,42 @@ module _ (s : Shelf) (count p : ℕ) (a : List ℕ) where
       → Added s count a all b (longer (s .n) (stored s a ones) p (record-of s a p))
   extend-done q ones h d g = grown-same (past q ones h d ∙ extended-all ones) g
 
--- p of the profiles found so far are gone on from: what is left of the search leads to all profiles
+-- p of the profiles found so far are gone on from: the loop's list after p turns is in the area
 pub record Pending (s : Shelf) (ones : ℕ) (a : List ℕ) (p all : ℕ) (b : List ℕ) : Type 0 where
   pub so-far : List Found
   pub grown : Grown s ones a all b so-far
-  pub rest : (fuel : ℕ) → profiles-from (p + fuel) (s .n) (stored s a ones) ≡ spread same-profile (longer (s .n) (stored s a ones)) fuel
-      p so-far
+  pub turns : After-turns same-profile (longer (s .n) (stored s a ones)) (stored s a ones) p so-far
 
 pub pending-start : (s : Shelf) (ones : ℕ) (a : List ℕ) → ones ≤ s .capacity → Chained s a ones → Pending s ones a 0 ones a
-unfolding profiles-from
 pending-start s ones a h c = record {
   so-far = stored s a ones;
   grown = grown-still s ones a h c;
-  rest = λ fuel. ap (λ (k : ℕ). spread same-profile (longer (s .n) (stored s a ones)) k 0 (stored s a ones)) (zero-add fuel);
+  turns = turns-start same-profile (longer (s .n) (stored s a ones)) (stored s a ones);
 }
 
 module _ {s : Shelf} {ones p all : ℕ} {a b : List ℕ} (k : Pending s ones a p all b) where
   abbrev onward : ℕ → Found → List Found
   onward = longer (s .n) (stored s a ones)
 
-  at-fuel : (fuel : ℕ) → p ≤ fuel → profiles-from fuel (s .n) (stored s a ones) ≡ spread same-profile onward (fuel - p) p (k .so-far)
-  at-fuel fuel h = ap (λ (i : ℕ). profiles-from i (s .n) (stored s a ones)) {x = fuel} {y = p + (fuel - p)} (omega arith)
-      ∙ k .rest (fuel - p)
-
   pub pending-next : {r : ℕ} {d : List ℕ} → all ≤ s .capacity → p < all
       → Added s all b r d (longer (s .n) (stored s b ones) p (record-of s b p)) → Pending s ones a (p + 1) r d
   pending-next {r} {d} h l g =
       let x = record-of s b p in
-      let e : stored s b all ≡ k .so-far = k .grown .records h in
-      let there : getD (k .so-far) p x ≡ x = sym (ap (λ (xs : List Found). getD xs p x) e) ∙ stored-at s b all p x l in
+      let there : At (k .so-far) p x = subst (λ (xs : List Found). At xs p x) (k .grown .records h) (record-at s b all p l) in
+      let same =
+      ap (λ (os : List Found). adds same-profile (stored s b all) (longer (s .n) os p x)) (stored-kept s b a ones (k .grown .kept)) in
       record {
         so-far = adds same-profile (k .so-far) (onward p x);
-        grown = grown-then (k .grown) (onward p x) h
-            (grown-same (ap (λ (os : List Found). adds same-profile (stored s b all) (longer (s .n) os p x))
-            (stored-kept s b a ones (k .grown .kept))) g);
-        rest = λ fuel.
-            ap (λ (i : ℕ). profiles-from i (s .n) (stored s a ones)) {x = p + 1 + fuel} {y = p + suc fuel} (omega arith)
-            ∙ k .rest (suc fuel)
-            ∙ spread-step same-profile onward fuel p (k .so-far) x (omega (arith, ap length e, stored-length s b all))
-            ∙ ap (λ (y : Found). spread same-profile onward fuel (suc p) (adds same-profile (k .so-far) (onward p y))) there
-            ∙ ap (λ (i : ℕ). spread same-profile onward fuel i (adds same-profile (k .so-far) (onward p x))) (sym (add-one p));
+        grown = grown-then (k .grown) (onward p x) h (grown-same same g);
+        turns = turns-next same-profile onward (k .turns) there;
       }
 
   pub pending-stop : (fuel : ℕ) → s .capacity < all → p ≤ fuel → Grown s ones a all b (profiles-from fuel (s .n) (stored s a ones))
-  pending-stop fuel h l =
-      grown-longer (k .grown) h (omega (arith, ap length (at-fuel fuel l), spread-length same-profile onward (fuel - p) p (k .so-far)))
+  unfolding profiles-from
+  pending-stop fuel h l = grown-longer (k .grown) h (turns-length same-profile onward (k .turns) fuel l)
 
   pub pending-done : (fuel : ℕ) → all ≤ p → p ≤ s .capacity → p ≤ fuel → Grown s ones a all b (profiles-from fuel (s .n) (stored s a ones))
+  unfolding profiles-from
   pending-done fuel h m l =
-      let e : stored s b all ≡ k .so-far = k .grown .records (omega arith) in
-      grown-same
-      (sym (at-fuel fuel l ∙ spread-done same-profile onward (fuel - p) p (k .so-far)
-      (omega (arith, ap length e, stored-length s b all)))) (k .grown)
+      let few : length (k .so-far) ≤ p = omega (arith, ap length (k .grown .records (omega arith)), stored-length s b all) in
+      grown-same (sym (turns-done same-profile onward (k .turns) fuel l few)) (k .grown)

@@ -1,20 +1,21 @@
 -- What the functions over the profiles of one transition ask and promise. The nodes stand as words at the beginning of the area, and the
 -- shelf behind them. A reader of the decision's contract need not read it. Assumes nothing.
 use mathlib.Core.Path.{_≡_}
-use mathlib.Core.List.{List, map}
+use mathlib.Core.List.{List, map, List·Memᴰ}
 use Prim.Native.Nat.{ℕ, _*_, _^_, _≤_, _<_}
 use lib.ListN.{length}
 use Rattle.base.specs.Bits.{bit}
 use Rattle.base.specs.Lists.{numbers}
 use Rattle.formula.specs.Table.{Table}
 use Rattle.tableau.specs.Saturation.{Subset}
-use Rattle.tableau.specs.Transition.{by-word}
+use Rattle.tableau.specs.Transition.{ors, Transition, by-word, transitions}
+use Rattle.tableau.specs.Promise.{table-of, Unmet}
 use Rattle.tableau.specs.Area.{eight, words-at}
-use Rattle.coded.specs.Runs.{Found, single-of}
+use Rattle.coded.specs.Runs.{Found, number-of, single-of}
 use Rattle.traces.specs.Promise.{Limited, Ranks-of}
 use Rattle.traces.specs.declared.Ranks.{Ranks}
 use Rattle.runs.specs.declared.Shelf.{Shelf}
-use Rattle.runs.specs.Stored.{Lent}
+use Rattle.runs.specs.Stored.{Lent, Chained}
 
 -- the set of a word, of that many subformulas
 abbrev pub subset-of : (count word : ℕ) → Subset
@@ -32,7 +33,8 @@ nodes-in count area nodes = map (subset-of count) (words-at area 0 nodes)
 abbrev pub singles-by : Table → List Subset → (i : ℕ) → Subset → (choice-word : ℕ) → List Found
 singles-by t vs i v x = map (single-of t vs i v) (by-word t x v)
 
--- What is asked: rows and ranks that are right, a shelf behind the nodes, and nodes that are sets of subformulas.
+-- What is asked: rows and ranks that are right, a shelf behind the nodes, and nodes that are sets of subformulas, of which a transition
+-- leads to one of them.
 pub record Given (rows : List ℕ) (count : ℕ) (r : Ranks) (s : Shelf) (nodes : ℕ) (area : List ℕ) : Type 0 where
   pub limited : Limited rows count
   pub ranks : Ranks-of rows count r
@@ -42,3 +44,18 @@ pub record Given (rows : List ℕ) (count : ℕ) (r : Ranks) (s : Shelf) (nodes 
   pub few : nodes ≤ 1024
   pub behind : 8 * nodes ≤ s .base
   pub sets : (i : ℕ) → i < nodes → eight area (8 * i) < 2 ^ count
+  pub closed : (i : ℕ) → i < nodes → (x : Transition) → List·Memᴰ x (transitions (table-of rows count) (node-in count area i))
+      → number-of (nodes-in count area nodes) (x .to) < nodes
+
+-- What is asked to add the profiles of node i behind the first had records: there is such a node, and these records have room.
+pub record Ready (rows : List ℕ) (count : ℕ) (r : Ranks) (s : Shelf) (nodes : ℕ) (area : List ℕ) (i had : ℕ) : Type 0 where
+  pub given : Given rows count r s nodes area
+  pub node : i < nodes
+  pub room : had ≤ s .capacity
+  pub chained : Chained s area had
+
+-- The word of node i is from, with these bits unmet, and there is such a choice word.
+pub record Chosen (rows : List ℕ) (count : ℕ) (area : List ℕ) (i from : ℕ) (unmet : List ℕ) (choice-word : ℕ) : Type 0 where
+  pub from-is : from ≡ eight area (8 * i)
+  pub unmet-is : Unmet rows count from unmet
+  pub below : choice-word < 2 ^ ors (table-of rows count)

@@ -12,7 +12,7 @@ use Rattle.base.specs.Bits.{bit, word}
 use Rattle.base.specs.Bytes.{number-at}
 use Rattle.base.specs.Lists.{numbers}
 use Rattle.coded.specs.Triples.{Triples}
-use Rattle.coded.specs.Spread.{adds}
+use Rattle.base.specs.Spread.{adds}
 use Rattle.coded.specs.Runs.{Profile, Found, same-profile}
 use Rattle.triples.specs.Promise.{triples-at}
 use Rattle.runs.specs.declared.Ends.{Ends}
@@ -136,6 +136,12 @@ pub record Chained (s : Shelf) (b : List ℕ) (count : ℕ) : Type 0 where
   pub buckets : (p : ℕ) → p < count → bucket-at s b p ≡ bucket-of s (record-of s b p .at)
   pub links : (p : ℕ) → p < count → Latest (bucket-at s b) (bucket-at s b p) p (link-at s b p)
   pub heads : (p : ℕ) → p < count → Latest (bucket-at s b) (bucket-at s b p) count (head-at s b (bucket-at s b p))
+
+-- A shelf in an area has count records, which are chained.
+pub record Shelved (s : Shelf) (area : List ℕ) (count : ℕ) : Type 0 where
+  pub lent : Lent s (length area)
+  pub room : count ≤ s .capacity
+  pub chained : Chained s area count
 
 -- A shelf with count records in the area a has r records in the area b: those of the list xs, or one more than there is room for if xs
 -- is longer than that. The first count records stay, and only bytes of the shelf have changed.

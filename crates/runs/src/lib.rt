@@ -3,15 +3,15 @@ ghost use mathlib.Core.Path.{_≡_};
 ghost use mathlib.Core.List.{[], _∷_};
 ghost use Prim.Native.Nat.{ℕ, _+_, _*_, _≤_, _<_};
 ghost use lib.ListN.{length, getD};
-ghost use Rattle.coded.specs.Spread.{seen};
+ghost use Rattle.base.specs.Spread.{seen};
 ghost use Rattle.coded.specs.Runs.{same-profile, follow, longer, profiles-from, ones-of, ones};
-ghost use Rattle.tableau.specs.Promise.{table-of, Unmet};
-ghost use Rattle.tableau.specs.Area.{eight};
+ghost use Rattle.tableau.specs.Promise.{table-of};
 ghost use Rattle.triples.specs.Promise.{triples-in};
 ghost use Rattle.runs.specs.Stored.{two, profile-of, found-of, place, record-of, stored, Rising, Parted, Small, Ends-of, Lent};
-ghost use Rattle.runs.specs.Stored.{Changed, bits-of, row-of, mixed, mixed-row, bucket-of, bucket-at, Latest, Chained, Grown};
-ghost use Rattle.runs.specs.Stored.{Added};
-ghost use Rattle.runs.specs.Singles.{node-in, nodes-in, singles-by, Given};
+ghost use Rattle.runs.specs.Stored.{Changed, bits-of, row-of, mixed, mixed-row, bucket-of, bucket-at, Latest, Chained, Shelved};
+ghost use Rattle.runs.specs.Stored.{Grown, Added};
+ghost use Rattle.runs.specs.Singles.{node-in, nodes-in, singles-by, Given, Ready, Chosen};
+use tableau::Lookup;
 use tableau::NodeNumber;
 use tableau::Step;
 use traces::Ranks;
@@ -156,9 +156,8 @@ fn bucket(shelf: Shelf, ends: Ends, t: &[u8; 144]) -> usize
 // 1 + the number of the last record in bucket k, or 0. The area was not cleared: what stands there counts only if it leads to a record of
 // this bucket.
 fn head(area: &[u8], shelf: Shelf, count: usize, k: usize) -> usize
-    requires { ⌜ Lent shelf (length (now area)) ⌝ }
-    requires { ⌜ (count ≤ shelf .capacity) × (k < shelf .capacity) ⌝ }
-    requires { ⌜ Chained shelf (now area) count ⌝ }
+    requires { ⌜ Shelved shelf (now area) count ⌝ }
+    requires { ⌜ k < shelf .capacity ⌝ }
     ensures { λ r. ⌜ Latest (bucket-at shelf (now (area .entry))) k count r ⌝ }
 {
     let v = get2(area, shelf, k, 156);
@@ -176,9 +175,8 @@ fn head(area: &[u8], shelf: Shelf, count: usize, k: usize) -> usize
 
 // Whether one of the records is this profile, whose bucket is k.
 fn known(area: &[u8], shelf: Shelf, count: usize, k: usize, ends: Ends, t: &[u8; 144]) -> bool
-    requires { ⌜ Lent shelf (length (now area)) ⌝ }
-    requires { ⌜ (count ≤ shelf .capacity) × (k < shelf .capacity) ⌝ }
-    requires { ⌜ Chained shelf (now area) count ⌝ }
+    requires { ⌜ Shelved shelf (now area) count ⌝ }
+    requires { ⌜ k < shelf .capacity ⌝ }
     requires { ⌜ k ≡ bucket-of shelf (profile-of ends (triples-in (shelf .n) (now t))) ⌝ }
     ensures { λ r. ⌜ r ≡ seen same-profile (profile-of ends (triples-in (shelf .n) (now (t .entry))))
         (stored shelf (now (area .entry)) count) ⌝ }
@@ -195,9 +193,8 @@ fn known(area: &[u8], shelf: Shelf, count: usize, k: usize, ends: Ends, t: &[u8;
 
 // Puts record count, which is written and whose bucket is k, at the head of this bucket's chain.
 fn chain(area: &mut [u8], shelf: Shelf, count: usize, k: usize)
-    requires { ⌜ Lent shelf (length (now area)) ⌝ }
+    requires { ⌜ Shelved shelf (now area) count ⌝ }
     requires { ⌜ (count < shelf .capacity) × (k < shelf .capacity) ⌝ }
-    requires { ⌜ Chained shelf (now area) count ⌝ }
     requires { ⌜ k ≡ bucket-of shelf (record-of shelf (now area) count .at) ⌝ }
     ensures { λ r. ⌜ Chained shelf (now (area .exit)) (count + 1) ⌝ }
     ensures { λ r. ⌜ ((p : ℕ) → record-of shelf (now (area .exit)) p ≡ record-of shelf (now (area .entry)) p) ⌝ }
@@ -211,10 +208,8 @@ fn chain(area: &mut [u8], shelf: Shelf, count: usize, k: usize)
 
 // How many profiles there are once this one is; capacity + 1 where there is no room for it.
 fn add(area: &mut [u8], shelf: Shelf, count: usize, ends: Ends, t: &[u8; 144]) -> usize
-    requires { ⌜ Lent shelf (length (now area)) ⌝ }
-    requires { ⌜ count ≤ shelf .capacity ⌝ }
+    requires { ⌜ Shelved shelf (now area) count ⌝ }
     requires { ⌜ Small ends ⌝ }
-    requires { ⌜ Chained shelf (now area) count ⌝ }
     ensures { λ r. ⌜ Added shelf count (now (area .entry)) r (now (area .exit))
         (found-of ends (triples-in (shelf .n) (now (t .entry))) ∷ []) ⌝ }
 {
@@ -244,28 +239,28 @@ fn single(
     choice_word: u64,
     count: usize,
 ) -> usize
-    requires { ⌜ Given (now rows) subformulas r shelf nodes (now area) ⌝ }
-    requires { ⌜ (number .0 < nodes) × (count ≤ shelf .capacity) ⌝ }
-    requires { ⌜ (from ≡ eight (now area) (8 * number .0)) × Unmet (now rows) subformulas from (now unmet) ⌝ }
-    requires { ⌜ Chained shelf (now area) count ⌝ }
+    requires { ⌜ Ready (now rows) subformulas r shelf nodes (now area) (number .0) count ⌝ }
+    requires { ⌜ Chosen (now rows) subformulas (now area) (number .0) from (now unmet) «choice_word» ⌝ }
     ensures { λ all. ⌜ Added shelf count (now (area .entry)) all (now (area .exit))
         (singles-by (table-of (now (rows .entry)) subformulas) (nodes-in subformulas (now (area .entry)) nodes) (number .0)
         (node-in subformulas (now (area .entry)) (number .0)) «choice_word») ⌝ }
 {
     match tableau::by_word(rows, subformulas, unmet, choice_word, from) {
         Step::Nothing => count,
-        Step::Leads { to, letter } => {
-            let last = tableau::find(area, nodes, to);
-            let choice = tableau::choice_of(rows, subformulas, choice_word);
-            let t = traces::triples_of(rows, subformulas, r, choice, from);
-            let ends = Ends {
-                first: number,
-                last: last,
-                parent: 0,
-                letter: letter as usize,
-            };
-            add(area, shelf, count, ends, &t)
-        }
+        Step::Leads { to, letter } => match tableau::find(area, nodes, to) {
+            Lookup::Absent => count,
+            Lookup::Number(last) => {
+                let choice = tableau::choice_of(rows, subformulas, choice_word);
+                let t = traces::triples_of(rows, subformulas, r, choice, from);
+                let ends = Ends {
+                    first: number,
+                    last: last,
+                    parent: 0,
+                    letter: letter as usize,
+                };
+                add(area, shelf, count, ends, &t)
+            }
+        },
     }
 }
 
@@ -280,8 +275,7 @@ fn singles_of(
     number: NodeNumber,
     count: usize,
 ) -> usize
-    requires { ⌜ Given (now rows) subformulas r shelf nodes (now area) ×
-        ((number .0 < nodes) × ((count ≤ shelf .capacity) × Chained shelf (now area) count)) ⌝ }
+    requires { ⌜ Ready (now rows) subformulas r shelf nodes (now area) (number .0) count ⌝ }
     ensures { λ all. ⌜ Added shelf count (now (area .entry)) all (now (area .exit))
         (ones-of (table-of (now (rows .entry)) subformulas) (nodes-in subformulas (now (area .entry)) nodes) (number .0)
         (node-in subformulas (now (area .entry)) (number .0))) ⌝ }
@@ -340,9 +334,8 @@ pub fn singles(
 
 // Adds profile p followed by profile q of one transition.
 fn longer(area: &mut [u8], shelf: Shelf, p: usize, q: usize, count: usize) -> usize
-    requires { ⌜ Lent shelf (length (now area)) ⌝ }
-    requires { ⌜ (p < count) × ((q < count) × (count ≤ shelf .capacity)) ⌝ }
-    requires { ⌜ Chained shelf (now area) count ⌝ }
+    requires { ⌜ Shelved shelf (now area) count ⌝ }
+    requires { ⌜ (p < count) × (q < count) ⌝ }
     ensures { λ r. ⌜ Added shelf count (now (area .entry)) r (now (area .exit))
         (follow (shelf .n) p (record-of shelf (now (area .entry)) p) (record-of shelf (now (area .entry)) q)) ⌝ }
 {
@@ -388,10 +381,9 @@ fn begin_before(area: &[u8], shelf: Shelf, ones: usize, node: NodeNumber) -> usi
 
 // Adds profile p followed by each of the `ones` profiles of one transition: those that begin where it ends stand together.
 fn extend(area: &mut [u8], shelf: Shelf, p: usize, ones: usize, count: usize) -> usize
-    requires { ⌜ Lent shelf (length (now area)) ⌝ }
-    requires { ⌜ (p < count) × ((ones ≤ count) × (count ≤ shelf .capacity)) ⌝ }
-    requires { ⌜ Chained shelf (now area) count ⌝ }
+    requires { ⌜ Shelved shelf (now area) count ⌝ }
     requires { ⌜ Rising shelf (now area) ones ⌝ }
+    requires { ⌜ (p < count) × (ones ≤ count) ⌝ }
     ensures { λ r. ⌜ Added shelf count (now (area .entry)) r (now (area .exit))
         (longer (shelf .n) (stored shelf (now (area .entry)) ones) p (record-of shelf (now (area .entry)) p)) ⌝ }
 {
@@ -411,9 +403,7 @@ fn extend(area: &mut [u8], shelf: Shelf, p: usize, ones: usize, count: usize) ->
 
 // All profiles, breadth first, from those of one transition; how many, or capacity + 1.
 pub fn profiles(area: &mut [u8], shelf: Shelf, ones: usize) -> usize
-    requires { ⌜ Lent shelf (length (now area)) ⌝ }
-    requires { ⌜ ones ≤ shelf .capacity ⌝ }
-    requires { ⌜ Chained shelf (now area) ones ⌝ }
+    requires { ⌜ Shelved shelf (now area) ones ⌝ }
     requires { ⌜ Rising shelf (now area) ones ⌝ }
     ensures { λ r. ⌜ ((fuel : ℕ) → shelf .capacity < fuel → Grown shelf ones (now (area .entry)) r (now (area .exit))
         (profiles-from fuel (shelf .n) (stored shelf (now (area .entry)) ones))) ⌝ }

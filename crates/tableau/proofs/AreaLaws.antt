@@ -1,21 +1,26 @@
--- Words in a byte area: what is put is what is read (`eight-stored`, `words-stored`), one word more (`put-store`), the search for a word
--- (`find-here`, `find-past`, `find-none`, `found-member`), and adding a word that may be known (`add-known`, `add-new`, `add-full`). A
--- number below 2^64 is the sum of its eight bytes; past eight bytes, the rest of an area is an area. Assumes nothing.
+-- Words in a byte area: what is put is what is read (`eight-stored`, `words-stored`), one word more (`put-store`), and the loop that looks
+-- for a word (`Looking`), with what its answer tells (`found-member`, `absent-member`). A number below 2^64 is the sum of its eight bytes;
+-- past eight bytes, the rest of an area is an area. Assumes nothing.
 use mathlib.Core.Path.{_≡_, refl, sym, ap, _∙_}
-use mathlib.Core.Bool.{Bool, true, false, cond, _||_}
+use mathlib.Core.Bool.{Bool, true, false, cond}
 use mathlib.Core.List.{List, [], _∷_, _++_, append-assoc, List·Memᴰ, List·Memᴰ·head, List·Memᴰ·tail}
 use Prim.Native.Nat.{ℕ, zero, suc, _+_, _-_, _*_, _/_, _%_, _^_, _≤_, _<_}
 use native.Mathlib.Omega.{arith}
+use native.Mathlib.Nat.{sub-zero}
 use native.Mathlib.Numerals.{add-one}
-use lib.Dec.{eqb, ltb, leb·suc-suc}
+use lib.Dec.{eqb, ltb}
 use lib.ListN.{length, getD, set, take, drop, length-append, length-replicate, replicate-append-replicate}
-use lib.Seq.{take-at, drop-drop, take-all, drop-append-add, set-at, drop-cons}
-use borrow.Author.Tests.{lt-ltb, eq-eqb, ne-eqb}
-use Rattle.base.specs.Lists.{member, gather}
+use lib.Seq.{take-at, drop-drop, drop-append-add, set-at, drop-cons}
+use borrow.Author.Tests.{lt-ltb, le-ltb, eq-eqb, ne-eqb}
+use Rattle.base.specs.Lists.{member, gather, index}
 use Rattle.base.specs.Bytes.{with-number}
 use Rattle.base.proofs.AppendLaws.{gather-append}
 use Rattle.base.proofs.BytesLaws.{number-bytes, number-behind}
-use Rattle.tableau.specs.Area.{bytes8, eight, store, words-at, index, zeros, with-one, Added}
+use Rattle.base.proofs.IndexLaws.{index-any}
+use Rattle.tableau.specs.Area.{bytes8, eight, store, words-at, lookup, zeros}
+use Rattle.tableau.specs.declared.NodeNumber.{NodeNumber}
+use Rattle.tableau.specs.declared.Lookup.{Lookup}
+use Rattle.tableau.specs.declared.Lookup.the-variants.{Number, Absent}
 
 abbrev pub Small : List ℕ → Type 0
 Small ws = (x : ℕ) → List·Memᴰ x ws → x < 2 ^ 64
@@ -52,7 +57,7 @@ pub stored-length : (ws : List ℕ) → length (gather bytes8 ws) ≡ 8 * length
 stored-length [] = refl
 stored-length (x ∷ ws) = omega (arith, stored-length ws)
 
-put-store : (ws a : List ℕ) (x : ℕ) → with-number 8 (store ws a) (8 * length ws) x ≡ store (ws ++ (x ∷ [])) a
+pub put-store : (ws a : List ℕ) (x : ℕ) → with-number 8 (store ws a) (8 * length ws) x ≡ store (ws ++ (x ∷ [])) a
 put-store ws a x =
     ap (λ (l : List ℕ). l ++ (bytes8 x ++ drop (8 * length ws + 8) (store ws a)))
     (take-at (gather bytes8 ws) (drop (8 * length ws) a) (8 * length ws) (stored-length ws))
@@ -71,68 +76,66 @@ module _ (a : List ℕ) (known i x : ℕ) where
       ap (words-at a i) {x = known - i} {y = suc (known - (i + 1))} (omega arith)
       ∙ ap (λ (j : ℕ). eight a (8 * i) ∷ words-at a j (known - (i + 1))) (sym (add-one i))
 
-  pub find-here : i < known → eight a (8 * i) ≡ x → index x (words-at a i (known - i)) ≡ 0
-  find-here h e = ap (index x) (words-turn h) ∙ rw (eq-eqb x (eight a (8 * i)) (sym e))
+  find-here : i < known → eight a (8 * i) ≡ x → index (eqb x) (words-at a i (known - i)) ≡ 0
+  find-here h e = ap (index (eqb x)) (words-turn h) ∙ rw (eq-eqb x (eight a (8 * i)) (sym e))
 
-  pub find-past : i < known → (eight a (8 * i) ≡ x → ⊥)
-      → index x (words-at a i (known - i)) ≡ suc (index x (words-at a (i + 1) (known - (i + 1))))
-  find-past h e = ap (index x) (words-turn h) ∙ rw (ne-eqb x (eight a (8 * i)) (λ q. e (sym q)))
+  find-past : i < known → (eight a (8 * i) ≡ x → ⊥)
+      → index (eqb x) (words-at a i (known - i)) ≡ suc (index (eqb x) (words-at a (i + 1) (known - (i + 1))))
+  find-past h e = ap (index (eqb x)) (words-turn h) ∙ rw (ne-eqb x (eight a (8 * i)) (λ q. e (sym q)))
 
-  pub find-none : known ≤ i → index x (words-at a i (known - i)) ≡ 0
-  find-none h = ap (λ (n : ℕ). index x (words-at a i n)) {x = known - i} {y = 0} (omega arith)
+-- after i turns: the word's number is i and its number among the words from i on
+pub record Looking (a : List ℕ) (known x i : ℕ) : Type 0 where
+  pub low : i ≤ known
+  pub sum : index (eqb x) (words-at a 0 known) ≡ i + index (eqb x) (words-at a i (known - i))
 
-words-length : (a : List ℕ) (i n : ℕ) → length (words-at a i n) ≡ n
+pub look-start : (a : List ℕ) (known x : ℕ) → Looking a known x 0
+look-start a known x = record {
+  low = omega arith;
+  sum = omega (arith, ap (λ (n : ℕ). index (eqb x) (words-at a 0 n)) (sub-zero known));
+}
+
+module _ {a : List ℕ} {known x i : ℕ} (l : Looking a known x i) where
+  pub look-next : i < known → (eight a (8 * i) ≡ x → ⊥) → Looking a known x (i + 1)
+  look-next h e = record { low = omega arith; sum = omega (arith, l .sum, find-past a known i x h e) }
+
+  pub look-found : i < known → eight a (8 * i) ≡ x → Number (record { 0 = i }) ≡ lookup known (index (eqb x) (words-at a 0 known))
+  look-found h e =
+      let here : i ≡ index (eqb x) (words-at a 0 known) = omega (arith, l .sum, find-here a known i x h e) in
+      sym (ap (λ (b : Bool). cond b (Number (record { 0 = i })) Absent) (lt-ltb i known h)) ∙ ap (lookup known) here
+
+  pub look-absent : known ≤ i → Absent ≡ lookup known (index (eqb x) (words-at a 0 known))
+  look-absent h =
+      let past : known ≤ index (eqb x) (words-at a 0 known) = omega (arith, l .sum, l .low) in
+      let n = index (eqb x) (words-at a 0 known) in
+      sym (ap (λ (b : Bool). cond b (Number (record { 0 = n })) Absent) (le-ltb n known past))
+
+pub words-length : (a : List ℕ) (i n : ℕ) → length (words-at a i n) ≡ n
 words-length a i zero = refl
 words-length a i (suc n) = ap suc (words-length a (suc i) n)
 
-index-less : (x : ℕ) (ys : List ℕ) → ltb (index x ys) (length ys) ≡ member x ys
-index-less x [] = refl
-index-less x (y ∷ ys) = by (eqb x y) (index-less x ys)
-  where
-    by : (b : Bool) → ltb (index x ys) (length ys) ≡ member x ys → ltb (cond b 0 (suc (index x ys))) (suc (length ys)) ≡ (b || member x ys)
-    by true p = lt-ltb 0 (suc (length ys)) (omega arith)
-    by false p = leb·suc-suc (suc (index x ys)) (length ys) ∙ p
+-- whether a word is among those known, by where it was found
+module _ (a : List ℕ) (known x : ℕ) where
+  abbrev place : ℕ
+  place = index (eqb x) (words-at a 0 known)
 
--- where a word was found tells whether it is among those known
-pub found-member : (a : List ℕ) (known x : ℕ) {found : ℕ} → found ≡ index x (words-at a 0 known)
-    → ltb found known ≡ member x (words-at a 0 known)
-found-member a known x {found} f =
-    ap (ltb found) (sym (words-length a 0 known)) ∙ ap (λ (n : ℕ). ltb n (length (words-at a 0 known))) f
-    ∙ index-less x (words-at a 0 known)
+  by-index : ltb place known ≡ member x (words-at a 0 known)
+  by-index = ap (ltb place) (sym (words-length a 0 known)) ∙ index-any (eqb x) (words-at a 0 known)
 
--- a word more, by whether it is among those known
-module _ {area : List ℕ} {known : ℕ} (x capacity : ℕ) (fits : known ≤ capacity) where
-  module _ (ws a : List ℕ) (k : known ≡ length ws) (small : Small ws) (s : area ≡ store ws a) where
-    words-are : words-at area 0 known ≡ ws
-    words-are = rw (k, s, words-stored ws (drop (8 * length ws) a) small)
+  pub found-member : {r : Lookup} (n : NodeNumber) → r ≡ lookup known place → r ≡ Number n
+      → true ≡ member x (words-at a 0 known)
+  found-member n e q = by (ltb place known) (sym e ∙ q) ∙ by-index
+    where
+      by : (b : Bool) → cond b (Number (record { 0 = place })) Absent ≡ Number n → true ≡ b
+      by true e = refl
+      by false e = let z : _≡_ {A = ℕ} 0 1 = cc in absurd (omega arith)
 
-    known-is : member x (words-at area 0 known) ≡ true → with-one eqb ws x ≡ ws
-    known-is h = rw (ap (member x) (sym words-are) ∙ h)
-
-    new-is : member x (words-at area 0 known) ≡ false → with-one eqb ws x ≡ ws ++ (x ∷ [])
-    new-is h = rw (ap (member x) (sym words-are) ∙ h)
-
-  pub add-known : member x (words-at area 0 known) ≡ true → Added known capacity x area area known
-  add-known h = record {
-    is = λ ws a k small s. rw (known-is ws a k small s h)
-        (k, s ∙ ap (λ (l : List ℕ). store l a) (sym (take-all capacity ws (omega arith))));
-  }
-
-  pub add-new : member x (words-at area 0 known) ≡ false → known < capacity → {area′ : List ℕ} → area′ ≡ with-number 8 area (8 * known) x
-      → Added known capacity x area area′ (known + 1)
-  add-new h l {area′} e = record {
-    is = λ ws a k small s.
-        let n : known + 1 ≡ length (ws ++ (x ∷ [])) = omega (arith, length-append ws (x ∷ [])) in
-        rw (new-is ws a k small s h)
-        (n, e ∙ rw (s, k, put-store ws a x) (ap (λ (l : List ℕ). store l a) (sym (take-all capacity (ws ++ (x ∷ [])) (omega arith)))));
-  }
-
-  pub add-full : member x (words-at area 0 known) ≡ false → capacity ≤ known → Added known capacity x area area (known + 1)
-  add-full h l = record {
-    is = λ ws a k small s.
-        let n : known + 1 ≡ length (ws ++ (x ∷ [])) = omega (arith, length-append ws (x ∷ [])) in
-        rw (new-is ws a k small s h) (n, s ∙ ap (λ (l : List ℕ). store l a) (sym (take-at ws (x ∷ []) capacity (omega arith))));
-  }
+  pub absent-member : {r : Lookup} → r ≡ lookup known place → r ≡ Absent
+      → false ≡ member x (words-at a 0 known)
+  absent-member e q = by (ltb place known) (sym e ∙ q) ∙ by-index
+    where
+      by : (b : Bool) → cond b (Number (record { 0 = place })) Absent ≡ Absent → false ≡ b
+      by true e = let z : _≡_ {A = ℕ} 0 1 = cc in absurd (omega arith)
+      by false e = refl
 
 -- zeros, one more
 zeros-more : (n : ℕ) → zeros n ++ (0 ∷ []) ≡ zeros (n + 1)

@@ -10,8 +10,10 @@ pub mod FringeLaws
 pub mod StepLaws
 pub mod WidestLaws
 pub mod UnmetLaws
-pub mod SearchLoop
 pub mod AreaLaws
+pub mod SizeLaws
+pub mod KeepLaws
+pub mod NodeMatch
 pub mod NodeLoop
 pub mod FormedLaws
 pub mod NodeReads

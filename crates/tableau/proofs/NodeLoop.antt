@@ -1,307 +1,261 @@
--- The nodes in the area: what the loops over choice words and over nodes keep. Equal nodes have equal words, so a node is known in the
--- list exactly if its word is in the area; one node more (`holds-one`) makes all that a choice word, a node and the search find. Once the
--- capacity is passed, what comes later changes nothing (`holds-more`), so a loop may stop there. Assumes nothing.
+-- The loops over choice words and over nodes. One choice word adds the node that its transition leads to, or none (`follow-some`,
+-- `follow-nowhere`); all choice words add what the transitions of a node lead to (`Expanding`); and node after node the search over one
+-- list goes on (`Finding`), which ends with the definition's nodes and their origins (`find-end`, `find-origins`). Past the capacity a loop
+-- may stop (`find-full`). Assumes nothing.
 use mathlib.Core.Path.{_≡_, refl, sym, ap, subst, subst⁻¹, _∙_}
 use mathlib.Core.Logic.{_⊎_, inl, inr}
-use mathlib.Core.Bool.{Bool, true, false, cond, _&&_}
-use mathlib.Core.List.{List, [], _∷_, _++_, map, map-append, map-map, append-nil, List·Memᴰ, List·Memᴰ·head, List·Memᴰ·tail}
+use mathlib.Core.Bool.{false}
+use mathlib.Core.List.{List, [], _∷_, _++_, map, append-nil, List·Memᴰ}
 use mathlib.Core.List.{List·Memᴰ·not-nil, List·Memᴰ·eq-of-singleton, Memᴰ·of-map}
-use Prim.Native.Nat.{ℕ, zero, suc, _+_, _-_, _*_, _^_, _≤_, _<_, min}
+use Prim.Native.Nat.{ℕ, _+_, _-_, _*_, _^_, _≤_, _<_}
 use native.Mathlib.Omega.{arith}
-use lib.Dec.{eqb}
 use lib.Bits.{bitOr}
-use lib.Pow.{pow-mono}
-use lib.ListN.{length, getD, take, drop, length-append, length-map, List·getD-map}
-use lib.Seq.{take-all, take-append-le}
-use Rattle.base.specs.Lists.{numbers, gather, any, member}
+use lib.ListN.{length, length-map}
+use lib.Seq.{take-all}
+use Rattle.base.specs.Lists.{numbers, gather, At}
 use Rattle.base.specs.Bits.{word}
-use Rattle.base.specs.Search.{Edge, Item}
+use Rattle.base.specs.Spread.{adds}
 use Rattle.base.proofs.AppendLaws.{gather-append, gather-map, map-gather, numbers-append, numbers-more}
-use Rattle.base.proofs.Inside.{inside-length}
 use Rattle.base.proofs.MemberLaws.{gather-of}
-use Rattle.base.proofs.WordLaws.{word-lt, word-set, word-none}
+use Rattle.base.proofs.At.{at-lt, at-in, in-at, at-some, at-map}
+use Rattle.base.proofs.SpreadLaws.{adds-append, adds-at, After-turns, turns-start, turns-next, turns-done, turns-begin}
+use Rattle.base.proofs.WordLaws.{word-set, word-none}
 use Rattle.formula.specs.Table.{Operator, Table}
 use Rattle.tableau.specs.Saturation.{Subset, same-subset, nothing, saturate}
-use Rattle.tableau.specs.Transition.{operators-in, within, possible, letter-of, next-of, ors, choice-of, Transition}
-use Rattle.tableau.specs.Transition.{transition-of, by-word, transitions}
-use Rattle.tableau.specs.Nodes.{root, edges, operands, nodes}
+use Rattle.tableau.specs.Transition.{ors, choice-of, Transition, transition-of, by-word, transitions}
+use Rattle.tableau.specs.Nodes.{root, nodes}
+use Rattle.tableau.specs.Origins.{Origins}
 use Rattle.tableau.specs.Promise.{table-of, Formed, Leads-nowhere, Stepped-by}
-use Rattle.tableau.specs.Area.{eight, store, Holds, reachable, Sized, with-one, with-all, leads, outs, Added, Followed, Expanded}
+use Rattle.tableau.specs.Area.{eight, store, Holds, reachable, Reached, worded, root-reached, reached-by, leads, outs}
+use Rattle.tableau.specs.Area.{Reached-sized, Arrives, Keeps, Added, Followed, Expanded}
+use Rattle.tableau.specs.declared.NodeNumber.{NodeNumber}
 use Rattle.tableau.specs.declared.Step.the-variants.{Leads}
-use Rattle.tableau.proofs.SaturationLaws.{add-inside}
-use Rattle.tableau.proofs.TransitionLaws.{transition-with}
-use Rattle.tableau.proofs.NodeLaws.{root-length, nodes-few}
-use Rattle.tableau.proofs.WordSets.{same-word}
+use Rattle.tableau.proofs.TransitionLaws.{transition-with, letter-small, to-length, transitions-by-word}
+use Rattle.tableau.proofs.NodeLaws.{root-length}
 use Rattle.tableau.proofs.LoopLaws.{table-length}
-use Rattle.tableau.proofs.StepLaws.{a-step}
-use Rattle.tableau.proofs.SearchLoop.{with-all-append, all-begins, all-each, Searching, searching-start, searching-turn}
-use Rattle.tableau.proofs.SearchLoop.{searching-end, searching-begins}
-use Rattle.tableau.proofs.AreaLaws.{Small, eight-stored}
+use Rattle.tableau.proofs.StepLaws.{Found, a-step}
+use Rattle.tableau.proofs.SizeLaws.{leads-sized}
+use Rattle.tableau.proofs.KeepLaws.{keeps-more, keeps-all, keeps-holds, known-all, node-word, keeps-one}
+use Rattle.tableau.proofs.NodeMatch.{Matched, onward-from, nodes-match, matched-sets, notes-origins}
 
--- a node is known if its word is
-word-member : (count : ℕ) (l : List Subset) (v : Subset) → Sized count l → length v ≡ count
-    → member (word v) (map word l) ≡ any (same-subset v) l
-word-member count [] v s h = refl
-word-member count (u ∷ l) v s h =
-    rw (same-word v u (h ∙ sym (s u (List·Memᴰ·head refl))), word-member count l v (λ x m. s x (List·Memᴰ·tail m)) h)
+-- the known nodes l with those that the first n choice words lead to from node i
+abbrev pub led : Table → (i : ℕ) → Subset → List Reached → ℕ → List Reached
+led t i v l n = adds same-subset l (gather (leads t i v) (numbers 0 n))
 
-word-one : (count : ℕ) (l : List Subset) (v : Subset) → Sized count l → length v ≡ count
-    → with-one eqb (map word l) (word v) ≡ map word (with-one same-subset l v)
-word-one count l v s h = rw (word-member count l v s h) (by (any (same-subset v) l))
-  where
-    by : (b : Bool) → cond b (map word l) (map word l ++ (word v ∷ [])) ≡ map word (cond b l (l ++ (v ∷ [])))
-    by true = refl
-    by false = sym (map-append word l (v ∷ []))
+-- what is added keeps the sizes
+adds-sized : {count : ℕ} (l ys : List Reached) → Reached-sized count l → Reached-sized count ys
+    → Reached-sized count (adds same-subset l ys)
+adds-sized l ys f g x m =
+    let (i, a) = in-at m in
+    elim (adds-at same-subset l ys a) [ inl b ↦ f x (at-in b) | inr r ↦ g x r ]
 
-pub words-small : {count : ℕ} {l : List Subset} → count ≤ 48 → Sized count l → Small (map word l)
-words-small {count} {l} h s x m =
-    let (v, r, q) = Memᴰ·of-map word l m in
-    omega (arith, q, word-lt v, s v r, ap (λ (n : ℕ). 2 ^ n) (s v r), pow-mono {i = count} {j = 48} h)
-
--- where there is room for all, the area has every node
-module _ {capacity known : ℕ} {a area : List ℕ} {l : List Subset} (holds : Holds capacity known a area l) (fits : known ≤ capacity) where
-  pub all-known : known ≡ length l
-  all-known = omega (arith, holds .known-is)
-
-  pub all-stored : area ≡ store (map word l) a
-  all-stored =
-      holds .area-is ∙ ap (λ (ws : List ℕ). store ws a) (take-all capacity (map word l) (omega (arith, holds .known-is, length-map l word)))
-
-  node-word : (count i : ℕ) → count ≤ 48 → Sized count l → i < known → eight area (8 * i) ≡ word (getD l i [])
-  node-word count i h s k =
-      ap (λ (b : List ℕ). eight b (8 * i)) all-stored
-      ∙ eight-stored (map word l) (drop (8 * length (map word l)) a) i (words-small h s) (omega (arith, all-known, length-map l word))
-      ∙ List·getD-map word l i []
-
-  -- a node more
-  holds-one : {count r : ℕ} {area′ : List ℕ} (v : Subset) → count ≤ 48 → Sized count l → length v ≡ count
-      → Added known capacity (word v) area area′ r
-      → Holds capacity r a area′ (with-one same-subset l v)
-  holds-one {count} {r} {area′} v c s h ad =
-      let z = ad .is (map word l) a (all-known ∙ sym (length-map l word)) (words-small c s) all-stored in
-      record {
-        known-is = few (any (same-subset v) l) (z .0 ∙ ap length (word-one count l v s h) ∙ length-map (with-one same-subset l v) word);
-        area-is = z .1 ∙ ap (λ (ws : List ℕ). store (take capacity ws) a) (word-one count l v s h);
-      }
-    where
-      few : (b : Bool) → r ≡ length (cond b l (l ++ (v ∷ []))) → r ≡ min (length (cond b l (l ++ (v ∷ [])))) (capacity + 1)
-      few true e = omega (arith, holds .known-is)
-      few false e = omega (arith, holds .known-is, length-append l (v ∷ []))
-
--- past the capacity, what comes later changes nothing
-holds-more : {capacity known : ℕ} {a area : List ℕ} {l : List Subset} (more : List Subset) → Holds capacity known a area l
-    → capacity < known
-    → Holds capacity known a area (l ++ more)
-holds-more {capacity} {known} {a} {area} {l} more hs k = record {
-  known-is = omega (arith, hs .known-is, length-append l more);
-  area-is = hs .area-is
-      ∙ ap (λ (ws : List ℕ). store ws a)
-      (sym (ap (take capacity) (map-append word l more) ∙ take-append-le capacity (map word l) (map word more)
-      (omega (arith, hs .known-is, length-map l word))));
-}
-
-holds-all : {capacity known : ℕ} {a area : List ℕ} {l : List Subset} (ys : List Subset) → Holds capacity known a area l → capacity < known
-    → Holds capacity known a area (with-all same-subset l ys)
-holds-all {capacity} {known} {a} {area} {l} ys hs k =
-    let (more, e) = all-begins same-subset l ys in
-    subst⁻¹ (Holds capacity known a area) e (holds-more more hs k)
-
--- what the transition of a choice word leads to has as many subformulas as the table
-leads-sized : (t : Table) (v : Subset) (x : ℕ) → Sized (length t) (leads t v x)
-unfolding possible letter-of
-leads-sized t v x = by (within w s && possible os)
-  where
-    w : Subset
-    w = choice-of t x
-
-    s : Subset
-    s = saturate t w v
-
-    os : List Operator
-    os = operators-in t s
-
-    by : (b : Bool) → Sized (length t) (map (λ (x : Transition). x .to) (cond b (transition-with t w s ∷ []) []))
-    by true = λ u m. ap length (List·Memᴰ·eq-of-singleton m) ∙ sym (inside-length (add-inside (gather next-of os) (nothing t)))
-        ∙ length-map t (λ _. false)
-    by false = λ u m. absurd (List·Memᴰ·not-nil m)
-
--- the known nodes l with those that the first n choice words lead to
-abbrev pub led : Table → Subset → List Subset → ℕ → List Subset
-led t v l n = with-all same-subset l (gather (leads t v) (numbers 0 n))
-
-module _ (t : Table) (v : Subset) (l : List Subset) where
-  led-more : (n : ℕ) → led t v l (n + 1) ≡ with-all same-subset (led t v l n) (leads t v n)
+module _ (t : Table) (i : ℕ) (v : Subset) (l : List Reached) where
+  led-more : (n : ℕ) → led t i v l (n + 1) ≡ adds same-subset (led t i v l n) (leads t i v n)
   led-more n =
-      ap (λ (ks : List ℕ). with-all same-subset l (gather (leads t v) ks)) (numbers-more n)
-      ∙ ap (with-all same-subset l)
-      (gather-append (leads t v) (numbers 0 n) (n ∷ []) ∙ ap (λ (ys : List Subset). gather (leads t v) (numbers 0 n) ++ ys)
-      (append-nil (leads t v n)))
-      ∙ with-all-append same-subset l (gather (leads t v) (numbers 0 n)) (leads t v n)
+      ap (λ (ks : List ℕ). adds same-subset l (gather (leads t i v) ks)) (numbers-more n)
+      ∙ ap (adds same-subset l)
+      (gather-append (leads t i v) (numbers 0 n) (n ∷ []) ∙ ap (λ (ys : List Reached). gather (leads t i v) (numbers 0 n) ++ ys)
+      (append-nil (leads t i v n)))
+      ∙ adds-append same-subset l (gather (leads t i v) (numbers 0 n)) (leads t i v n)
 
-  led-sized : (n : ℕ) → Sized (length t) l → Sized (length t) (led t v l n)
+  led-sized : (n : ℕ) → Reached-sized (length t) l → Reached-sized (length t) (led t i v l n)
   led-sized n s =
-      all-each same-subset (λ (u : Subset). length u ≡ length t) l (gather (leads t v) (numbers 0 n)) s
-      (λ u m. let (x, r, q) = gather-of (leads t v) (numbers 0 n) m in leads-sized t v x u q)
+      adds-sized l (gather (leads t i v) (numbers 0 n)) s
+      (λ u m. let (x, r, q) = gather-of (leads t i v) (numbers 0 n) m in leads-sized t i v x u q)
 
   -- all choice words make all transitions
-  led-all : led t v l (2 ^ ors t) ≡ with-all same-subset l (outs t v)
-  unfolding transitions
+  led-all : led t i v l (2 ^ ors t) ≡ adds same-subset l (outs t i v)
   led-all =
-      ap (with-all same-subset l)
-      (sym (ap (map (λ (s : Transition). s .to))
-      (gather-map (λ w. transition-of t w (saturate t w v)) (choice-of t) (numbers 0 (2 ^ ors t)))
-      ∙ map-gather (λ (s : Transition). s .to) (λ (x : ℕ). by-word t x v) (numbers 0 (2 ^ ors t))))
+      ap (adds same-subset l)
+      (sym (ap (map (reached-by i)) (transitions-by-word t v)
+      ∙ map-gather (reached-by i) (λ (x : ℕ). by-word t x v) (numbers 0 (2 ^ ors t))))
 
-  led-full : {capacity known : ℕ} {a area : List ℕ} (n m : ℕ) → n ≤ m → Holds capacity known a area (led t v l n) → capacity < known
-      → Holds capacity known a area (led t v l m)
-  led-full {capacity} {known} {a} {area} n m h hs k =
-      subst⁻¹ (Holds capacity known a area)
-      (ap (led t v l) {x = m} {y = n + (m - n)} (omega arith)
-      ∙ ap (λ (ks : List ℕ). with-all same-subset l (gather (leads t v) ks)) (numbers-append 0 n (m - n))
-      ∙ ap (with-all same-subset l) (gather-append (leads t v) (numbers 0 n) (numbers (0 + n) (m - n)))
-      ∙ with-all-append same-subset l (gather (leads t v) (numbers 0 n)) (gather (leads t v) (numbers (0 + n) (m - n))))
-      (holds-all (gather (leads t v) (numbers (0 + n) (m - n))) hs k)
+  led-full : {capacity known : ℕ} {a area o : List ℕ} (n m : ℕ) → n ≤ m → Keeps capacity known a area o (map worded (led t i v l n))
+      → capacity < known
+      → Keeps capacity known a area o (map worded (led t i v l m))
+  led-full {capacity} {known} {a} {area} {o} n m h k full =
+      subst⁻¹ (λ (r : List Reached). Keeps capacity known a area o (map worded r))
+      (ap (led t i v l) {x = m} {y = n + (m - n)} (omega arith)
+      ∙ ap (λ (ks : List ℕ). adds same-subset l (gather (leads t i v) ks)) (numbers-append 0 n (m - n))
+      ∙ ap (adds same-subset l) (gather-append (leads t i v) (numbers 0 n) (numbers (0 + n) (m - n)))
+      ∙ adds-append same-subset l (gather (leads t i v) (numbers 0 n)) (gather (leads t i v) (numbers (0 + n) (m - n))))
+      (keeps-all (led t i v l n) k (gather (leads t i v) (numbers (0 + n) (m - n))) full)
 
-to-table : (rows : List ℕ) {count : ℕ} {l : List Subset} → Sized count l → Sized (length (table-of rows count)) l
+to-table : (rows : List ℕ) {count : ℕ} {l : List Reached} → Reached-sized count l → Reached-sized (length (table-of rows count)) l
 to-table rows {count} s u m = s u m ∙ sym (table-length rows count)
 
-of-table : (rows : List ℕ) (count : ℕ) {l : List Subset} → Sized (length (table-of rows count)) l → Sized count l
+of-table : (rows : List ℕ) (count : ℕ) {l : List Reached} → Reached-sized (length (table-of rows count)) l → Reached-sized count l
 of-table rows count s u m = s u m ∙ table-length rows count
 
 -- a choice word followed: to nothing where it has no transition
-pub follow-nowhere : {rows : List ℕ} {count from x known capacity : ℕ} {area : List ℕ} → Leads-nowhere rows count from x
-    → Followed rows count from x known capacity area area known
-follow-nowhere {known = known} {capacity} {area} n = record {
-  is = λ l v a hs sz e len.
-      subst⁻¹ (λ (xs : List Transition). Holds capacity known a area (with-all same-subset l (map (λ (y : Transition). y .to) xs)))
-      (n .is v len e) hs;
+pub follow-nowhere : {rows : List ℕ} {count from x known capacity : ℕ} {area o : List ℕ} (i : ℕ) → Leads-nowhere rows count from x
+    → Followed rows count i from x known capacity area o area o known
+follow-nowhere {known = known} {capacity} {area} {o} i n = record {
+  is = λ l v a k sz e len.
+      subst⁻¹ (λ (xs : List Transition). Keeps capacity known a area o (map worded (adds same-subset l (map (reached-by i) xs))))
+      (n .is v len e) k;
 }
 
-pub follow-some : {rows : List ℕ} {count from x known capacity to p r : ℕ} {area area′ : List ℕ} → Formed rows count → known ≤ capacity
-    → Stepped-by rows count x from (Leads to p) → Added known capacity to area area′ r
-    → Followed rows count from x known capacity area area′ r
-follow-some {rows} {count} {from} {x} {known} {capacity} {r = r} {area} {area′} f h st ad =
-    record { is = λ l v a hs sz e len. go l v a hs sz e len }
+-- what an arrival says of the node that a transition leads to
+arrives : (i : ℕ) {to p : ℕ} (t : Table) (w s : Subset) → Found t w s to p → (number : NodeNumber) → number .0 ≡ i
+    → Arrives (record { set = to; from = number; letter = p }) (worded (reached-by i (transition-with t w s)))
+arrives i t w s f number e = record {
+  set-is = sym (f .to-is);
+  from-is = omega (arith, e);
+  letter-is = sym (f .letter-is);
+  letter-small = omega (arith, f .letter-is, letter-small t w s);
+}
+
+pub follow-some : {rows : List ℕ} {count from x known capacity to p r : ℕ} {area o area′ o′ : List ℕ} (number : NodeNumber)
+    → Formed rows count → known ≤ capacity → Stepped-by rows count x from (Leads to p)
+    → Added known capacity (record { set = to; from = number; letter = p }) area o area′ o′ r
+    → Followed rows count (number .0) from x known capacity area o area′ o′ r
+follow-some {rows} {count} {from} {x} {known} {capacity} {r = r} {area} {o} {area′} {o′} number f h st ad =
+    record { is = λ l v a k sz e len. go l v a k sz e len }
   where
-    go : (l : List Subset) (v : Subset) (a : List ℕ) → Holds capacity known a area l → Sized count l → from ≡ word v → length v ≡ count
-        → Holds capacity r a area′ (with-all same-subset l (leads (table-of rows count) v x))
-    go l v a hs sz e len =
+    i : ℕ
+    i = number .0
+
+    go : (l : List Reached) (v : Subset) (a : List ℕ) → Keeps capacity known a area o (map worded l) → Reached-sized count l
+        → from ≡ word v → length v ≡ count
+        → Keeps capacity r a area′ o′ (map worded (adds same-subset l (leads (table-of rows count) i v x)))
+    go l v a k sz e len =
         let t = table-of rows count in
         let w = choice-of t x in
         let z = a-step t w (saturate t w v) (st .is v len e) in
-        let y = transition-with t w (saturate t w v) .to in
-        let k : leads t v x ≡ y ∷ [] = ap (map (λ (y : Transition). y .to)) (z .exists) in
-        let long : length y ≡ count = of-table rows count (leads-sized t v x) y (subst⁻¹ (List·Memᴰ y) k (List·Memᴰ·head refl)) in
-        subst⁻¹ (λ (ys : List Subset). Holds capacity r a area′ (with-all same-subset l ys)) k
-        (holds-one hs h y (f .few) sz long (subst (λ (n : ℕ). Added known capacity n area area′ r) (z .to-is) ad))
+        let y = reached-by i (transition-with t w (saturate t w v)) in
+        let one : leads t i v x ≡ y ∷ [] = ap (map (reached-by i)) (z .exists) in
+        let long : length (y .at) ≡ count = to-length t w (saturate t w v) ∙ table-length rows count in
+        subst⁻¹ (λ (ys : List Reached). Keeps capacity r a area′ o′ (map worded (adds same-subset l ys))) one
+        (keeps-one l k h y (f .few) sz long (arrives i t w (saturate t w v) z number refl) ad)
 
--- the loop over the choice words: the nodes that the first x of them lead to are in the area
-pub record Expanding (rows : List ℕ) (count from known capacity : ℕ) (area₀ : List ℕ) (all x : ℕ) (area : List ℕ) : Type 0 where
-  pub is : (l : List Subset) (v : Subset) (a : List ℕ) → Holds capacity known a area₀ l → Sized count l → from ≡ word v → length v ≡ count
-      → Holds capacity all a area (led (table-of rows count) v l x)
+-- the loop over the choice words: the nodes that the first x of them lead to from node i are in the area
+pub record Expanding (rows : List ℕ) (count i from known capacity : ℕ) (area₀ o₀ : List ℕ) (all x : ℕ) (area o : List ℕ) : Type 0 where
+  pub is : (l : List Reached) (v : Subset) (a : List ℕ) → Keeps capacity known a area₀ o₀ (map worded l) → Reached-sized count l
+      → from ≡ word v → length v ≡ count
+      → Keeps capacity all a area o (map worded (led (table-of rows count) i v l x))
 
-pub expand-start : (rows : List ℕ) (count from known capacity : ℕ) (area : List ℕ) → Expanding rows count from known capacity area known
-    0 area
-expand-start rows count from known capacity area = record { is = λ l v a h s e n. h }
+pub expand-start : (rows : List ℕ) (count i from known capacity : ℕ) (area o : List ℕ)
+    → Expanding rows count i from known capacity area o known 0 area o
+expand-start rows count i from known capacity area o = record { is = λ l v a k s e n. k }
 
-pub at-sized : (count : ℕ) (l : List Subset) (i : ℕ) → Sized count l → i < length l → length (getD l i []) ≡ count
-at-sized count [] i s h = absurd (omega arith)
-at-sized count (u ∷ l) zero s h = s u (List·Memᴰ·head refl)
-at-sized count (u ∷ l) (suc i) s h = at-sized count l i (λ x m. s x (List·Memᴰ·tail m)) (omega arith)
-
-module _ {rows : List ℕ} {count from known capacity all x : ℕ} {area₀ area : List ℕ}
-    (ex : Expanding rows count from known capacity area₀ all x area) where
-  pub expand-turn : {r : ℕ} {area′ : List ℕ} → Followed rows count from x all capacity area area′ r
-      → Expanding rows count from known capacity area₀ r (x + 1) area′
-  expand-turn {r} {area′} fo = record {
-    is = λ l v a hs sz e len.
+module _ {rows : List ℕ} {count i from known capacity all x : ℕ} {area₀ o₀ area o : List ℕ}
+    (ex : Expanding rows count i from known capacity area₀ o₀ all x area o) where
+  pub expand-turn : {r : ℕ} {area′ o′ : List ℕ} → Followed rows count i from x all capacity area o area′ o′ r
+      → Expanding rows count i from known capacity area₀ o₀ r (x + 1) area′ o′
+  expand-turn {r} {area′} {o′} fo = record {
+    is = λ l v a k sz e len.
         let t = table-of rows count in
-        subst⁻¹ (Holds capacity r a area′) (led-more t v l x)
-        (fo .is (led t v l x) v a (ex .is l v a hs sz e len) (of-table rows count (led-sized t v l x (to-table rows sz))) e len);
+        subst⁻¹ (λ (m : List Reached). Keeps capacity r a area′ o′ (map worded m)) (led-more t i v l x)
+        (fo .is (led t i v l x) v a (ex .is l v a k sz e len) (of-table rows count (led-sized t i v l x (to-table rows sz))) e len);
   }
 
   -- all choice words, or the capacity is passed
-  pub expand-end : {i n : ℕ} → Formed rows count → known ≤ capacity → i < known → from ≡ eight area₀ (8 * i) → n ≡ ors (table-of rows count)
-      → x ≤ 2 ^ n → (capacity < all) ⊎ (2 ^ n ≤ x) → Expanded rows count i known capacity area₀ area all
-  expand-end {i} {n} f h j e o k q = record { is = λ l a hs sz. go l a hs sz q }
+  pub expand-end : {n : ℕ} → Formed rows count → known ≤ capacity → from ≡ eight area₀ (8 * i) → n ≡ ors (table-of rows count)
+      → x ≤ 2 ^ n → (capacity < all) ⊎ (2 ^ n ≤ x) → Expanded rows count i known capacity area₀ o₀ area o all
+  expand-end {n} f h e q k d = record { is = λ l m a b keeps sz. go l m a b keeps sz d }
     where
-      go : (l : List Subset) (a : List ℕ) → Holds capacity known a area₀ l → Sized count l → (capacity < all) ⊎ (2 ^ n ≤ x)
-          → Holds capacity all a area (with-all same-subset l (outs (table-of rows count) (getD l i [])))
-      go l a hs sz q =
+      go : (l : List Reached) (m : Reached) (a : List ℕ) → At l i m → Keeps capacity known a area₀ o₀ (map worded l) → Reached-sized count l
+          → (capacity < all) ⊎ (2 ^ n ≤ x)
+          → Keeps capacity all a area o (map worded (adds same-subset l (outs (table-of rows count) i (m .at))))
+      go l m a b keeps sz d =
           let t = table-of rows count in
-          let v = getD l i [] in
-          let p : 2 ^ n ≡ 2 ^ ors t = ap (λ (m : ℕ). 2 ^ m) o in
-          let now : Holds capacity all a area (led t v l x) =
-          ex .is l v a hs sz (e ∙ node-word hs h count i (f .few) sz j) (at-sized count l i sz (omega (arith, all-known hs h))) in
-          subst (Holds capacity all a area) (led-all t v l)
-          (elim q [
-            | inl g ↦ led-full t v l x (2 ^ ors t) (omega arith) now g
-            | inr g ↦ subst (λ (m : ℕ). Holds capacity all a area (led t v l m)) {x = x} {y = 2 ^ ors t} (omega arith) now
+          let v = m .at in
+          let p : 2 ^ n ≡ 2 ^ ors t = ap (λ (j : ℕ). 2 ^ j) q in
+          let now : Keeps capacity all a area o (map worded (led t i v l x)) =
+          ex .is l v a keeps sz (e ∙ node-word l keeps h (f .few) sz b) (sz m (at-in b)) in
+          subst (λ (r : List Reached). Keeps capacity all a area o (map worded r)) (led-all t i v l)
+          (elim d [
+            | inl g ↦ led-full t i v l x (2 ^ ors t) (omega arith) now g
+            | inr g ↦
+                subst (λ (j : ℕ). Keeps capacity all a area o (map worded (led t i v l j))) {x = x} {y = 2 ^ ors t} (omega arith) now
           ])
 
 -- the loop over the nodes: the search after i turns is in the area
-abbrev starts : Table → List (Item Transition Subset)
-starts t = record { way = []; at = root t } ∷ []
-
-abbrev limit : Table → ℕ
-limit t = 2 + 2 ^ length (operands t)
-
-pub record Finding (rows : List ℕ) (count capacity known i : ℕ) (a area : List ℕ) : Type 0 where
-  pub known-nodes : List Subset
-  pub searching : Searching same-subset (edges (table-of rows count)) (limit (table-of rows count)) (starts (table-of rows count)) i
-      known-nodes
-  pub sized : Sized (length (table-of rows count)) known-nodes
-  pub holds : Holds capacity known a area known-nodes
+pub record Finding (rows : List ℕ) (count capacity known i : ℕ) (a area o : List ℕ) : Type 0 where
+  pub found : List Reached
+  pub turns : After-turns same-subset (onward-from (table-of rows count)) (root-reached (table-of rows count) ∷ []) i found
+  pub sized : Reached-sized (length (table-of rows count)) found
+  pub others : (j : ℕ) (x : Reached) → At found j x → 0 < j → 0 < x .parent
+  pub keeps : Keeps capacity known a area o (map worded found)
 
 root-word : (t : Table) → 0 < length t → word (root t) ≡ 1
 root-word t h = word-set (nothing t) 0 (omega (arith, length-map t (λ (o : Operator). false))) ∙ ap (λ (x : ℕ). bitOr x 1) (word-none t)
 
-pub find-start : {rows : List ℕ} {count capacity known : ℕ} {a area : List ℕ} → Formed rows count → Added 0 capacity 1 a area known
-    → Finding rows count capacity known 0 a area
-find-start {rows} {count} {capacity} {known} {a} f ad =
+-- an area without nodes
+keeps-none : (capacity : ℕ) (a o : List ℕ) → Keeps capacity 0 a a o []
+keeps-none capacity a o = record {
+  known-is = omega arith;
+  area-is = ap (λ (ns : List ℕ). store ns a) (sym (take-all capacity [] (omega arith)));
+  notes = λ j x b l. absurd (let h = at-lt b in omega arith);
+}
+
+pub find-start : {rows : List ℕ} {count capacity known : ℕ} {a o₀ area o : List ℕ} (number : NodeNumber) → Formed rows count
+    → number .0 ≡ 0 → Added 0 capacity (record { set = 1; from = number; letter = 0 }) a o₀ area o known
+    → Finding rows count capacity known 0 a area o
+find-start {rows} {count} {capacity} {known} {a} {o₀} number f e ad =
     let t = table-of rows count in
-    let z = ad .is [] a refl (λ y m. absurd (List·Memᴰ·not-nil m)) refl in
+    let is-root : Arrives (record { set = 1; from = number; letter = 0 }) (worded (root-reached t)) = record {
+      set-is = root-word t (omega (arith, table-length rows count, f .some));
+      from-is = sym e;
+      letter-is = refl;
+      letter-small = omega arith;
+    } in
     record {
-      known-nodes = root t ∷ [];
-      searching = searching-start same-subset (edges t) (limit t) (starts t);
-      sized = λ u m. ap length (List·Memᴰ·eq-of-singleton m) ∙ root-length t;
-      holds = record {
-        known-is = omega (arith, z .0);
-        area-is = z .1 ∙ ap (λ (x : ℕ). store (take capacity (x ∷ [])) a)
-            (sym (root-word t (omega (arith, table-length rows count, f .some))));
-      };
+      found = root-reached t ∷ [];
+      turns = turns-start same-subset (onward-from t) (root-reached t ∷ []);
+      sized = λ x m. ap (λ (y : Reached). length (y .at)) (List·Memᴰ·eq-of-singleton m) ∙ root-length t;
+      others = λ j x b h. absurd (let l = at-lt b in omega arith);
+      keeps = ad .is [] (worded (root-reached t)) a is-root (keeps-none capacity a o₀) (λ y m. absurd (List·Memᴰ·not-nil m));
     }
 
-module _ {rows : List ℕ} {count capacity known i : ℕ} {a area : List ℕ} (f : Finding rows count capacity known i a area) where
-  pub find-turn : {r : ℕ} {area′ : List ℕ} → i < known → Expanded rows count i known capacity area area′ r
-      → Finding rows count capacity r (i + 1) a area′
-  unfolding nodes
-  find-turn {r} {area′} h ex =
-      let t = table-of rows count in
-      let l = f .known-nodes in
-      let v = getD l i [] in
-      let same : map (λ (e : Edge Transition Subset). e .to) (edges t v) ≡ outs t v =
-      map-map (λ (e : Edge Transition Subset). e .to) _ (transitions t v) in
+module _ {rows : List ℕ} {count capacity known i : ℕ} {a area o : List ℕ} (f : Finding rows count capacity known i a area o) where
+  abbrev t : Table
+  t = table-of rows count
+
+  pub find-turn : {r : ℕ} {area′ o′ : List ℕ} → i < known → Expanded rows count i known capacity area o area′ o′ r
+      → Finding rows count capacity r (i + 1) a area′ o′
+  find-turn {r} {area′} {o′} h ex =
+      let l = f .found in
+      let (n, b) = at-some l i (omega (arith, f .keeps .known-is, length-map l worded)) in
       record {
-        known-nodes = with-all same-subset l (outs t v);
-        searching = subst (λ (ys : List Subset). Searching same-subset (edges t) (limit t) (starts t) (i + 1)
-            (with-all same-subset l ys)) same
-            (searching-turn same-subset (edges t) (limit t) (starts t) (f .searching) [] (omega (arith, nodes-few t))
-            (omega (arith, f .holds .known-is)));
-        sized = subst (Sized (length t)) (led-all t v l) (led-sized t v l (2 ^ ors t) (f .sized));
-        holds = ex .is l a (f .holds) (of-table rows count (f .sized));
+        found = adds same-subset l (outs t i (n .at));
+        turns = turns-next same-subset (onward-from t) (f .turns) b;
+        sized = subst (Reached-sized (length t)) (led-all t i (n .at) l) (led-sized t i (n .at) l (2 ^ ors t) (f .sized));
+        others = λ j x c m. elim (adds-at same-subset l (outs t i (n .at)) c) [ inl d ↦ f .others j x d m | inr d ↦ onward-parent n d ];
+        keeps = ex .is l n a b (f .keeps) (of-table rows count (f .sized));
       }
+    where
+      onward-parent : (n : Reached) {x : Reached} → List·Memᴰ x (outs t i (n .at)) → 0 < x .parent
+      onward-parent n d =
+          let (s, m, e) = Memᴰ·of-map (reached-by i) (transitions t (n .at)) d in
+          omega (arith, ap (λ (y : Reached). y .parent) e)
 
-  pub find-end : known ≤ i → i ≤ capacity → Holds capacity known a area (reachable (table-of rows count))
-  unfolding nodes
-  find-end h k =
-      let t = table-of rows count in
-      subst⁻¹ (Holds capacity known a area)
-      (searching-end same-subset (edges t) (limit t) (starts t) (f .searching) (omega (arith, f .holds .known-is))) (f .holds)
+  -- a fuel that no loop outlasts, and that is enough for all nodes
+  abbrev enough : ℕ
+  enough = i + length (nodes t)
 
-  pub find-full : capacity < known → Holds capacity known a area (reachable (table-of rows count))
-  unfolding nodes
+  pub find-full : capacity < known → Holds capacity known a area (reachable t)
   find-full h =
-      let t = table-of rows count in
-      let (more, e) = searching-begins same-subset (edges t) (limit t) (starts t) (f .searching) in
-      subst⁻¹ (Holds capacity known a area) e (holds-more more (f .holds) h)
+      let (more, e) = turns-begin same-subset (onward-from t) (f .turns) enough (omega arith) in
+      let m = subst (λ (l : List Reached). Matched l (nodes t)) e (nodes-match t enough (omega arith)) in
+      subst (Holds capacity known a area) (matched-sets t m) (keeps-holds (f .found ++ more) (keeps-more (f .found) (f .keeps) more h))
+
+  -- no node is left to go on from
+  module _ (over : known ≤ i) (low : i ≤ capacity) where
+    found-all : Matched (f .found) (nodes t)
+    found-all =
+        let none-left : length (f .found) ≤ i = omega (arith, known-all (f .found) (f .keeps) (omega arith)) in
+        subst (λ (l : List Reached). Matched l (nodes t))
+        (turns-done same-subset (onward-from t) (f .turns) enough (omega arith) none-left)
+        (nodes-match t enough (omega arith))
+
+    pub find-end : Holds capacity known a area (reachable t)
+    find-end = subst (Holds capacity known a area) (matched-sets t found-all) (keeps-holds (f .found) (f .keeps))
+
+    pub find-origins : Origins t o known
+    find-origins =
+        let all : known ≡ length (f .found) = known-all (f .found) (f .keeps) (omega arith) in
+        subst⁻¹ (Origins t o) all
+        (notes-origins t found-all (f .others)
+        (λ j x b. f .keeps .notes j (worded x) (at-map worded b) (omega (arith, at-lt b))))

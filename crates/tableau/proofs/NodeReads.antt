@@ -1,24 +1,26 @@
 -- What a caller reads of the nodes in the area, once all of them have found room: the words at the area's beginning are the nodes' words in
 -- order (`nodes-kept`), so node i is read as its word (`kept-at`), as long as only later bytes are changed (`kept-same`). Assumes nothing.
 use mathlib.Core.Path.{_≡_, refl, sym, ap, _∙_}
-use mathlib.Core.List.{List, [], map, Memᴰ·of-map}
+use mathlib.Core.List.{List, [], map, List·Memᴰ, Memᴰ·of-map}
 use Prim.Native.Nat.{ℕ, zero, suc, _+_, _*_, _≤_, _<_}
 use native.Mathlib.Nat.{zero-add}
 use native.Mathlib.Omega.{arith}
 use lib.ListN.{length, getD, drop, length-map, List·getD-map}
+use lib.Seq.{take-all}
 use Rattle.base.specs.Bits.{word}
 use Rattle.base.specs.Search.{Item}
+use Rattle.base.proofs.At.{at-lt, at-get, in-at}
 use Rattle.formula.specs.Table.{Table}
 use Rattle.base.proofs.BytesLaws.{number-same}
 use Rattle.tableau.specs.Saturation.{Subset}
 use Rattle.tableau.specs.Transition.{Transition}
 use Rattle.tableau.specs.Nodes.{nodes}
 use Rattle.tableau.specs.Promise.{table-of, Formed}
-use Rattle.tableau.specs.Area.{eight, words-at, Holds, reachable, Sized}
+use Rattle.tableau.specs.Area.{eight, store, words-at, Holds, reachable, Sized}
 use Rattle.tableau.proofs.NodeLaws.{nodes-along, reachable-length}
 use Rattle.tableau.proofs.LoopLaws.{table-length}
-use Rattle.tableau.proofs.AreaLaws.{words-stored}
-use Rattle.tableau.proofs.NodeLoop.{words-small, all-stored}
+use Rattle.tableau.proofs.AreaLaws.{words-length, words-stored}
+use Rattle.tableau.proofs.SizeLaws.{words-small}
 
 -- a node has a Bool for each subformula
 pub reachable-sized : (t : Table) → Sized (length t) (reachable t)
@@ -30,13 +32,21 @@ reachable-sized t u m =
 pub record Kept (l : List Subset) (area : List ℕ) : Type 0 where
   pub words : words-at area 0 (length l) ≡ map word l
 
+-- where there is room for all, the area has every node
+holds-stored : {capacity known : ℕ} {a area : List ℕ} {l : List Subset} → Holds capacity known a area l → known ≤ capacity
+    → area ≡ store (map word l) a
+holds-stored {capacity} {a = a} {l = l} hs fits =
+    hs .area-is
+    ∙ ap (λ (ws : List ℕ). store ws a) (take-all capacity (map word l) (omega (arith, hs .known-is, length-map l word)))
+
 pub nodes-kept : {rows : List ℕ} {count capacity known : ℕ} {a area : List ℕ} → Formed rows count
     → Holds capacity known a area (reachable (table-of rows count)) → known ≤ capacity → Kept (reachable (table-of rows count)) area
 nodes-kept {rows} {count} {a = a} f hs fits =
     let l = reachable (table-of rows count) in
     let sized : Sized count l = λ u m. reachable-sized (table-of rows count) u m ∙ table-length rows count in
+    let stored = holds-stored hs fits in
     record {
-      words = rw (all-stored hs fits, ← length-map l word)
+      words = rw (stored, ← length-map l word)
           (words-stored (map word l) (drop (8 * length (map word l)) a) (words-small (f .few) sized));
     }
 
@@ -45,6 +55,13 @@ words-at-get a j zero i h = absurd (omega arith)
 words-at-get a j (suc n) zero h = ap (λ (k : ℕ). eight a (8 * k)) {x = j} {y = j + 0} (omega arith)
 words-at-get a j (suc n) (suc i) h =
     words-at-get a (suc j) n i (omega arith) ∙ ap (λ (k : ℕ). eight a (8 * k)) {x = suc j + i} {y = j + suc i} (omega arith)
+
+-- a word of the area is that of one of its nodes
+pub word-of-node : (a : List ℕ) (n : ℕ) {w : ℕ} → List·Memᴰ w (words-at a 0 n) → (j : ℕ) × (j < n) × (eight a (8 * j) ≡ w)
+word-of-node a n m =
+    let (j, s) = in-at m in
+    let low : j < n = omega (arith, at-lt s, words-length a 0 n) in
+    (j, low, ap (λ (k : ℕ). eight a (8 * k)) (sym (zero-add j)) ∙ sym (words-at-get a 0 n j low) ∙ at-get s 0)
 
 pub eight-same : (a b : List ℕ) (at : ℕ) → ((k : ℕ) → k < at + 8 → getD b k 0 ≡ getD a k 0) → eight b at ≡ eight a at
 eight-same a b at f = number-same 8 b a at at (λ i h. f (at + i) (omega arith))

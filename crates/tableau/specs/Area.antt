@@ -1,20 +1,25 @@
 -- Nodes in a byte area, as the code keeps them: eight bytes for each word, the lowest first, from the first byte on. A reader of the
 -- decision's contract need not read it. Assumes nothing.
 use mathlib.Core.Path.{_≡_}
-use mathlib.Core.Bool.{Bool, cond}
+use mathlib.Core.Bool.{cond}
 use mathlib.Core.List.{List, [], _∷_, _++_, map, List·Memᴰ}
-use Prim.Native.Nat.{ℕ, zero, suc, _+_, _*_, _%_, _^_, _≤_, _<_, min}
-use lib.Dec.{eqb}
-use lib.ListN.{length, getD, take, drop, replicate}
-use Rattle.base.specs.Lists.{gather, any}
+use Prim.Native.Nat.{ℕ, zero, suc, _+_, _-_, _*_, _%_, _^_, _≤_, _<_, min}
+use lib.Dec.{eqb, ltb}
+use lib.ListN.{length, getD, take, drop, set, replicate}
+use Rattle.base.specs.Lists.{gather, At}
 use Rattle.base.specs.Bits.{word}
 use Rattle.base.specs.Bytes.{number-at, bytes-of}
 use Rattle.base.specs.Search.{Item}
+use Rattle.base.specs.Spread.{Numbered, add, adds}
 use Rattle.formula.specs.Table.{Table}
 use Rattle.tableau.specs.Saturation.{Subset, same-subset}
 use Rattle.tableau.specs.Transition.{Transition, by-word, transitions}
-use Rattle.tableau.specs.Nodes.{nodes}
+use Rattle.tableau.specs.Nodes.{root, nodes}
+use Rattle.tableau.specs.Origins.{parent-at, letter-at}
 use Rattle.tableau.specs.Promise.{table-of}
+use Rattle.tableau.specs.declared.Arrival.{Arrival}
+use Rattle.tableau.specs.declared.Lookup.{Lookup}
+use Rattle.tableau.specs.declared.Lookup.the-variants.{Number, Absent}
 
 -- the eight bytes of a number
 abbrev pub bytes8 : ℕ → List ℕ
@@ -33,10 +38,9 @@ abbrev pub words-at : List ℕ → (i n : ℕ) → List ℕ
 words-at a i zero = []
 words-at a i (suc n) = eight a (8 * i) ∷ words-at a (suc i) n
 
--- the place of a number in a list, or the list's length
-abbrev pub index : ℕ → List ℕ → ℕ
-index x [] = 0
-index x (y ∷ ys) = cond (eqb x y) 0 (suc (index x ys))
+-- what the code answers for a number among the first known: that number, or that there is none
+abbrev pub lookup : (known i : ℕ) → Lookup
+lookup known i = cond (ltb i known) (Number (record { 0 = i })) Absent
 
 -- that many bytes 0
 abbrev pub zeros : ℕ → List ℕ
@@ -62,16 +66,6 @@ reachable t = map (λ (x : Item Transition Subset). x .at) (nodes t)
 abbrev pub Sized : ℕ → List Subset → Type 0
 Sized count l = (u : Subset) → List·Memᴰ u l → length u ≡ count
 
-module _ {K : Type 0} (same : K → K → Bool) where
-  -- a list with one element more at its end, unless it has it
-  abbrev pub with-one : List K → K → List K
-  with-one known y = cond (any (same y) known) known (known ++ (y ∷ []))
-
-  -- the same for each element of a second list
-  abbrev pub with-all : List K → List K → List K
-  with-all known [] = known
-  with-all known (y ∷ ys) = with-all (with-one known y) ys
-
 -- the slot of a word
 abbrev pub slot-of : ℕ → ℕ
 slot-of x = x % 2029
@@ -81,25 +75,75 @@ pub record Marked (known : ℕ) (area slots : List ℕ) : Type 0 where
   pub long : 2048 ≤ length slots
   pub is : (i : ℕ) → i < known → 0 < getD slots (slot-of (eight area (8 * i))) 0
 
--- the nodes that the transition of a choice word leads to: one or none
-abbrev pub leads : Table → Subset → ℕ → List Subset
-leads t v x = map (λ (s : Transition). s .to) (by-word t x v)
+-- a node as the search keeps it: its set, 1 + the number of the node that it was reached from, 0 for the root, and the letter between
+abbrev pub Reached : Type 0
+Reached = Numbered ℕ Subset
 
--- those that all transitions of a node lead to
-abbrev pub outs : Table → Subset → List Subset
-outs t v = map (λ (s : Transition). s .to) (transitions t v)
+-- the same, where the set is a word
+abbrev pub Reached-word : Type 0
+Reached-word = Numbered ℕ ℕ
 
--- The word x is one of the area's: the words were ws, known of them, and become r.
-pub record Added (known capacity x : ℕ) (area area′ : List ℕ) (r : ℕ) : Type 0 where
-  pub is : (ws a : List ℕ) → known ≡ length ws → ((y : ℕ) → List·Memᴰ y ws → y < 2 ^ 64) → area ≡ store ws a
-      → (r ≡ length (with-one eqb ws x)) × (area′ ≡ store (take capacity (with-one eqb ws x)) a)
+-- a node with its set as a word
+abbrev pub worded : Reached → Reached-word
+worded x = record { at = word (x .at); parent = x .parent; label = x .label }
 
--- The nodes l of the area become those with what a choice word leads to.
-pub record Followed (rows : List ℕ) (count from x known capacity : ℕ) (area area′ : List ℕ) (r : ℕ) : Type 0 where
-  pub is : (l : List Subset) (v : Subset) (a : List ℕ) → Holds capacity known a area l → Sized count l → from ≡ word v → length v ≡ count
-      → Holds capacity r a area′ (with-all same-subset l (leads (table-of rows count) v x))
+-- the root, which nothing comes before
+abbrev pub root-reached : Table → Reached
+root-reached t = record { at = root t; parent = 0; label = 0 }
 
--- The nodes l of the area become those with what the transitions of node i lead to.
-pub record Expanded (rows : List ℕ) (count i known capacity : ℕ) (area area′ : List ℕ) (r : ℕ) : Type 0 where
-  pub is : (l : List Subset) (a : List ℕ) → Holds capacity known a area l → Sized count l
-      → Holds capacity r a area′ (with-all same-subset l (outs (table-of rows count) (getD l i [])))
+-- what a transition of node i leads to
+abbrev pub reached-by : (i : ℕ) → Transition → Reached
+reached-by i s = record { at = s .to; parent = suc i; label = s .letter }
+
+-- the nodes that the transition of a choice word leads to from node i, the set v: one or none
+abbrev pub leads : Table → (i : ℕ) → Subset → (choice-word : ℕ) → List Reached
+leads t i v x = map (reached-by i) (by-word t x v)
+
+-- those that all its transitions lead to
+abbrev pub outs : Table → (i : ℕ) → Subset → List Reached
+outs t i v = map (reached-by i) (transitions t v)
+
+-- nodes of that many subformulas
+abbrev pub Reached-sized : ℕ → List Reached → Type 0
+Reached-sized count l = (x : Reached) → List·Memᴰ x l → length (x .at) ≡ count
+
+-- The node x is as the arrival says; its letter has 16 bits.
+pub record Arrives (s : Arrival) (x : Reached-word) : Type 0 where
+  pub set-is : x .at ≡ s .set
+  pub from-is : x .parent - 1 ≡ s .from .0
+  pub letter-is : x .label ≡ s .letter
+  pub letter-small : s .letter < 65536
+
+-- the notes with that of node j
+abbrev pub with-note : List ℕ → (j parent letter : ℕ) → List ℕ
+with-note o j p l = set (set o (2 * j) p) (2 * j + 1) l
+
+-- The note of node j is that of x.
+pub record Noted (o : List ℕ) (j : ℕ) (x : Reached-word) : Type 0 where
+  pub parent-is : parent-at o j ≡ x .parent - 1
+  pub letter-is : letter-at o j ≡ x .label
+
+-- The area was a and holds the nodes ws as far as there is capacity, and the notes o are theirs; known is how many nodes there are, or
+-- capacity + 1 where there are more.
+pub record Keeps (capacity known : ℕ) (a area o : List ℕ) (ws : List Reached-word) : Type 0 where
+  pub known-is : known ≡ min (length ws) (capacity + 1)
+  pub area-is : area ≡ store (take capacity (map (λ (x : Reached-word). x .at) ws)) a
+  pub notes : (j : ℕ) (x : Reached-word) → At ws j x → j < capacity → Noted o j x
+
+-- The node of an arrival is one of the area's: the nodes were ws, known of them, and it comes to their end unless it is there.
+pub record Added (known capacity : ℕ) (s : Arrival) (area o area′ o′ : List ℕ) (r : ℕ) : Type 0 where
+  pub is : (ws : List Reached-word) (x : Reached-word) (a : List ℕ) → Arrives s x → Keeps capacity known a area o ws
+      → ((y : Reached-word) → List·Memᴰ y ws → y .at < 2 ^ 64)
+      → Keeps capacity r a area′ o′ (add eqb ws x)
+
+-- The nodes l of the area become those with what a choice word leads to from node i.
+pub record Followed (rows : List ℕ) (count i from x known capacity : ℕ) (area o area′ o′ : List ℕ) (r : ℕ) : Type 0 where
+  pub is : (l : List Reached) (v : Subset) (a : List ℕ) → Keeps capacity known a area o (map worded l) → Reached-sized count l
+      → from ≡ word v → length v ≡ count
+      → Keeps capacity r a area′ o′ (map worded (adds same-subset l (leads (table-of rows count) i v x)))
+
+-- The nodes l of the area become those with what the transitions of node i, which is n, lead to.
+pub record Expanded (rows : List ℕ) (count i known capacity : ℕ) (area o area′ o′ : List ℕ) (r : ℕ) : Type 0 where
+  pub is : (l : List Reached) (n : Reached) (a : List ℕ) → At l i n → Keeps capacity known a area o (map worded l)
+      → Reached-sized count l
+      → Keeps capacity r a area′ o′ (map worded (adds same-subset l (outs (table-of rows count) i (n .at))))

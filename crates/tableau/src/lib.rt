@@ -3,21 +3,36 @@ use formula::Operator;
 use formula::Subformula;
 ghost use mathlib.Core.Path.{_≡_};
 ghost use mathlib.Core.List.{_++_};
-ghost use Prim.Native.Nat.{_+_, _*_, _≤_, _<_};
+ghost use Prim.Native.Nat.{_+_, _*_, _%_, _≤_, _<_};
+ghost use lib.Dec.{eqb};
 ghost use lib.ListN.{length, drop};
 ghost use Rattle.base.specs.Bits.{bit, word};
-ghost use Rattle.base.specs.Lists.{member};
+ghost use Rattle.base.specs.Lists.{member, index};
 ghost use Rattle.formula.specs.Rows.{operator-at};
 ghost use Rattle.formula.specs.Access.{Placed};
 ghost use Rattle.tableau.specs.Saturation.{moves};
 ghost use Rattle.tableau.specs.Transition.{ors, choice-of};
 ghost use Rattle.tableau.specs.Promise.{table-of, Formed, with-bits, Saturated, Requires-more, Required-by, Stepped};
 ghost use Rattle.tableau.specs.Promise.{Stepped-by, Widest, Unmet-between, is-unmet, Unmet};
-ghost use Rattle.tableau.specs.Area.{eight, words-at, index, zeros, Room, Holds, reachable, slot-of, Marked, Added};
-ghost use Rattle.tableau.specs.Area.{Followed, Expanded};
+ghost use Rattle.tableau.specs.Area.{eight, words-at, lookup, zeros, Room, Holds, reachable, slot-of, Marked, with-note};
+ghost use Rattle.tableau.specs.Area.{Added, Followed, Expanded};
+ghost use Rattle.tableau.specs.Origins.{Origins};
 
 // The number of a node, kept apart from subformulas and positions.
 pub struct NodeNumber(pub usize);
+
+// Where a set stands among the nodes.
+pub enum Lookup {
+    Number(NodeNumber),
+    Absent,
+}
+
+// A node that a transition leads to: its set, the number of the node that it leads from, and its letter.
+pub struct Arrival {
+    pub set: u64,
+    pub from: NodeNumber,
+    pub letter: u64,
+}
 
 // What a saturated set requires: the signals present and absent, whether it holds false, and the operands of its nexts.
 struct Requirement {
@@ -291,19 +306,19 @@ pub fn node(area: &[u8], number: NodeNumber) -> u64
     base::number_at(area, 8 * i, 8)
 }
 
-// The number of a node among the first `known`, or `known`.
-pub fn find(area: &[u8], known: usize, set: u64) -> NodeNumber
+// Where a set stands among the first `known` nodes.
+pub fn find(area: &[u8], known: usize, set: u64) -> Lookup
     requires { ⌜ (known ≤ 1024) × (8 * known ≤ length (now area)) ⌝ }
-    ensures { λ r. ⌜ r .0 ≡ index set (words-at (now (area .entry)) 0 known) ⌝ }
+    ensures { λ r. ⌜ r ≡ lookup known (index (eqb set) (words-at (now (area .entry)) 0 known)) ⌝ }
 {
     let mut i = 0;
     while i < known {
         if node(area, NodeNumber(i)) == set {
-            return NodeNumber(i);
+            return Lookup::Number(NodeNumber(i));
         }
         i += 1;
     }
-    NodeNumber(known)
+    Lookup::Absent
 }
 
 // The slot of a set; every bit of the set counts in the remainder by a prime. The mark that a slot has is 1 + the number of the last known
@@ -336,18 +351,39 @@ fn is_known(area: &[u8], slots: &[u16; 2048], known: usize, set: u64) -> bool
             return true;
         }
     }
-    let found = find(area, known, set);
-    found.0 < known
+    match find(area, known, set) {
+        Lookup::Number(_) => true,
+        Lookup::Absent => false,
+    }
 }
 
-// How many nodes are known once `set` is one of them; capacity + 1 where there is no room for it.
-fn add(area: &mut [u8], slots: &mut [u16; 2048], known: usize, capacity: usize, set: u64) -> usize
+// Notes where the search came to a node from. A letter has 16 bits.
+fn note(origins: &mut [u16], number: NodeNumber, from: NodeNumber, letter: u64)
+    requires { ⌜ (number .0 < 1024) × ((from .0 < 1024) × (2 * number .0 + 2 ≤ length (now origins))) ⌝ }
+    ensures { λ _. ⌜ now (origins .exit) ≡ with-note (now (origins .entry)) (number .0) (from .0) (letter % 65536) ⌝ }
+{
+    let j = number.0;
+    origins[2 * j] = from.0 as u16;
+    origins[2 * j + 1] = (letter % 65536) as u16;
+}
+
+// How many nodes are known once that of an arrival is one of them; capacity + 1 where there is no room for it.
+fn add(
+    area: &mut [u8],
+    slots: &mut [u16; 2048],
+    origins: &mut [u16],
+    known: usize,
+    capacity: usize,
+    new: Arrival,
+) -> usize
     requires { ⌜ Room known capacity (length (now area)) ⌝ }
     requires { ⌜ Marked known (now area) (now slots) ⌝ }
-    ensures { λ r. ⌜ Added known capacity set (now (area .entry)) (now (area .exit)) r ⌝ }
+    requires { ⌜ (new .from .0 < 1024) × (2 * capacity ≤ length (now origins)) ⌝ }
+    ensures { λ r. ⌜ Added known capacity new (now (area .entry)) (now (origins .entry)) (now (area .exit)) (now (origins .exit)) r ⌝ }
     ensures { λ r. ⌜ (known ≤ r) × (r ≤ capacity + 1) ⌝ }
     ensures { λ r. ⌜ (r ≤ capacity → Marked r (now (area .exit)) (now (slots .exit))) ⌝ }
 {
+    let set = new.set;
     if is_known(area, slots, known, set) {
         return known;
     }
@@ -355,17 +391,21 @@ fn add(area: &mut [u8], slots: &mut [u16; 2048], known: usize, capacity: usize, 
         base::put_number(area, 8 * known, 8, set);
         let k = slot(set);
         slots[k] = (known + 1) as u16;
+        let from = new.from;
+        note(origins, NodeNumber(known), from, new.letter);
         return known + 1;
     }
     known + 1
 }
 
-// Adds the node that the transition of a choice word leads to.
+// Adds the node that the transition of a choice word leads to from a node, with its number.
 fn follow(
     rows: &[u8; 144],
     count: usize,
     area: &mut [u8],
     slots: &mut [u16; 2048],
+    origins: &mut [u16],
+    number: NodeNumber,
     from: u64,
     unmet: &[u64; 24],
     choice_word: u64,
@@ -376,13 +416,22 @@ fn follow(
     requires { ⌜ Room known capacity (length (now area)) ⌝ }
     requires { ⌜ Marked known (now area) (now slots) ⌝ }
     requires { ⌜ Unmet (now rows) count from (now unmet) ⌝ }
-    ensures { λ r. ⌜ Followed (now (rows .entry)) count from «choice_word» known capacity (now (area .entry)) (now (area .exit)) r ⌝ }
+    requires { ⌜ (number .0 < 1024) × (2 * capacity ≤ length (now origins)) ⌝ }
+    ensures { λ r. ⌜ Followed (now (rows .entry)) count (number .0) from «choice_word» known capacity (now (area .entry))
+        (now (origins .entry)) (now (area .exit)) (now (origins .exit)) r ⌝ }
     ensures { λ r. ⌜ (known ≤ r) × (r ≤ capacity + 1) ⌝ }
     ensures { λ r. ⌜ (r ≤ capacity → Marked r (now (area .exit)) (now (slots .exit))) ⌝ }
 {
     match by_word(rows, count, unmet, choice_word, from) {
         Step::Nothing => known,
-        Step::Leads { to, letter: _ } => add(area, slots, known, capacity, to),
+        Step::Leads { to, letter } => {
+            let new = Arrival {
+                set: to,
+                from: number,
+                letter: letter,
+            };
+            add(area, slots, origins, known, capacity, new)
+        }
     }
 }
 
@@ -392,6 +441,7 @@ fn expand(
     count: usize,
     area: &mut [u8],
     slots: &mut [u16; 2048],
+    origins: &mut [u16],
     number: NodeNumber,
     known: usize,
     capacity: usize,
@@ -400,7 +450,9 @@ fn expand(
     requires { ⌜ number .0 < known ⌝ }
     requires { ⌜ Room known capacity (length (now area)) ⌝ }
     requires { ⌜ Marked known (now area) (now slots) ⌝ }
-    ensures { λ r. ⌜ Expanded (now (rows .entry)) count (number .0) known capacity (now (area .entry)) (now (area .exit)) r ⌝ }
+    requires { ⌜ 2 * capacity ≤ length (now origins) ⌝ }
+    ensures { λ r. ⌜ Expanded (now (rows .entry)) count (number .0) known capacity (now (area .entry)) (now (origins .entry))
+        (now (area .exit)) (now (origins .exit)) r ⌝ }
     ensures { λ r. ⌜ (known ≤ r) × (r ≤ capacity + 1) ⌝ }
     ensures { λ r. ⌜ (r ≤ capacity → Marked r (now (area .exit)) (now (slots .exit))) ⌝ }
 {
@@ -413,20 +465,45 @@ fn expand(
         if capacity < all {
             return all;
         }
-        all = follow(rows, count, area, slots, from, &unmet, word, all, capacity);
+        all = follow(
+            rows,
+            count,
+            area,
+            slots,
+            origins,
+            number,
+            from,
+            &unmet,
+            word,
+            all,
+            capacity,
+        );
         word += 1;
     }
     all
 }
 
-// Writes the reachable nodes, the root first, breadth first; how many, or capacity + 1.
-pub fn nodes(rows: &[u8; 144], count: usize, area: &mut [u8], capacity: usize) -> usize
+// Writes the reachable nodes, the root first, breadth first, and notes where each was found from; how many, or capacity + 1.
+pub fn nodes(
+    rows: &[u8; 144],
+    count: usize,
+    area: &mut [u8],
+    capacity: usize,
+    origins: &mut [u16],
+) -> usize
     requires { ⌜ Formed (now rows) count ⌝ }
     requires { ⌜ Room 1 capacity (length (now area)) ⌝ }
+    requires { ⌜ 2 * capacity ≤ length (now origins) ⌝ }
     ensures { λ r. ⌜ Holds capacity r (now (area .entry)) (now (area .exit)) (reachable (table-of (now (rows .entry)) count)) ⌝ }
+    ensures { λ r. ⌜ (r ≤ capacity → Origins (table-of (now (rows .entry)) count) (now (origins .exit)) r) ⌝ }
 {
     let mut slots = [0u16; 2048];
-    let mut known = add(area, &mut slots, 0, capacity, 1);
+    let root = Arrival {
+        set: 1,
+        from: NodeNumber(0),
+        letter: 0,
+    };
+    let mut known = add(area, &mut slots, origins, 0, capacity, root);
     let mut i = 0;
     while i < known {
         if capacity < known {
@@ -437,6 +514,7 @@ pub fn nodes(rows: &[u8; 144], count: usize, area: &mut [u8], capacity: usize) -
             count,
             area,
             &mut slots,
+            origins,
             NodeNumber(i),
             known,
             capacity,

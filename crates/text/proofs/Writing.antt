@@ -76,8 +76,8 @@ pub record Passed (members i : ℕ) (text : List ℕ) (s t : Buffer) : Type 0 wh
 pub none-passed : {members : ℕ} {s : Buffer} → Passed members 0 [] s s
 none-passed = record { inside = omega arith; same-length = refl; wrote = nothing }
 
-pub one-passed : {members i : ℕ} {text more : List ℕ} {s t u : Buffer} → i < members → Passed members i text s t → length (u .bytes) ≡ length
-    (t .bytes) → Wrote s more u → Passed members (i + 1) more s u
+pub one-passed : {members i : ℕ} {text more : List ℕ} {s t u : Buffer} → i < members → Passed members i text s t
+    → length (u .bytes) ≡ length (t .bytes) → Wrote s more u → Passed members (i + 1) more s u
 one-passed h p e w = record { inside = omega arith; same-length = e ∙ p .same-length; wrote = w }
 
 -- the place behind a text

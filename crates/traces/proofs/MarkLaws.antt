@@ -96,7 +96,7 @@ marked n b q m v h = at (decLt m n)
     at (yes l) =
         ap (set (marks-of n b) m)
         (weighs-same (bit v) (λ x. bit-of (getD (marks-of n b) m []) x || bit-of (weighs q) x)
-        (λ x k. let had = mark-bit n b m x l k in let new = bit-weighs q x k in h x k ∙ sym (λ i. had i || new i)))
+        (λ x k. h x k ∙ sym (λ i. mark-bit n b m x l k i || bit-weighs q x k i)))
     at (no l) =
         set-out (marks-of n b) m (weighs (bit v)) (omega (arith, marks-length n b))
         ∙ sym
@@ -147,7 +147,8 @@ module _ {o : Operator} {x : code.Operator} (read : o ≡ decoded x) (p : Bool) 
         plain (cond c (right .0) (left .0) ∷ []) (is ∙ ap (λ (d : Bool). Pair d left right) i)
         (ap (λ (d : Bool). cond d (right .0) (left .0) ∷ []) q) refl g
 
-    pub pass-and : either ≡ false → (m : List ℕ) → Marked (left .0 ∷ []) (getD b e 0) b m → Marked (right .0 ∷ []) (getD b e 0) m r → Passed o p e k b r
+    pub pass-and : either ≡ false → (m : List ℕ) → Marked (left .0 ∷ []) (getD b e 0) b m → Marked (right .0 ∷ []) (getD b e 0) m r
+        → Passed o p e k b r
     pass-and i m f g =
         plain (left .0 ∷ right .0 ∷ []) (is ∙ ap (λ (d : Bool). Pair d left right) i) refl refl
         (λ n h. g n h ∙ ap (λ (v : Marks). mark (right .0 ∷ []) (weighs (bit (getD b e 0))) v) (f n h))

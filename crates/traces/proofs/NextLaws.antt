@@ -90,17 +90,18 @@ module _ (rows : List ℕ) (count choice node e : ℕ) (t : List ℕ) (limited :
         weighs (bit (getD u (next-rank rows i * 12 + next-rank rows d) 0))
         ≡ cond (has v (suc i)) (getD (reached (table-of rows count) w (suc i)) d []) blank
 
-    -- the row of e, and those before
-    filled : (u : List ℕ) → ((v w : Subset) → node ≡ word v → choice ≡ word w → (d : ℕ) → d < count → next-at rows d ≡ true → Cell v w e d u)
-        → ((v w : Subset) → node ≡ word v → choice ≡ word w → (i d : ℕ) → i < e → next-at rows i ≡ true → d < count → next-at rows d ≡ true
-        → Cell v w i d u)
-        → Empty (next-rank rows (e + 1)) u → State u
-    filled u now past empty = record { done = λ v w nv cw i d l oi k od. at v w nv cw i d oi k od l (ℕ-discrete i e); empty = empty }
+    -- the row of e
+    abbrev Cells : List ℕ → Type 0
+    Cells u = (v w : Subset) → node ≡ word v → choice ≡ word w → (d : ℕ) → d < count → next-at rows d ≡ true → Cell v w e d u
+
+    -- with those before
+    filled : (u : List ℕ) → Cells u → Done rows count choice node e u → Empty (next-rank rows (e + 1)) u → State u
+    filled u now past empty = record { done = λ v w nv cw i d l oi k od. at v w nv cw i d l oi k od (ℕ-discrete i e); empty = empty }
       where
-        at : (v w : Subset) → node ≡ word v → choice ≡ word w → (i d : ℕ) → next-at rows i ≡ true → d < count → next-at rows d ≡ true → i < e + 1
-            → Dec (i ≡ e) → Cell v w i d u
-        at v w nv cw i d oi k od l (yes p) = subst⁻¹ (λ (j : ℕ). Cell v w j d u) p (now v w nv cw d k od)
-        at v w nv cw i d oi k od l (no p) = past v w nv cw i d (omega arith) oi k od
+        at : (v w : Subset) → node ≡ word v → choice ≡ word w → (i d : ℕ) → i < e + 1 → next-at rows i ≡ true → d < count
+            → next-at rows d ≡ true → Dec (i ≡ e) → Cell v w i d u
+        at v w nv cw i d l oi k od (yes p) = subst⁻¹ (λ (j : ℕ). Cell v w j d u) p (now v w nv cw d k od)
+        at v w nv cw i d l oi k od (no p) = past v w nv cw i d (omega arith) oi k od
 
     pub skip-absent : bit node (e + 1) ≡ false → State t
     skip-absent b =
@@ -110,7 +111,7 @@ module _ (rows : List ℕ) (count choice node e : ℕ) (t : List ℕ) (limited :
         (state .empty (next-rank rows e * 12 + next-rank rows d) (omega arith)
         (omega (arith, next-small limited d k od, next-small limited e h o)))
         ∙ sym (ap (λ (c : Bool). cond c (getD (reached (table-of rows count) w (suc e)) d []) blank) (held v nv false b)))
-        (λ v w nv cw i d l oi k od. state .done v w nv cw i d l oi k od)
+        (state .done)
         (λ i l k. state .empty i (omega (arith, next-after rows e o)) k)
 
     pub put-row : (marks r : List ℕ) (f : ℕ) → f ≡ next-rank rows e → bit node (e + 1) ≡ true → Reached rows count choice (e + 1) marks
@@ -125,7 +126,8 @@ module _ (rows : List ℕ) (count choice node e : ℕ) (t : List ℕ) (limited :
         ∙ sym (ap (λ (c : Bool). cond c (getD (reached (table-of rows count) w (suc e)) d []) blank) (held v nv true b)))
         (λ v w nv cw i d l oi k od.
         let less = before-less (next-at rows) i e l oi in
-        ap (λ (x : ℕ). weighs (bit x)) (row .others (next-rank rows i * 12 + next-rank rows d) .0 (omega (arith, next-small limited d k od)))
+        let small = next-small limited d k od in
+        ap (λ (x : ℕ). weighs (bit x)) (row .others (next-rank rows i * 12 + next-rank rows d) .0 (omega arith))
         ∙ state .done v w nv cw i d l oi k od)
         (λ i l k. row .others i .1 (omega (arith, next-after rows e o)) ∙ state .empty i (omega (arith, next-after rows e o)) k)
 

@@ -88,13 +88,11 @@ fn passing(rows: &[u8; 144], fix: &[u8; 48], choice: u64, s: Subformula, marks: 
             if !either {
                 mark(marks, left, w);
                 mark(marks, right, w);
-                return;
-            }
-            if base::has(choice, e) {
+            } else if base::has(choice, e) {
                 mark(marks, right, w);
-                return;
+            } else {
+                mark(marks, left, w);
             }
-            mark(marks, left, w);
         }
         Operator::Next(_) => {}
         Operator::Fixpoint { body, .. } => {

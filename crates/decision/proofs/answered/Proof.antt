@@ -1,12 +1,27 @@
--- `decision::answered` finds the first accepting profile; where there is none, the answer is NOT.
-use native.Mathlib.Omega.{arith}
+-- `decision::answered` finds the first accepting profile by the mask of the least fixpoints, whose test is the definition's. Its witness is
+-- the answer; where there is none, the answer is NOT.
+use Prim.Native.Nat.{ℕ}
+use mathlib.Core.Path.{_≡_, sym, ap, _∙_}
 use borrow.Author.Needs.{needs}
 use Rattle.base.specs.Bits.{bit}
 use Rattle.tableau.specs.Promise.{table-of}
+use Rattle.coded.specs.Runs.{accepting}
 use Rattle.runs.specs.Stored.{record-of}
-use Rattle.decision.proofs.ConcludeLaws.{accepts-same, first-same, none-answers}
+use Rattle.decision.specs.Searched.{number-in, accepts}
+use Rattle.decision.proofs.AcceptingLaws.{accepts-same}
+use Rattle.decision.proofs.ConcludeLaws.{witness-ready, witness-answers, none-answers}
 use Rattle.decision.proofs.answered.Statement.{statement}
 use Rattle.decision.proofs.answered.Tie as tie
+
+-- the code's test is the definition's
+same : (c : tie.After-accepting) (i : ℕ) → let u = c .before .before .before .before .before .args in
+    accepts (bit (c .before .least-mask .result)) (u .shelf .n) (record-of (u .shelf) (u .area .now) i)
+    ≡ accepting (table-of (u .rows .now) (u .count)) (record-of (u .shelf) (u .area .now) i)
+same c i =
+    let u = c .before .before .before .before .before in
+    let a = u .args in
+    accepts-same (table-of (a .rows .now) (a .count)) (a .shelf .n) (bit (c .before .least-mask .result))
+    (record-of (a .shelf) (a .area .now) i) (u .pre .0 .operands-are) (c .before .least-mask .ensures)
 
 least-mask-requires : tie.Need-least-mask-requires
 least-mask-requires c κs = search needs
@@ -14,37 +29,35 @@ least-mask-requires c κs = search needs
 accepting-requires : tie.Need-accepting-requires
 accepting-requires c κs = search needs
 
-witnessed-requires : tie.Need-witnessed-requires
-witnessed-requires c κs =
-    let least-mask = c .before .before .before .least-mask in
-    let accepting = c .before .before .accepting in
-    let u = c .before .before .before .before .before .before in (
-      u .pre .0,
-      (
-        (
-          c .before .if1 .taken,
-          (first-same (λ i. accepts-same (table-of (u .args .rows .now) (u .args .count)) (u .args .shelf .n)
-              (bit (least-mask .result)) (record-of (u .args .shelf) (u .args .area .now) i) (u .pre .0 .operands-are)
-              (least-mask .ensures)) (accepting .ensures)),
-        ),
-        u .pre .1 .1,
-      ),
-    )
+enum-told : tie.Need-enum-told
+enum-told c = search needs
+
+enum-known-p : tie.Need-enum-known-p
+enum-known-p c = search needs
+
+write-requires : tie.Need-write-requires
+write-requires c κs =
+    let tried = c .before .before .before .before in
+    let u = tried .before .before .before .before .before in
+    witness-ready (u .pre .0) (same tried) (sym (tried .accepting .ensures) ∙ ap number-in (c .before .before .p .given .1)) (u .pre .1 .1)
+
+returns : tie.Need-returns
+returns c =
+    let tried = c .before .before in
+    let u = tried .before .before .before .before .before in
+    none-answers (u .pre .0) (same tried) (sym (tried .accepting .ensures) ∙ ap number-in (c .enum-told .given .1))
+    (u .args .letters .now)
 
 same-length : tie.Need-same-length
 same-length c = search needs
 
-returns : tie.Need-returns
-returns c = search needs
-
 returns-2 : tie.Need-returns-2
 returns-2 c =
-    let least-mask = c .before .before .least-mask in
-    let u = c .before .before .before .before .before in
-    none-answers (u .pre .0) (u .args .letters .now) (omega (arith, c .if1 .left))
-    (first-same (λ i. accepts-same (table-of (u .args .rows .now) (u .args .count)) (u .args .shelf .n)
-    (bit (least-mask .result)) (record-of (u .args .shelf) (u .args .area .now) i) (u .pre .0 .operands-are)
-    (least-mask .ensures)) (c .before .accepting .ensures))
+    let tried = c .before .before .before .before .before .before .before in
+    let u = tried .before .before .before .before .before in
+    let found = c .before .before .before .before .before .p in
+    witness-answers (u .pre .0) (same tried) (sym (tried .accepting .ensures) ∙ ap number-in (found .given .1))
+    (c .before .before .write .ensures)
 
 pub answered-spec : {M : Type 1} → statement M
 answered-spec =
@@ -52,7 +65,9 @@ answered-spec =
     (tie.spec
     least-mask-requires
     accepting-requires
-    witnessed-requires
-    same-length
+    enum-told
+    enum-known-p
+    write-requires
     returns
+    same-length
     returns-2)

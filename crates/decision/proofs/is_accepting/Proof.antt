@@ -5,7 +5,7 @@ use Rattle.base.specs.Bits.{bit}
 use Rattle.coded.specs.Triples.{Triples, rejecting}
 use Rattle.runs.specs.Stored.{record-of}
 use Rattle.runs.proofs.RecordLaws.{carried-at}
-use Rattle.decision.proofs.ConcludeLaws.{accepts-open, accepts-closed}
+use Rattle.decision.proofs.AcceptingLaws.{accepts-open, accepts-closed}
 use Rattle.decision.proofs.is_accepting.Statement.{statement}
 use Rattle.decision.proofs.is_accepting.Tie as tie
 

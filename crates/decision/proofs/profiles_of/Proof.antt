@@ -30,15 +30,13 @@ profiles-requires c κs =
     let s = c .before .before .before .before .before .before .before .before in
     let g = singles .ensures in
     let room = c .before .if1 .left in (
-      subst⁻¹ (Lent (s .args .shelf)) (g .elsewhere .same-length) (s .pre .lent),
-      (
-        room,
-        (
-          g .chained room,
-          ones-rising (table-of (s .args .rows .now) (s .args .count))
-              (nodes-in (s .args .count) (s .args .area .now) (s .args .nodes)) g room,
-        ),
-      ),
+      record {
+        lent = subst⁻¹ (Lent (s .args .shelf)) (g .elsewhere .same-length) (s .pre .lent);
+        room = room;
+        chained = g .chained room;
+      },
+      ones-rising (table-of (s .args .rows .now) (s .args .count))
+          (nodes-in (s .args .count) (s .args .area .now) (s .args .nodes)) g room,
     )
 
 same-length-2 : tie.Need-same-length-2

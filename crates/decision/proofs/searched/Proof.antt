@@ -1,13 +1,17 @@
 -- `decision::searched` builds the nodes and, if there is room for them, the profiles behind them. Where there is room for these too, they
--- are all that the answer is made from.
-use Prim.Native.Nat.{_*_}
+-- and the notes of the nodes are all that the answer is made from.
+use Prim.Native.Nat.{ℕ, _*_}
 use mathlib.Core.Path.{refl}
+use mathlib.Core.List.{List}
 use lib.ListN.{length}
 use native.Mathlib.Omega.{arith}
 use borrow.Author.Needs.{needs}
 use Rattle.decision.proofs.SearchedLaws.{nodes-14, Behind, given, profiles-15, all-profiled, buffer-room, answer-on}
 use Rattle.decision.proofs.searched.Statement.{statement}
 use Rattle.decision.proofs.searched.Tie as tie
+
+slice-aggregate-nodes : tie.Need-slice-aggregate-nodes
+slice-aggregate-nodes c = search needs
 
 nodes-requires : tie.Need-nodes-requires
 nodes-requires c κs = search needs
@@ -17,32 +21,41 @@ same-length c = search needs
 
 returns : tie.Need-returns
 returns c =
-    let nodes = c .before .before .before .nodes in
-    let u = c .before .before .before .before .before .before .before in
-    nodes-14 (u .pre .0) (u .pre .1) (nodes .ensures) (c .if1 .taken) (u .args .letters .now)
+    let nodes = c .before .before .before .before in
+    let u = nodes .before .before .before .before .before in
+    nodes-14 (u .pre .0) (u .pre .1) (nodes .nodes .ensures .0) (c .if1 .taken) (u .args .letters .now)
 
 ranked-requires : tie.Need-ranked-requires
 ranked-requires c κs = search needs
 
-mul-t15 : tie.Need-mul-t15
-mul-t15 c = search needs
+mul-t18 : tie.Need-mul-t18
+mul-t18 c = search needs
+
+-- what the search of nodes leaves in the workspace, and its notes
+abbrev area-of : tie.After-nodes → List ℕ
+area-of c = c .nodes .last .1 .1 .0
+
+abbrev notes-of : tie.After-nodes → List ℕ
+notes-of c = c .nodes .last .1 .1 .1 .1 .0
 
 -- the nodes have room, and the shelf stands behind them
-behind : (c : tie.After-ranked) → let u = c .before .before .before .before .before .before .before .before in
+behind : (c : tie.After-ranked) →
+    let nodes = c .before .before .before .before .before in
+    let u = nodes .before .before .before .before .before in
     Behind (u .args .rows .now) (u .args .count) (u .args .node-capacity) (u .args .profile-capacity) (length (u .args .letters .now))
-    (u .args .area .now)
-    (c .before .before .before .before .nodes .last .1 .1 .0) (c .before .before .before .before .nodes .result) (c .ranked .result)
+    (u .args .area .now) (area-of nodes) (notes-of nodes) (nodes .nodes .result) (c .ranked .result)
     (record { base = 8 * u .args .node-capacity; capacity = u .args .profile-capacity; n = c .ranked .result .nexts })
 behind c =
-    let nodes = c .before .before .before .before .nodes in
-    let u = c .before .before .before .before .before .before .before .before in
+    let nodes = c .before .before .before .before .before in
+    let u = nodes .before .before .before .before .before in
     record {
       decoded = u .pre .0;
       lends = u .pre .1;
-      holds = nodes .ensures;
+      holds = nodes .nodes .ensures .0;
       fits = omega (arith, c .before .if1 .left);
-      ranks =
-          c .ranked .ensures;
+      notes-are = nodes .nodes .ensures .1 (omega (arith, c .before .if1 .left));
+      notes-room = omega (arith, u .pre .1 .capacity .few-nodes);
+      ranks = c .ranked .ensures;
       base-is = refl;
       capacity-is = refl;
       nexts-are = refl;
@@ -56,19 +69,21 @@ same-length-2 c = search needs
 
 returns-2 : tie.Need-returns-2
 returns-2 c =
-    let before = c .before .before .before .before .before in
-    let profiles-of = c .before .before .before .profiles-of in
-    let start = c .before .before .before .before .before .before .before .before .before .before .before .before .before in
-    profiles-15 (behind (before)) (profiles-of .ensures) (c .if2 .taken) (start .args .letters .now)
+    let profiles-of = c .before .before .before in
+    let ranked = profiles-of .before .before in
+    let start = ranked .before .before .before .before .before .before .before .before .before .before in
+    profiles-15 (behind ranked) (profiles-of .profiles-of .ensures) (c .if2 .taken) (start .args .letters .now)
+
+slice-aggregate-answered : tie.Need-slice-aggregate-answered
+slice-aggregate-answered c = search needs
 
 answered-requires : tie.Need-answered-requires
 answered-requires c κs =
-    let before = c .before .before .before .before .before .before .before .before .before in
-    let profiles-of = c .before .before .before .before .before .before .before .profiles-of in
-    let if2 = c .before .before .before .before .if2 in
-    let b = behind (before) in
-    let g = profiles-of .ensures in
-    (all-profiled b g (omega (arith, if2 .left)), (b .ranks .fix-is, buffer-room b g (omega (arith, if2 .left))))
+    let if2 = c .before .before .before .before .before in
+    let profiles-of = if2 .before .before .before in
+    let b = behind (profiles-of .before .before) in
+    let g = profiles-of .profiles-of .ensures in
+    (all-profiled b g (omega (arith, if2 .if2 .left)), (b .ranks .fix-is, buffer-room b g (omega (arith, if2 .if2 .left))))
 
 same-length-3 : tie.Need-same-length-3
 same-length-3 c = search needs
@@ -78,24 +93,26 @@ same-length-4 c = search needs
 
 returns-3 : tie.Need-returns-3
 returns-3 c =
-    let before = c .before .before .before .before .before .before .before .before .before .before .before .before in
-    let profiles-of = c .before .before .before .before .before .before .before .before .before .before .profiles-of in
-    let if2 = c .before .before .before .before .before .before .before .if2 in
-    let answered = c .before .before .answered in
-    answer-on (behind (before)) (profiles-of .ensures) (omega (arith, if2 .left)) (answered .ensures)
+    let answered = c .before .before in
+    let if2 = answered .before .before .before .before .before .before in
+    let profiles-of = if2 .before .before .before in
+    answer-on (behind (profiles-of .before .before)) (profiles-of .profiles-of .ensures) (omega (arith, if2 .if2 .left))
+    (answered .answered .ensures)
 
 pub searched-spec : {M : Type 1} → statement M
 searched-spec =
     tie.close
     (tie.spec
+    slice-aggregate-nodes
     nodes-requires
     same-length
     returns
     ranked-requires
-    mul-t15
+    mul-t18
     profiles-of-requires
     same-length-2
     returns-2
+    slice-aggregate-answered
     answered-requires
     same-length-3
     same-length-4

@@ -73,9 +73,8 @@ command-leaf-requires t c κs =
 
 command-returns : (t : ℕ) → command-lts.Need-returns (command-calls t) (command-at t) command.Post
 command-returns t c =
-    let before = c .before .before .before in
     let start = c .before .before .before .before .before .before .before in
-    let o = command-opened t (before) in
+    let o = command-opened t (c .before .before .before) in
     opened-command (start .args .scope) o (λ k l. agrees-from (o .further) (c .leaf .ensures (formula k)))
 
 command-inside-requires : (t : ℕ) → command-lts.Need-inside-requires (command-calls t) (command-at t) command.Post
@@ -85,9 +84,8 @@ command-inside-requires t c κs =
 
 command-command-requires : (t : ℕ) → command-lts.Need-command-requires (command-calls t) (command-at t) command.Post
 command-command-requires t c κs =
-    let before2 = c .before .before .before in
     let u = c .before .before .before .before .before .before .before in
-    let o = command-opened t (before2) in
+    let o = command-opened t (c .before .before .before) in
     (omega (arith, u .pre .0, o .inside, o .at), ready-inside o (u .pre .1) (c .inside .ensures))
 
 command-complete-requires : (t : ℕ) → command-lts.Need-complete-requires (command-calls t) (command-at t) command.Post

@@ -11,13 +11,13 @@ use Rattle.lasso.proofs.clear.Statement.{statement}
 use Rattle.lasso.proofs.clear.Tie as tie
 
 -- the first i words are cleared
-record Clearing (w : List ℕ) (n : ℕ) (v : List ℕ) (i : ℕ) : Type 0 where
+record Invariant (w : List ℕ) (n : ℕ) (v : List ℕ) (i : ℕ) : Type 0 where
   pub few : i ≤ n
   pub long : length v ≡ length w
   pub zeros : v ≡ replicate i 0 ++ drop i w
 
 abbrev Inv-loop : tie.InvT-loop
-Inv-loop words₀ n i₀ words i = Clearing words₀ n words i
+Inv-loop words₀ n i₀ words i = Invariant words₀ n words i
 
 abbrev μ-loop : tie.MeasureT-loop
 μ-loop words₀ n i₀ words i = n - i

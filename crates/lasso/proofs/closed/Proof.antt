@@ -14,13 +14,13 @@ use Rattle.lasso.proofs.closed.Statement.{statement}
 use Rattle.lasso.proofs.closed.Tie as tie
 
 -- the numbers from e up to k are passed
-record Passing (rows : List ℕ) (e end k : ℕ) : Type 0 where
+record Invariant (rows : List ℕ) (e end k : ℕ) : Type 0 where
   pub last : end ≡ end-at rows e
   pub from : e ≤ k
   pub none : (j : ℕ) → j < k → e ≤ j → outside-of e (operator-at rows j) ≡ false
 
 abbrev Inv-loop : tie.InvT-loop
-Inv-loop rows s e end k₀ k = Passing rows e end k
+Inv-loop rows s e end k₀ k = Invariant rows e end k
 
 abbrev μ-loop : tie.MeasureT-loop
 μ-loop rows s e end k₀ k = end - k

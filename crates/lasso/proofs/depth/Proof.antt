@@ -5,12 +5,12 @@ use Rattle.lasso.proofs.depth.Statement.{statement}
 use Rattle.lasso.proofs.depth.Tie as tie
 
 -- what the loop keeps
-record Counting (e count k : ℕ) : Type 0 where
+record Invariant (e count k : ℕ) : Type 0 where
   pub fewer : count ≤ k
   pub few : k ≤ e
 
 abbrev Inv-loop : tie.InvT-loop
-Inv-loop rows s e count₀ k₀ count k = Counting e count k
+Inv-loop rows s e count₀ k₀ count k = Invariant e count k
 
 abbrev μ-loop : tie.MeasureT-loop
 μ-loop rows s e count₀ k₀ count k = e - k

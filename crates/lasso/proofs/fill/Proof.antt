@@ -11,12 +11,12 @@ use Rattle.lasso.proofs.fill.Statement.{statement}
 use Rattle.lasso.proofs.fill.Tie as tie
 
 -- the first i words are filled
-record Filling (w : List ℕ) (n mask : ℕ) (on : Bool) (v : List ℕ) (i : ℕ) : Type 0 where
+record Invariant (w : List ℕ) (n mask : ℕ) (on : Bool) (v : List ℕ) (i : ℕ) : Type 0 where
   pub few : i ≤ n
   pub filled : Filled i mask on w v
 
 abbrev Inv-loop : tie.InvT-loop
-Inv-loop words₀ n mask on i₀ words i = Filling words₀ n mask on words i
+Inv-loop words₀ n mask on i₀ words i = Invariant words₀ n mask on words i
 
 abbrev μ-loop : tie.MeasureT-loop
 μ-loop words₀ n mask on i₀ words i = n - i

@@ -9,12 +9,12 @@ use Rattle.lasso.proofs.insert.Statement.{statement}
 use Rattle.lasso.proofs.insert.Tie as tie
 
 -- what the loop keeps
-record Within (keys₀ : List ℕ) (count : ℕ) (keys : List ℕ) (j : ℕ) : Type 0 where
+record Invariant (keys₀ : List ℕ) (count : ℕ) (keys : List ℕ) (j : ℕ) : Type 0 where
   pub few : j ≤ count
   pub long : length keys ≡ length keys₀
 
 abbrev Inv-loop : tie.InvT-loop
-Inv-loop keys₀ count key carried₀ j₀ keys carried j = Within keys₀ count keys j
+Inv-loop keys₀ count key carried₀ j₀ keys carried j = Invariant keys₀ count keys j
 
 abbrev μ-loop : tie.MeasureT-loop
 μ-loop keys₀ count key carried₀ j₀ keys carried j = count - j

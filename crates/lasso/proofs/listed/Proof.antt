@@ -12,14 +12,14 @@ use Rattle.lasso.proofs.listed.Statement.{statement}
 use Rattle.lasso.proofs.listed.Tie as tie
 
 -- the first j keys are looked at, and so many numbers listed
-record Listing (mask : ℕ) (list : List ℕ) (count j : ℕ) : Type 0 where
+record Invariant (mask : ℕ) (list : List ℕ) (count j : ℕ) : Type 0 where
   pub fewer : count ≤ j
   pub few : j ≤ 48
   pub long : length list ≡ 48
   pub all : (i : ℕ) → i < count → bit mask (getD list i 0) ≡ true
 
 abbrev Inv-loop : tie.InvT-loop
-Inv-loop keys mask list₀ count₀ j₀ list count j = Listing mask list count j
+Inv-loop keys mask list₀ count₀ j₀ list count j = Invariant mask list count j
 
 abbrev μ-loop : tie.MeasureT-loop
 μ-loop keys mask list₀ count₀ j₀ list count j = 48 - j

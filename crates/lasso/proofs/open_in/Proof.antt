@@ -12,12 +12,12 @@ use Rattle.lasso.proofs.open_in.Statement.{statement}
 use Rattle.lasso.proofs.open_in.Tie as tie
 
 -- what the loop keeps: where e ends, and what is found before k
-record Going (rows : List ℕ) (e end k mask : ℕ) : Type 0 where
+record Invariant (rows : List ℕ) (e end k mask : ℕ) : Type 0 where
   pub last : end ≡ end-at rows e
   pub opening : Opening rows e k mask
 
 abbrev Inv-loop : tie.InvT-loop
-Inv-loop rows e end mask₀ k₀ mask k = Going rows e end k mask
+Inv-loop rows e end mask₀ k₀ mask k = Invariant rows e end k mask
 
 abbrev μ-loop : tie.MeasureT-loop
 μ-loop rows e end mask₀ k₀ mask k = end - k

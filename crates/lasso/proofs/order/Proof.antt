@@ -10,12 +10,12 @@ use Rattle.lasso.proofs.order.Statement.{statement}
 use Rattle.lasso.proofs.order.Tie as tie
 
 -- what the loop keeps
-record Within (end : ℕ) (keys : List ℕ) : Type 0 where
+record Invariant (end : ℕ) (keys : List ℕ) : Type 0 where
   pub long : length keys ≡ 48
   pub few : end ≤ 48
 
 abbrev Inv-loop : tie.InvT-loop
-Inv-loop rows end keys₀ k₀ keys k = Within end keys
+Inv-loop rows end keys₀ k₀ keys k = Invariant end keys
 
 abbrev μ-loop : tie.MeasureT-loop
 μ-loop rows end keys₀ k₀ keys k = end - k

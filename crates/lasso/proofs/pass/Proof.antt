@@ -14,13 +14,13 @@ use Rattle.lasso.proofs.pass.Statement.{statement}
 use Rattle.lasso.proofs.pass.Tie as tie
 
 -- the positions from i on are passed
-record Passing (rows : List ℕ) (c : Lasso) (list : List ℕ) (count : ℕ) (g : Bool) (w v : List ℕ) (i : ℕ) : Type 0 where
+record Invariant (rows : List ℕ) (c : Lasso) (list : List ℕ) (count : ℕ) (g : Bool) (w v : List ℕ) (i : ℕ) : Type 0 where
   pub few : i ≤ length (c .letters)
   pub passed : Passed rows c list count g w v
 
 abbrev Inv-loop : tie.InvT-loop
 Inv-loop rows letters stem words₀ list count greatest all i₀ words i =
-    Passing rows (lasso letters stem) list count greatest words₀ words i
+    Invariant rows (lasso letters stem) list count greatest words₀ words i
 
 abbrev μ-loop : tie.MeasureT-loop
 μ-loop rows letters stem words₀ list count greatest all i₀ words i = i
@@ -55,7 +55,8 @@ slice-read-turned : tie.Need-slice-read-turned Inv-loop μ-loop
 slice-read-turned c =
     let inv = c .before .before .before .before .before .loop .inv in
     let next = c .before .before .before .successor in
-    omega (arith, next .ensures .1, c .before .before .before .before .before .before .before .before .pre .room .words, inv .passed .long)
+    let room = c .before .before .before .before .before .before .before .before .pre .room in
+    omega (arith, next .ensures .below, room .words, inv .passed .long)
 
 turned-requires : tie.Need-turned-requires Inv-loop μ-loop
 turned-requires c κs = c .before .before .before .before .before .before .before .before .pre .few
@@ -80,7 +81,7 @@ loop-again c =
     record {
       few = omega (arith, inv .few);
       passed = passed-more _ _ _ _ _ _ _ _ _ _ (pre .room .cycle) (pre .room .words) (inv .passed) (omega (arith, inv .few))
-          (next .ensures .0) (c .before .turned .ensures);
+          (next .ensures .is) (c .before .turned .ensures);
     }
 
 same-length : tie.Need-same-length Inv-loop μ-loop

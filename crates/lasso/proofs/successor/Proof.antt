@@ -9,13 +9,13 @@ add-if1 : tie.Need-add-if1
 add-if1 c = search needs
 
 returns : tie.Need-returns
-returns c = (simp (eq-eqb _ _ (c .if1 .taken)), omega arith)
+returns c = record { is = simp (eq-eqb _ _ (c .if1 .taken)); below = omega arith }
 
 add-t5 : tie.Need-add-t5
 add-t5 c = search needs
 
 returns-2 : tie.Need-returns-2
-returns-2 c = (simp (ne-eqb _ _ (c .if1 .left)), omega arith)
+returns-2 c = record { is = simp (ne-eqb _ _ (c .if1 .left)); below = omega arith }
 
 pub successor-spec : {M : Type 1} → statement M
 successor-spec = tie.close (tie.spec add-if1 returns add-t5 returns-2)

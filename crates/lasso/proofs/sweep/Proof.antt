@@ -3,7 +3,7 @@
 use borrow.Author.Needs.{needs}
 use native.Mathlib.Omega.{arith}
 use mathlib.Core.Path.{_≡_, refl, subst}
-use mathlib.Core.Bool.{Bool, false, true≢false}
+use mathlib.Core.Bool.{Bool, false}
 use mathlib.Core.List.{List}
 use Prim.Native.Nat.{ℕ, _≤_, _-_}
 use lib.ListN.{length}
@@ -13,19 +13,19 @@ use Rattle.lasso.specs.Lasso.{Lasso}
 use Rattle.lasso.specs.Answer.{lasso}
 use Rattle.lasso.specs.Promise.{local-at, Swept}
 use Rattle.lasso.proofs.CodeWritten.{few, held-placed, shaped}
-use Rattle.lasso.proofs.CodeSweep.{changed-none, changed-put, changed-same, changed-end, as-before}
+use Rattle.lasso.proofs.CodeSweep.{changed-none, changed-put, changed-end, still-more, as-before}
 use Rattle.lasso.proofs.sweep.Statement.{statement}
 use Rattle.lasso.proofs.sweep.Tie as tie
 
 -- the first i words are swept
-record Sweeping (rows : List ℕ) (c : Lasso) (e : ℕ) (w v : List ℕ) (changed : Bool) (i : ℕ) : Type 0 where
+record Invariant (rows : List ℕ) (c : Lasso) (e : ℕ) (w v : List ℕ) (changed : Bool) (i : ℕ) : Type 0 where
   pub few : i ≤ length (c .letters)
   pub swept : Swept i e (local-at c (operator-at rows e) w) w v
   pub still : changed ≡ false → v ≡ w
 
 abbrev Inv-loop : tie.InvT-loop
 Inv-loop rows letters stem words₀ e op n changed₀ i₀ words changed i =
-    Sweeping rows (lasso letters stem) e words₀ words changed i
+    Invariant rows (lasso letters stem) e words₀ words changed i
 
 abbrev μ-loop : tie.MeasureT-loop
 μ-loop rows letters stem words₀ e op n changed₀ i₀ words changed i = n - i
@@ -60,7 +60,7 @@ slice-read-holds-at : tie.Need-slice-read-holds-at Inv-loop μ-loop
 slice-read-holds-at c =
     let pre = c .before .before .before .before .before .before .before .before .before .pre in
     let next = c .before .before .before .successor in
-    omega (arith, pre .room .words, next .ensures .1, c .before .before .before .before .before .loop .inv .swept .long)
+    omega (arith, pre .room .words, next .ensures .below, c .before .before .before .before .before .loop .inv .swept .long)
 
 holds-at-requires : tie.Need-holds-at-requires Inv-loop μ-loop
 holds-at-requires c κs =
@@ -72,6 +72,15 @@ with-requires : tie.Need-with-requires Inv-loop μ-loop
 with-requires c κs =
     omega (arith, few _ _ (c .before .before .before .before .before .before .before .before .before .before .pre .held))
 
+mul-words : tie.Need-mul-words Inv-loop μ-loop
+mul-words c = search needs
+
+slice-write-words : tie.Need-slice-write-words Inv-loop μ-loop
+slice-write-words c =
+    let room = c .before .before .before .before .before .before .before .before .before .before .before .pre .room in
+    let inv = c .before .before .before .before .before .before .before .loop .inv in
+    omega (arith, room .words, inv .swept .long)
+
 add-i : tie.Need-add-i Inv-loop μ-loop
 add-i c = search needs
 
@@ -80,51 +89,19 @@ loop-less c = search needs
 
 loop-again : tie.Need-loop-again Inv-loop μ-loop
 loop-again c =
-    let says = c .before .before in
+    let says = c .before in
     let next = says .before .before .before .before in
-    let loop = next .before .before in
-    let inv = loop .loop .inv in
-    let operator = loop .before .operator-at in
-    let start = loop .before .before .before .before in
+    let loop = next .before .before .loop in
+    let inv = loop .inv in
+    let operator = next .before .before .before .operator-at in
+    let start = next .before .before .before .before .before .before in
     let held = start .pre .held in
     record {
       few = omega arith;
-      swept = changed-same _ _ _ _ _ (inv .swept) _ _ (omega (arith, start .pre .room .words)) (c .before .with .ensures)
+      swept = changed-put _ _ _ _ _ (inv .swept) _ _ (omega (arith, start .pre .room .words)) (c .with .ensures)
           (as-before (start .args .rows .now) (lasso (start .args .letters .now) (start .args .stem)) _ _ _ _ _ _ _
-          (shaped _ _ held .operands) (inv .swept) (next .successor .ensures .0) _ (operator .ensures) (says .holds-at .ensures))
-          (c .if1 .taken);
-      still = inv .still;
-    }
-
-mul-words : tie.Need-mul-words Inv-loop μ-loop
-mul-words c = search needs
-
-slice-write-words : tie.Need-slice-write-words Inv-loop μ-loop
-slice-write-words c =
-    let pre = c .before .before .before .before .before .before .before .before .before .before .before .before .pre in
-    omega (arith, pre .room .words, c .before .before .before .before .before .before .before .before .loop .inv .swept .long)
-
-add-i-2 : tie.Need-add-i-2 Inv-loop μ-loop
-add-i-2 c = search needs
-
-loop-less-2 : tie.Need-loop-less-2 Inv-loop μ-loop
-loop-less-2 c = search needs
-
-loop-again-2 : tie.Need-loop-again-2 Inv-loop μ-loop
-loop-again-2 c =
-    let says = c .before .before in
-    let next = says .before .before .before .before in
-    let loop = next .before .before in
-    let inv = loop .loop .inv in
-    let operator = loop .before .operator-at in
-    let start = loop .before .before .before .before in
-    let held = start .pre .held in
-    record {
-      few = omega arith;
-      swept = changed-put _ _ _ _ _ (inv .swept) _ _ (omega (arith, start .pre .room .words)) (c .before .with .ensures)
-          (as-before (start .args .rows .now) (lasso (start .args .letters .now) (start .args .stem)) _ _ _ _ _ _ _
-          (shaped _ _ held .operands) (inv .swept) (next .successor .ensures .0) _ (operator .ensures) (says .holds-at .ensures));
-      still = λ q. absurd (true≢false q);
+          (shaped _ _ held .operands) (inv .swept) (next .successor .ensures .is) _ (operator .ensures) (says .holds-at .ensures));
+      still = still-more (loop .words) (loop .i) _ (loop .changed) (inv .still);
     }
 
 same-length : tie.Need-same-length Inv-loop μ-loop
@@ -152,13 +129,10 @@ sweep-spec =
     slice-read-holds-at
     holds-at-requires
     with-requires
+    mul-words
+    slice-write-words
     add-i
     loop-less
     loop-again
-    mul-words
-    slice-write-words
-    add-i-2
-    loop-less-2
-    loop-again-2
     same-length
     returns)

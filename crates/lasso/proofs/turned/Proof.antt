@@ -12,12 +12,12 @@ use Rattle.lasso.proofs.turned.Statement.{statement}
 use Rattle.lasso.proofs.turned.Tie as tie
 
 -- the first j of the listed bits are moved
-record Turning (rows list : List ℕ) (count letter there : ℕ) (g : Bool) (w v j : ℕ) : Type 0 where
+record Invariant (rows list : List ℕ) (count letter there : ℕ) (g : Bool) (w v j : ℕ) : Type 0 where
   pub few : j ≤ count
   pub turned : Turned rows list j letter there g w v
 
 abbrev Inv-loop : tie.InvT-loop
-Inv-loop rows list count letter word there greatest here₀ j₀ here j = Turning rows list count letter there greatest word here j
+Inv-loop rows list count letter word there greatest here₀ j₀ here j = Invariant rows list count letter there greatest word here j
 
 abbrev μ-loop : tie.MeasureT-loop
 μ-loop rows list count letter word there greatest here₀ j₀ here j = count - j

@@ -6,6 +6,7 @@ use Rattle.triples.specs.Promise.{triples-in}
 use Rattle.runs.specs.Stored.{found-of, Lent, bucket-of}
 use Rattle.runs.proofs.GrowLaws.{grown-known, grown-new, grown-full}
 use Rattle.runs.proofs.BucketLaws.{chained-kept}
+use native.Mathlib.Omega.{arith}
 use borrow.Author.Needs.{needs}
 use Rattle.runs.proofs.add.Statement.{statement}
 use Rattle.runs.proofs.add.Tie as tie
@@ -21,29 +22,32 @@ same-length c = search needs
 
 returns : tie.Need-returns
 returns c =
-    let s = c .before .before .before .before .before in
-    grown-known (s .args .shelf) (s .args .count) (s .args .area .now) (s .pre .1 .0) (s .pre .1 .1 .1)
-    (found-of (s .args .ends) (triples-in (s .args .shelf .n) (s .args .t .now))) (sym (c .if1 .taken) ∙ c .before .known .ensures)
+    let start = c .before .before .before .before .before in
+    let s = start .args in
+    let shelved = start .pre .0 in
+    grown-known (s .shelf) (s .count) (s .area .now) (shelved .room) (shelved .chained)
+    (found-of (s .ends) (triples-in (s .shelf .n) (s .t .now))) (sym (c .if1 .taken) ∙ c .before .known .ensures)
 
 write-requires : tie.Need-write-requires
 write-requires c κs = search needs
 
 chain-requires : tie.Need-chain-requires
 chain-requires c κs =
+    let start = c .before .before .before .before .before .before .before .before .before .before .before .before in
     let write = c .before .before .before .write in
-    let bucket = c .before .before .before .before .before .before .before .before .before .before .bucket in
     let if2 = c .before .before .before .before .before .if2 in
-    let s = c .before .before .before .before .before .before .before .before .before .before .before .before in
-    let w = write .ensures in
-    let k = bucket .ensures in (
-      subst⁻¹ (Lent (s .args .shelf)) (w .1 .same-length) (s .pre .0),
+    let bucket = c .before .before .before .before .before .before .before .before .before .before .bucket in
+    let shelved = start .pre .0 in
+    let shelf = start .args .shelf in
+    let changed = write .ensures .1 in (
+      record {
+        lent = subst⁻¹ (Lent shelf) (changed .same-length) (shelved .lent);
+        room = shelved .room;
+        chained = chained-kept (shelved .lent .next) changed (shelved .chained);
+      },
       (
-        (if2 .taken, k .1),
-        (
-          chained-kept (s .pre .0 .next) (w .1) (s .pre .1 .1 .1),
-          k .0 ∙ ap
-              (λ (y : Found). bucket-of (s .args .shelf) (y .at)) (sym (w .0)),
-        ),
+        (if2 .taken, bucket .ensures .1),
+        bucket .ensures .0 ∙ ap (λ (y : Found). bucket-of shelf (y .at)) (sym (write .ensures .0)),
       ),
     )
 
@@ -55,19 +59,18 @@ same-length-2 c = search needs
 
 returns-2 : tie.Need-returns-2
 returns-2 c =
-    let before = c .before .before .before .before .before .before .before .before .before .before .before .before .before .before
-    .before in
-    let write = c .before .before .before .before .before .before .write in
+    let start = c .before .before .before .before .before .before .before .before .before .before .before .before .before .before .before in
     let chain = c .before .before .chain in
     let if1 = c .before .before .before .before .before .before .before .before .before .before .if1 in
     let known = c .before .before .before .before .before .before .before .before .before .before .before .known in
     let if2 = c .before .before .before .before .before .before .before .before .if2 in
-    let s = before in
-    let w = write .ensures in
-    let d = chain .ensures in
-    grown-new (s .args .shelf) (s .args .count) (s .args .area .now) (s .pre .1 .0) (s .pre .1 .1 .1)
-    (found-of (s .args .ends) (triples-in (s .args .shelf .n) (s .args .t .now))) (s .pre .0 .next)
-    (sym (if1 .left) ∙ known .ensures) (if2 .taken) (w .0) (w .1) (d .0) (d .1 .0) (d .1 .1)
+    let write = c .before .before .before .before .before .before .write in
+    let s = start .args in
+    let shelved = start .pre .0 in
+    let chained = chain .ensures in
+    grown-new (s .shelf) (s .count) (s .area .now) (shelved .room) (shelved .chained)
+    (found-of (s .ends) (triples-in (s .shelf .n) (s .t .now))) (shelved .lent .next) (sym (if1 .left) ∙ known .ensures) (if2 .taken)
+    (write .ensures .0) (write .ensures .1) (chained .0) (chained .1 .0) (chained .1 .1)
 
 add-result-2 : tie.Need-add-result-2
 add-result-2 c = search needs
@@ -77,11 +80,12 @@ same-length-3 c = search needs
 
 returns-3 : tie.Need-returns-3
 returns-3 c =
-    let if1 = c .before .before .if1 in
+    let start = c .before .before .before .before .before .before .before in
     let known = c .before .before .before .known in
-    let s = c .before .before .before .before .before .before .before in
-    grown-full (s .args .shelf) (s .args .count) (s .args .area .now) (s .pre .1 .0) (s .pre .1 .1 .1)
-    (found-of (s .args .ends) (triples-in (s .args .shelf .n) (s .args .t .now))) (sym (if1 .left) ∙ known .ensures) (c .if2 .left)
+    let s = start .args in
+    let shelved = start .pre .0 in
+    grown-full (s .shelf) (s .count) (s .area .now) (shelved .room) (shelved .chained)
+    (found-of (s .ends) (triples-in (s .shelf .n) (s .t .now))) (sym (c .before .before .if1 .left) ∙ known .ensures) (c .if2 .left)
 
 pub add-spec : {M : Type 1} → statement M
 add-spec =

@@ -1,5 +1,6 @@
 -- `runs::chain` puts a record at the head of the chain of its bucket, by three stores into spare bytes.
 use Rattle.runs.proofs.BucketLaws.{linked-changed, linked-records, chained-more}
+use native.Mathlib.Omega.{arith}
 use borrow.Author.Needs.{needs}
 use Rattle.runs.proofs.chain.Statement.{statement}
 use Rattle.runs.proofs.chain.Tie as tie
@@ -24,22 +25,22 @@ same-length c = search needs
 
 returns : tie.Need-returns
 returns c =
-    let before = c .before .before .before .before .before .before .before .before .before .before .before .before .before .before
-    .before in
+    let start = c .before .before .before .before .before .before .before .before .before .before .before .before .before .before .before in
     let put2 = c .before .before .before .before .before .before .before .before .before .before .put2 in
     let put22 = c .before .before .before .before .before .before .put22 in
     let put23 = c .before .before .put23 in
     let head = c .before .before .before .before .before .before .before .before .before .before .before .before .head in
-    let s = before in
-    let b = put2 .ensures in
-    let l = put22 .ensures in
-    let h = put23 .ensures in (
-      chained-more (s .args .shelf) (s .args .count) (s .args .k) (b .1) (l .1) (h .1) (b .0) (l .0) (h .0) (s .pre .0 .next)
-          (s .pre .1 .1 .0) (head .ensures) (s .pre .1 .1 .1),
+    let s = start .args in
+    let shelved = start .pre .0 in
+    let within = start .pre .1 .0 in
+    let bucket = put2 .ensures in
+    let link = put22 .ensures in
+    let top = put23 .ensures in (
+      chained-more (s .shelf) (s .count) (s .k) (bucket .1) (link .1) (top .1) (bucket .0) (link .0) (top .0) (shelved .lent .next)
+          (shelved .chained) (head .ensures) (start .pre .1 .1),
       (
-        linked-records (s .args .shelf) (s .args .count) (s .args .k) (b .1) (l .1) (h .1) (s .pre .0 .next),
-        linked-changed
-            (s .args .shelf) (s .args .count) (s .args .k) (b .1) (l .1) (h .1) (s .pre .1 .0 .0) (s .pre .1 .0 .1),
+        linked-records (s .shelf) (s .count) (s .k) (bucket .1) (link .1) (top .1) (shelved .lent .next),
+        linked-changed (s .shelf) (s .count) (s .k) (bucket .1) (link .1) (top .1) (within .0) (within .1),
       ),
     )
 

@@ -1,16 +1,23 @@
 -- `runs::extend` adds one profile followed by each of one transition. The invariant: the first q of these are done. Those before the first
 -- that is tried begin before the profile's last node, and those behind the last one begin after it.
-use mathlib.Core.Path.{subst, sym}
-use Prim.Native.Nat.{_-_, _≤_}
+use mathlib.Core.Path.{subst⁻¹}
+use mathlib.Core.List.{List}
+use Prim.Native.Nat.{ℕ, _-_, _≤_}
+use Rattle.runs.specs.declared.Shelf.{Shelf}
 use Rattle.runs.specs.Stored.{Lent, Grown}
 use Rattle.runs.proofs.TurnLaws.{extended, extend-start, extend-more, extend-stop, extend-done}
-use borrow.Author.Needs.{needs}
 use native.Mathlib.Omega.{arith}
+use borrow.Author.Needs.{needs}
 use Rattle.runs.proofs.extend.Statement.{statement}
 use Rattle.runs.proofs.extend.Tie as tie
 
+-- the first q are done
+record Turned (s : Shelf) (a : List ℕ) (p ones count : ℕ) (b : List ℕ) (all q : ℕ) : Type 0 where
+  turn : q ≤ ones
+  grown : Grown s count a all b (extended s count p a q)
+
 abbrev Inv-loop : tie.InvT-loop
-Inv-loop area₀ shelf p ones count end all₀ q₀ area all q = (q ≤ ones) × Grown shelf count area₀ all area (extended shelf count p area₀ q)
+Inv-loop area₀ shelf p ones count end all₀ q₀ area all q = Turned shelf area₀ p ones count area all q
 
 abbrev μ-loop : tie.MeasureT-loop
 μ-loop area₀ shelf p ones count end all₀ q₀ area all q = end - q
@@ -19,38 +26,57 @@ ends-of-requires : tie.Need-ends-of-requires Inv-loop μ-loop
 ends-of-requires c κs = search needs
 
 add-t14 : tie.Need-add-t14 Inv-loop μ-loop
-add-t14 c = omega (arith, c .before .before .ends-of .ensures .small .last)
+add-t14 c =
+    let ends-of = c .before .before .ends-of in
+    omega (arith, ends-of .ensures .small .last)
 
 begin-before-requires : tie.Need-begin-before-requires Inv-loop μ-loop
-begin-before-requires c κs = let s = c .before .before .before .before .before in (s .pre .0, (omega arith, s .pre .1 .1 .1))
+begin-before-requires c κs =
+    let start = c .before .before .before .before .before in
+    (start .pre .0 .lent, (omega (arith, start .pre .0 .room), start .pre .1 .0))
 
 begin-before-requires-2 : tie.Need-begin-before-requires-2 Inv-loop μ-loop
-begin-before-requires-2 c κs = let s = c .before .before .before .before .before .before .before in
-    (s .pre .0, (omega arith, s .pre .1 .1 .1))
+begin-before-requires-2 c κs =
+    let start = c .before .before .before .before .before .before .before in
+    (start .pre .0 .lent, (omega (arith, start .pre .0 .room), start .pre .1 .0))
 
 loop-holds : tie.Need-loop-holds Inv-loop μ-loop
-loop-holds c = let s = c .before .before .before .before .before .before .before .before in (
-  c .begin-before2 .ensures .among,
-  extend-start _ _ _ _ _ (omega arith) (s .pre .1 .1 .0)
-      (λ j l h e. omega (arith, c .begin-before2 .ensures .before j h, c .before .before .before .before .before .ends-of .ensures .last)),
-)
+loop-holds c =
+    let start = c .before .before .before .before .before .before .before .before in
+    let ends-of = c .before .before .before .before .before .ends-of in
+    let first = c .begin-before2 .ensures in
+    record {
+      turn = first .among;
+      grown = extend-start _ _ _ _ _ (start .pre .0 .room) (start .pre .0 .chained)
+          (λ j l h e. omega (arith, first .before j h, ends-of .ensures .last));
+    }
 
 same-length : tie.Need-same-length Inv-loop μ-loop
-same-length c = c .before .before .before .loop .inv .1 .elsewhere .same-length
+same-length c =
+    let loop = c .before .before .before .loop in
+    loop .inv .grown .elsewhere .same-length
 
 returns : tie.Need-returns Inv-loop μ-loop
-returns c = let s = c .before .before .before .before .before .before .before .before .before .before .before .before in let l =
-    c .before .before .before .loop in extend-stop (s .args .shelf) (s .args .count) (s .args .p) (s .args .area .now) (l .q)
-    (s .args .ones) (c .if1 .taken) (l .inv .0) (l .inv .1)
+returns c =
+    let start = c .before .before .before .before .before .before .before .before .before .before .before .before in
+    let loop = c .before .before .before .loop in
+    let s = start .args in
+    extend-stop (s .shelf) (s .count) (s .p) (s .area .now) (loop .q) (s .ones) (c .if1 .taken) (loop .inv .turn) (loop .inv .grown)
 
 longer-requires : tie.Need-longer-requires Inv-loop μ-loop
-longer-requires c κs = let s = c .before .before .before .before .before .before .before .before .before .before .before .before .before
-    in let l = c .before .before .before .before .loop in (
-      subst (Lent (s .args .shelf)) (sym (l .inv .1 .elsewhere .same-length)) (s .pre .0),
-      (
-        omega (arith, l .inv .1 .more, c .before .before .before .before .before .before .before .begin-before .ensures .among),
-        l .inv .1 .chained (c .before .if1 .left),
-      ),
+longer-requires c κs =
+    let loop = c .before .before .before .before .loop in
+    let begin-before = c .before .before .before .before .before .before .before .begin-before in
+    let start = c .before .before .before .before .before .before .before .before .before .before .before .before .before in
+    let if1 = c .before .if1 in
+    let grown = loop .inv .grown in
+    let behind = begin-before .ensures in (
+      record {
+        lent = subst⁻¹ (Lent (start .args .shelf)) (grown .elsewhere .same-length) (start .pre .0 .lent);
+        room = if1 .left;
+        chained = grown .chained (if1 .left);
+      },
+      (omega (arith, grown .more), omega (arith, grown .more, behind .among)),
     )
 
 add-q : tie.Need-add-q Inv-loop μ-loop
@@ -60,25 +86,36 @@ loop-less : tie.Need-loop-less Inv-loop μ-loop
 loop-less c = search needs
 
 loop-again : tie.Need-loop-again Inv-loop μ-loop
-loop-again c = let s = c .before .before .before .before .before .before .before .before .before .before .before .before .before .before
-    .before .before in let l = c .before .before .before .before .before .before .before .loop in let few =
-    c .before .before .before .before .before .before .before .before .before .before .begin-before .ensures .among in (
-      omega (arith, few),
-      extend-more (s .args .shelf) (s .args .count) (s .args .p) (s .args .area .now) (l .q) (omega arith)
-          (omega (arith, few)) (c .before .before .before .before .if1 .left) (l .inv .1) (c .before .before .longer .ensures),
-    )
+loop-again c =
+    let earlier = c .before .before .before .before .before .before .before .before in
+    let start = earlier .before .before .before .before .before .before .before .before in
+    let begin-before = earlier .before .before .begin-before in
+    let loop = c .before .before .before .before .before .before .before .loop in
+    let if1 = c .before .before .before .before .if1 in
+    let longer = c .before .before .longer in
+    let test = c .before .before .before .before .before .before .loop-test in
+    let s = start .args in
+    let few = begin-before .ensures .among in
+    let among = start .pre .1 .1 in
+    record {
+      turn = omega (arith, few, test .taken);
+      grown = extend-more (s .shelf) (s .count) (s .p) (s .area .now) (loop .q) (among .0) (omega (arith, few, test .taken, among .1))
+          (if1 .left) (loop .inv .grown) (longer .ensures);
+    }
 
 same-length-2 : tie.Need-same-length-2 Inv-loop μ-loop
-same-length-2 c = c .before .loop .inv .1 .elsewhere .same-length
+same-length-2 c = c .before .loop .inv .grown .elsewhere .same-length
 
 returns-2 : tie.Need-returns-2 Inv-loop μ-loop
-returns-2 c = let s = c .before .before .before .before .before .before .before .before .before .before in let l = c .before .loop in
-    extend-done (s .args .shelf) (s .args .count) (s .args .p) (s .args .area .now) (l .q) (s .args .ones) (l .inv .0)
-    (λ j m h e. omega (
-      arith,
-      c .before .before .before .before .begin-before .ensures .behind j (omega (arith, c .loop-test .left)) h,
-      c .before .before .before .before .before .before .before .ends-of .ensures .last,
-    )) (l .inv .1)
+returns-2 c =
+    let start = c .before .before .before .before .before .before .before .before .before .before in
+    let begin-before = c .before .before .before .before .begin-before in
+    let loop = c .before .loop in
+    let ends-of = c .before .before .before .before .before .before .before .ends-of in
+    let s = start .args in
+    let behind = begin-before .ensures in
+    extend-done (s .shelf) (s .count) (s .p) (s .area .now) (loop .q) (s .ones) (loop .inv .turn)
+    (λ j m h e. omega (arith, behind .behind j (omega (arith, c .loop-test .left)) h, ends-of .ensures .last)) (loop .inv .grown)
 
 pub extend-spec : {M : Type 1} → statement M
 extend-spec =

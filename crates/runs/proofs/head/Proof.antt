@@ -1,8 +1,8 @@
 -- `runs::head` reads the head of a bucket, and takes it only if it is the number of a record of this bucket.
 use mathlib.Core.Path.{sym, _∙_}
 use Rattle.runs.proofs.BucketLaws.{head-none, head-is}
-use borrow.Author.Needs.{needs}
 use native.Mathlib.Omega.{arith}
+use borrow.Author.Needs.{needs}
 use Rattle.runs.proofs.head.Statement.{statement}
 use Rattle.runs.proofs.head.Tie as tie
 
@@ -11,14 +11,13 @@ get2-requires c κs = search needs
 
 returns : tie.Need-returns
 returns c =
-    let s = c .before .before .before in
-    head-none (s .pre .1 .1) (s .args .k) (c .before .get2 .ensures .0) (λ l m e. omega arith)
+    let start = c .before .before .before in
+    head-none (start .pre .0 .chained) (start .args .k) (c .before .get2 .ensures .0) (λ l m e. omega arith)
 
 returns-2 : tie.Need-returns-2
 returns-2 c =
-    let get2 = c .before .before .get2 in
-    let s = c .before .before .before .before in
-    head-none (s .pre .1 .1) (s .args .k) (get2 .ensures .0) (λ l m e. omega arith)
+    let start = c .before .before .before .before in
+    head-none (start .pre .0 .chained) (start .args .k) (c .before .before .get2 .ensures .0) (λ l m e. omega arith)
 
 sub-get2 : tie.Need-sub-get2
 sub-get2 c = search needs
@@ -28,15 +27,16 @@ get2-requires-2 c κs = search needs
 
 returns-3 : tie.Need-returns-3
 returns-3 c =
+    let start = c .before .before .before .before .before .before in
     let get2 = c .before .before .before .before .get2 in
-    let s = c .before .before .before .before .before .before in
-    head-none (s .pre .1 .1) (s .args .k) (get2 .ensures .0) (λ l m e. c .if3 .taken (c .before .get22 .ensures .0 ∙ e))
+    head-none (start .pre .0 .chained) (start .args .k) (get2 .ensures .0)
+    (λ l m e. c .if3 .taken (c .before .get22 .ensures .0 ∙ e))
 
 returns-4 : tie.Need-returns-4
 returns-4 c =
+    let start = c .before .before .before .before .before .before in
     let get2 = c .before .before .before .before .get2 in
-    let s = c .before .before .before .before .before .before in
-    head-is (s .pre .1 .1) (s .args .k) (get2 .ensures .0) (omega arith) (omega arith)
+    head-is (start .pre .0 .chained) (start .args .k) (get2 .ensures .0) (omega arith) (omega arith)
     (sym (c .before .get22 .ensures .0) ∙ c .if3 .left)
 
 pub head-spec : {M : Type 1} → statement M

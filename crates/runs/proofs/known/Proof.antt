@@ -6,8 +6,8 @@ use Rattle.triples.specs.Promise.{triples-in}
 use Rattle.runs.specs.Stored.{profile-of}
 use Rattle.runs.proofs.GrowLaws.{seen-found}
 use Rattle.runs.proofs.BucketLaws.{Passed, passed-start, passed-less, passed-more, passed-all}
-use borrow.Author.Needs.{needs}
 use native.Mathlib.Omega.{arith}
+use borrow.Author.Needs.{needs}
 use Rattle.runs.proofs.known.Statement.{statement}
 use Rattle.runs.proofs.known.Tie as tie
 
@@ -21,7 +21,9 @@ head-requires : tie.Need-head-requires Inv-loop μ-loop
 head-requires c κs = search needs
 
 loop-holds : tie.Need-loop-holds Inv-loop μ-loop
-loop-holds c = let s = c .before .before in passed-start (s .pre .1 .1 .0) _ (s .pre .1 .1 .1) (c .head .ensures)
+loop-holds c =
+    let start = c .before .before in
+    passed-start (start .pre .0 .chained) _ (start .pre .1 .1) (c .head .ensures)
 
 sub-same-profile : tie.Need-sub-same-profile Inv-loop μ-loop
 sub-same-profile c = search needs
@@ -47,7 +49,7 @@ loop-less c =
     let start = c .before .before .before .before .before .before .before in
     let loop = c .before .before .before .before .loop in
     let test = c .before .before .before .loop-test in
-    passed-less (start .pre .1 .1 .0) _ (loop .inv) (test .taken) (c .get2 .ensures .0)
+    passed-less (start .pre .0 .chained) _ (loop .inv) (test .taken) (c .get2 .ensures .0)
 
 loop-again : tie.Need-loop-again Inv-loop μ-loop
 loop-again c =
@@ -55,13 +57,13 @@ loop-again c =
     let loop = c .before .before .before .before .loop in
     let test = c .before .before .before .loop-test in
     let same-profile = c .before .before .same-profile in
-    passed-more (start .pre .1 .1 .0) _ (loop .inv) (test .taken) (c .get2 .ensures .0)
+    passed-more (start .pre .0 .chained) _ (loop .inv) (test .taken) (c .get2 .ensures .0)
     (sym (same-profile .ensures) ∙ c .before .if1 .left)
 
 returns-2 : tie.Need-returns-2 Inv-loop μ-loop
 returns-2 c =
     let start = c .before .before .before .before in
-    sym (passed-all (start .pre .1 .1 .0) _ (c .before .loop .inv) (c .loop-test .left))
+    sym (passed-all (start .pre .0 .chained) _ (c .before .loop .inv) (c .loop-test .left))
 
 pub known-spec : {M : Type 1} → statement M
 known-spec =

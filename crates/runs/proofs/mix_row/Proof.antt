@@ -1,24 +1,30 @@
 -- `runs::mix_row` takes a row of bytes into a hash. The invariant: the first g are in their sum.
 use mathlib.Core.Path.{_≡_, refl, ap, _∙_}
-use mathlib.Core.List.{foldl}
+use mathlib.Core.List.{List, foldl}
 use Prim.Native.Nat.{ℕ, _+_, _-_, _*_, _%_, _≤_, _<_}
 use native.Mathlib.Nat.{le-antisymm}
 use lib.ListN.{getD}
 use Rattle.runs.specs.Stored.{bits-of, row-of, mixed}
 use Rattle.runs.proofs.BucketLaws.{fold-more}
-use borrow.Author.Needs.{needs}
 use native.Mathlib.Omega.{arith}
+use borrow.Author.Needs.{needs}
 use Rattle.runs.proofs.mix_row.Statement.{statement}
 use Rattle.runs.proofs.mix_row.Tie as tie
 
+-- the first g of n bytes of row f are in the sum
+record Turned (t : List ℕ) (n f sum g : ℕ) : Type 0 where
+  turn : g ≤ n
+  small : sum < 4294967296
+  sum-is : sum ≡ foldl mixed 0 (row-of t g f)
+
 abbrev Inv-loop : tie.InvT-loop
-Inv-loop h t n f sum₀ g₀ sum g = (g ≤ n) × ((sum < 4294967296) × (sum ≡ foldl mixed 0 (row-of t g f)))
+Inv-loop h t n f sum₀ g₀ sum g = Turned t n f sum g
 
 abbrev μ-loop : tie.MeasureT-loop
 μ-loop h t n f sum₀ g₀ sum g = n - g
 
 loop-holds : tie.Need-loop-holds Inv-loop μ-loop
-loop-holds c = (omega arith, (omega arith, refl))
+loop-holds c = record { turn = omega arith; small = omega arith; sum-is = refl }
 
 mul-mix : tie.Need-mul-mix Inv-loop μ-loop
 mul-mix c = search needs
@@ -40,16 +46,14 @@ loop-less c = search needs
 
 loop-again : tie.Need-loop-again Inv-loop μ-loop
 loop-again c =
+    let start = c .before .before .before .before in
     let loop = c .before .before .before .loop in
-    let s = c .before .before .before .before in
-    let l = loop in (
-      omega arith,
-      (
-        c .mix .ensures .0,
-        fold-more mixed 0 (λ j. bits-of (getD (s .args .t .now) (s .args .f * 12 + j) 0)) (l .g)
-            (l .inv .1 .1) (c .mix .ensures .1),
-      ),
-    )
+    let s = start .args in
+    record {
+      turn = omega arith;
+      small = c .mix .ensures .0;
+      sum-is = fold-more mixed 0 (λ j. bits-of (getD (s .t .now) (s .f * 12 + j) 0)) (loop .g) (loop .inv .sum-is) (c .mix .ensures .1);
+    }
 
 add-result : tie.Need-add-result Inv-loop μ-loop
 add-result c = search needs
@@ -59,13 +63,11 @@ mul-result c = search needs
 
 returns : tie.Need-returns Inv-loop μ-loop
 returns c =
-    let s = c .before .before in
-    let l = c .before .loop in (
-      omega arith,
-      ap (λ (sum : ℕ). (s .args .h + sum) % 4294967296 * 2654435761 % 4294967296)
-          (l .inv .1 .1 ∙ ap (λ (k : ℕ). foldl mixed 0 (row-of (s .args .t .now) k (s .args .f)))
-          (le-antisymm (l .inv .0) (c .loop-test .left))),
-    )
+    let loop = c .before .loop in
+    let s = c .before .before .args in
+    let all = le-antisymm (loop .inv .turn) (c .loop-test .left) in
+    let sum-is = loop .inv .sum-is ∙ ap (λ (k : ℕ). foldl mixed 0 (row-of (s .t .now) k (s .f))) all in
+    (omega arith, ap (λ (sum : ℕ). (s .h + sum) % 4294967296 * 2654435761 % 4294967296) sum-is)
 
 pub mix-row-spec : {M : Type 1} → statement M
 mix-row-spec =

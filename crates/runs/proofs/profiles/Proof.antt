@@ -1,39 +1,61 @@
--- `runs::profiles` goes on from each record in turn. The invariant: what is left of the search leads from the records to all profiles.
-use mathlib.Core.Path.{subst, sym}
-use Prim.Native.Nat.{_+_, _-_, _≤_}
+-- `runs::profiles` goes on from each record in turn. The invariant: the search after p turns is in the area.
+use mathlib.Core.Path.{subst⁻¹}
+use mathlib.Core.List.{List}
+use Prim.Native.Nat.{ℕ, _+_, _-_, _≤_}
+use Rattle.runs.specs.declared.Shelf.{Shelf}
 use Rattle.runs.specs.Stored.{Lent}
 use Rattle.runs.proofs.RisingLaws.{rising-kept}
 use Rattle.runs.proofs.TurnLaws.{Pending, pending-start, pending-next, pending-stop, pending-done}
-use borrow.Author.Needs.{needs}
 use native.Mathlib.Omega.{arith}
+use borrow.Author.Needs.{needs}
 use Rattle.runs.proofs.profiles.Statement.{statement}
 use Rattle.runs.proofs.profiles.Tie as tie
 
+-- after p turns
+record Turned (s : Shelf) (ones : ℕ) (a b : List ℕ) (all p : ℕ) : Type 0 where
+  few : p ≤ s .capacity
+  turn : p ≤ all
+  pending : Pending s ones a p all b
+
 abbrev Inv-loop : tie.InvT-loop
-Inv-loop area₀ shelf ones all₀ p₀ area all p = (p ≤ shelf .capacity) × ((p ≤ all) × Pending shelf ones area₀ p all area)
+Inv-loop area₀ shelf ones all₀ p₀ area all p = Turned shelf ones area₀ area all p
 
 abbrev μ-loop : tie.MeasureT-loop
 μ-loop area₀ shelf ones all₀ p₀ area all p = shelf .capacity + 1 - p
 
 loop-holds : tie.Need-loop-holds Inv-loop μ-loop
-loop-holds c = (omega arith, (omega arith, pending-start _ _ _ (omega arith) (c .before .pre .1 .1 .0)))
+loop-holds c =
+    let start = c .before in
+    record {
+      few = omega arith;
+      turn = omega arith;
+      pending = pending-start _ _ _ (start .pre .0 .room) (start .pre .0 .chained);
+    }
 
 same-length : tie.Need-same-length Inv-loop μ-loop
-same-length c = c .before .before .before .loop .inv .1 .1 .grown .elsewhere .same-length
+same-length c =
+    let loop = c .before .before .before .loop in
+    loop .inv .pending .grown .elsewhere .same-length
 
 returns : tie.Need-returns Inv-loop μ-loop
-returns c = λ fuel h. pending-stop (c .before .before .before .loop .inv .1 .1) fuel (c .if1 .taken) (omega arith)
+returns c =
+    let loop = c .before .before .before .loop in
+    λ fuel h. pending-stop (loop .inv .pending) fuel (c .if1 .taken) (omega arith)
 
 extend-requires : tie.Need-extend-requires Inv-loop μ-loop
 extend-requires c κs =
     let loop = c .before .before .before .before .loop in
-    let s = c .before .before .before .before .before .before in
-    let k = loop .inv .1 .1 .grown in (
-      subst (Lent (s .args .shelf)) (sym (k .elsewhere .same-length)) (s .pre .0),
-      (
-        omega (arith, k .more),
-        (k .chained (c .before .if1 .left), rising-kept (s .args .shelf) (s .args .area .now) (loop .area) (k .kept) (s .pre .1 .1 .1)),
-      ),
+    let start = c .before .before .before .before .before .before in
+    let if1 = c .before .if1 in
+    let test = c .before .before .before .loop-test in
+    let grown = loop .inv .pending .grown in
+    let s = start .args in (
+      record {
+        lent = subst⁻¹ (Lent (s .shelf)) (grown .elsewhere .same-length) (start .pre .0 .lent);
+        room = if1 .left;
+        chained = grown .chained (if1 .left);
+      },
+      (rising-kept (s .shelf) (s .area .now) (loop .area) (grown .kept) (start .pre .1), (test .taken, grown .more)),
     )
 
 add-p : tie.Need-add-p Inv-loop μ-loop
@@ -48,15 +70,19 @@ loop-again c =
     let loop = c .before .before .before .before .before .before .before .loop in
     let if1 = c .before .before .before .before .if1 in
     let test = c .before .before .before .before .before .before .loop-test in
-    let r = extend in
-    (omega arith, (omega (arith, r .ensures .more), pending-next (loop .inv .1 .1) (if1 .left) (test .taken) (r .ensures)))
+    record {
+      few = omega arith;
+      turn = omega (arith, extend .ensures .more);
+      pending = pending-next (loop .inv .pending) (if1 .left) (test .taken) (extend .ensures);
+    }
 
 same-length-2 : tie.Need-same-length-2 Inv-loop μ-loop
-same-length-2 c = c .before .loop .inv .1 .1 .grown .elsewhere .same-length
+same-length-2 c = c .before .loop .inv .pending .grown .elsewhere .same-length
 
 returns-2 : tie.Need-returns-2 Inv-loop μ-loop
 returns-2 c =
-    λ fuel h. pending-done (c .before .loop .inv .1 .1) fuel (c .loop-test .left) (c .before .loop .inv .0) (omega arith)
+    let loop = c .before .loop in
+    λ fuel h. pending-done (loop .inv .pending) fuel (c .loop-test .left) (loop .inv .few) (omega arith)
 
 pub profiles-spec : {M : Type 1} → statement M
 profiles-spec =

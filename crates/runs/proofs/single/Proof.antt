@@ -1,10 +1,11 @@
--- `runs::single` adds the profile of the transition under one choice word, if there is one.
+-- `runs::single` adds the profile of the transition under one choice word, if there is one. A transition leads to a node of the area, so
+-- that one is found.
 use mathlib.Core.Path.{refl, subst}
+use native.Mathlib.Omega.{arith}
 use Rattle.tableau.specs.Promise.{Stepped-by}
 use Rattle.tableau.proofs.StepLaws.{step-nowhere}
-use Rattle.runs.proofs.SingleLaws.{index-small, single-nowhere, single-letter, single-some}
+use Rattle.runs.proofs.SingleLaws.{single-nowhere, single-letter, single-there, single-last, single-small, single-some}
 use borrow.Author.Needs.{needs}
-use native.Mathlib.Omega.{arith}
 use Rattle.runs.proofs.single.Statement.{statement}
 use Rattle.runs.proofs.single.Tie as tie
 
@@ -20,6 +21,12 @@ enum-known-to c = c .match .keys2
 find-requires : tie.Need-find-requires
 find-requires c κs = search needs
 
+enum-told-2 : tie.Need-enum-told-2
+enum-told-2 c = c .match2 .keys1
+
+enum-known-last : tie.Need-enum-known-last
+enum-known-last c = c .match2 .keys2
+
 choice-of-requires : tie.Need-choice-of-requires
 choice-of-requires c κs = search needs
 
@@ -28,51 +35,71 @@ triples-of-requires c κs = search needs
 
 add-requires : tie.Need-add-requires
 add-requires c κs =
-    let to = c .before .before .before .before .before .before .before .to in
-    let find = c .before .before .before .before .find in
-    let by-word = c .before .before .before .before .before .before .before .before .before .by-word in
-    let s = c .before .before .before .before .before .before .before .before .before .before .before in
-    let k = s .pre .0 in (
-      k .lent,
-      (
-        s .pre .1 .0 .1,
-        (
-          record {
-            first = omega (arith, s .pre .1 .0 .0, k .few);
-            last = index-small (to .given .0 .0) (s .args .area .now) (k .few)
-                (find .ensures);
-            parent = omega arith;
-            letter = single-letter k (s .args .number .0) (s .args .choice-word)
-                (s .pre .1 .0 .0) (s .pre .1 .1 .0 .0) (subst (Stepped-by _ _ _ _) (to .given .1) (by-word .ensures));
-          },
-          s .pre .1 .1 .1,
-        ),
-      ),
+    let start = c .before .before .before .before .before .before .before .before .before .before .before .before .before .before in
+    let to = c .before .before .before .before .before .before .before .before .before .before .to in
+    let by-word = c .before .before .before .before .before .before .before .before .before .before .before .before .by-word in
+    let last = c .before .before .before .before .before .last in
+    let find = c .before .before .before .before .before .before .before .find in
+    let ready = start .pre .0 in
+    let chosen = start .pre .1 in
+    let step = subst (Stepped-by _ _ _ _) (to .given .1) (by-word .ensures) in
+    let i = start .args .number .0 in
+    let x = start .args .choice-word in (
+      record { lent = ready .given .lent; room = ready .room; chained = ready .chained },
+      record {
+        first = omega (arith, ready .node, ready .given .few);
+        last = single-small (ready .given) i x (ready .node) (chosen .below) (chosen .from-is) step (last .given .0 .0) (find .ensures)
+            (last .given .1);
+        parent = omega arith;
+        letter = single-letter (ready .given) i x (ready .node) (chosen .below) (chosen .from-is) step;
+      },
     )
 
 returns : tie.Need-returns
 returns c =
+    let start = c .before .before .before .before in
     let by-word = c .before .before .by-word in
-    let s = c .before .before .before .before in
-    single-nowhere (s .pre .0) (s .args .number .0) (s .args .choice-word) (s .pre .1 .0 .0) (s .pre .1 .1 .0 .0)
-    (s .pre .1 .0 .1) (s .pre .1 .1 .1) (step-nowhere (by-word .ensures) (c .enum-told .given .1))
+    let ready = start .pre .0 in
+    single-nowhere (ready .given) (start .args .number .0) (start .args .choice-word) (ready .node) (start .pre .1 .from-is)
+    (ready .room) (ready .chained) (step-nowhere (by-word .ensures) (c .enum-told .given .1))
 
 same-length : tie.Need-same-length
 same-length c = search needs
 
 returns-2 : tie.Need-returns-2
 returns-2 c =
+    let start = c .before .before .before .before .before .before .before .before .before in
+    let to = c .before .before .before .before .before .to in
+    let by-word = c .before .before .before .before .before .before .before .by-word in
+    let ready = start .pre .0 in
+    let chosen = start .pre .1 in
+    let step = subst (Stepped-by _ _ _ _) (to .given .1) (by-word .ensures) in
+    absurd (single-there (ready .given) (start .args .number .0) (start .args .choice-word) (ready .node) (chosen .below)
+    (chosen .from-is) step (c .before .before .find .ensures) (c .enum-told2 .given .1))
+
+same-length-2 : tie.Need-same-length-2
+same-length-2 c = search needs
+
+returns-3 : tie.Need-returns-3
+returns-3 c =
+    let earlier = c .before .before .before .before .before .before .before .before in
+    let start = earlier .before .before .before .before .before .before .before .before .before in
+    let to = earlier .before .before .before .before .before .to in
+    let by-word = earlier .before .before .before .before .before .before .before .by-word in
+    let last = c .before .before .before .before .before .before .before .before .last in
+    let find = earlier .before .before .find in
     let triples-of = c .before .before .before .before .before .triples-of in
-    let to = c .before .before .before .before .before .before .before .before .before .before .to in
-    let by-word = c .before .before .before .before .before .before .before .before .before .before .before .before .by-word in
-    let find = c .before .before .before .before .before .before .before .find in
     let choice-of = c .before .before .before .before .before .before .choice-of in
-    let add = c .before .before .add in
-    let s = c .before .before .before .before .before .before .before .before .before .before .before .before .before .before in
-    let t = triples-of in
-    single-some (s .pre .0) (s .args .number .0) (s .args .choice-word) (s .pre .1 .0 .0) (s .pre .1 .1 .0 .0)
-    (subst (Stepped-by _ _ _ _) (to .given .1) (by-word .ensures)) (t .result) refl (find .ensures) (choice-of .ensures)
-    (t .ensures) (add .ensures)
+    let ready = start .pre .0 in
+    let chosen = start .pre .1 in
+    let step = subst (Stepped-by _ _ _ _) (to .given .1) (by-word .ensures) in
+    let i = start .args .number .0 in
+    let x = start .args .choice-word in
+    let there =
+    single-last (ready .given) i x (ready .node) (chosen .below) (chosen .from-is) step (last .given .0 .0) (find .ensures)
+    (last .given .1) in
+    single-some (ready .given) i x (ready .node) (chosen .below) (chosen .from-is) step (triples-of .result) refl there
+    (choice-of .ensures) (triples-of .ensures) (c .before .before .add .ensures)
 
 pub single-spec : {M : Type 1} → statement M
 single-spec =
@@ -82,9 +109,13 @@ single-spec =
     enum-told
     enum-known-to
     find-requires
+    enum-told-2
+    enum-known-last
     choice-of-requires
     triples-of-requires
     add-requires
     returns
     same-length
-    returns-2)
+    returns-2
+    same-length-2
+    returns-3)

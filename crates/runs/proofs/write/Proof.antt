@@ -27,17 +27,26 @@ same-length : tie.Need-same-length
 same-length c = search needs
 
 returns : tie.Need-returns
-returns c = let s = c .before .before .before .before .before .before .before .before .before .before .before .before .before .before
-    .before .before .before .before .before .before .before .before in let at = place (s .args .shelf) (s .args .p) in let i =
-    c .before .before .before .before .before .before .before .before .before .before .before .before .before .before .before .before
-    .before .before .before .place .ensures in let t = c .before .before .before .before .before .before .before .before .before .before
-    .before .before .before .before .before .before .before .before .store .ensures in let p =
-    c .before .before .before .before .before .before .before .before .before .before .before .before .before .before .put2 .ensures in
-    let q = c .before .before .before .before .before .before .before .before .before .before .put22 .ensures in let r =
-    c .before .before .before .before .before .before .put23 .ensures in let u = c .before .before .put24 .ensures in (
-      written (s .args .t .now) at (s .args .ends) i (t .1) (p .1) (q .1) (r .1) (u .1) (t .0) (p .0) (q .0) (r .0) (u .0)
-          (s .args .shelf .n) (s .pre .0 .next),
-      written-changed (s .args .t .now) at (s .args .ends) i (t .1) (p .1) (q .1) (r .1) (u .1),
+returns c =
+    let earlier = c .before .before .before .before .before .before .before .before .before .before in
+    let start = earlier .before .before .before .before .before .before .before .before .before .before .before .before in
+    let begin = earlier .before .before .before .before .before .before .before .before .before .place in
+    let store = earlier .before .before .before .before .before .before .before .before .store in
+    let put2 = earlier .before .before .before .before .put2 in
+    let put22 = c .before .before .before .before .before .before .before .before .before .before .put22 in
+    let put23 = c .before .before .before .before .before .before .put23 in
+    let put24 = c .before .before .put24 in
+    let s = start .args in
+    let at = place (s .shelf) (s .p) in
+    let at-is = begin .ensures in
+    let t = store .ensures in
+    let p = put2 .ensures in
+    let q = put22 .ensures in
+    let r = put23 .ensures in
+    let u = put24 .ensures in (
+      written (s .t .now) at (s .ends) at-is (t .1) (p .1) (q .1) (r .1) (u .1) (t .0) (p .0) (q .0) (r .0) (u .0) (s .shelf .n)
+          (start .pre .0 .next),
+      written-changed (s .t .now) at (s .ends) at-is (t .1) (p .1) (q .1) (r .1) (u .1),
     )
 
 pub write-spec : {M : Type 1} → statement M

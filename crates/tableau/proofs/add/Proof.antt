@@ -1,9 +1,9 @@
--- `tableau::add` puts a word at the end of those known and marks it, unless it is there or there is no room.
+-- `tableau::add` puts a word at the end of those known, marks it and notes where it was found from, unless it is there or there is no room.
 use mathlib.Core.Path.{sym, _∙_}
-use Rattle.tableau.proofs.AreaLaws.{add-known, add-new, add-full}
+use native.Mathlib.Omega.{arith}
+use Rattle.tableau.proofs.KeepLaws.{add-known, add-new, add-full}
 use Rattle.tableau.proofs.SlotLaws.{marked-more}
 use borrow.Author.Needs.{needs}
-use native.Mathlib.Omega.{arith}
 use Rattle.tableau.proofs.add.Statement.{statement}
 use Rattle.tableau.proofs.add.Tie as tie
 
@@ -15,8 +15,10 @@ same-length c = search needs
 
 returns : tie.Need-returns
 returns c =
-    let s = c .before .before .before .before .before in
-    (add-known _ _ (s .pre .0 .fits) (sym (c .before .is-known .ensures) ∙ c .if1 .taken), ((omega arith, omega arith), λ h. s .pre .1))
+    let start = c .before .before .before .before .before .before in (
+      add-known (start .args .new) _ (start .pre .0 .fits) (sym (c .before .is-known .ensures) ∙ c .if1 .taken),
+      ((omega arith, omega arith), λ h. start .pre .1 .0),
+    )
 
 mul-put-number : tie.Need-mul-put-number
 mul-put-number c = search needs
@@ -34,10 +36,13 @@ cast-slots : tie.Need-cast-slots
 cast-slots c = search needs
 
 mul-slots : tie.Need-mul-slots
-mul-slots c = omega (arith, c .slot .ensures)
+mul-slots c = search needs
 
 element-write-slots : tie.Need-element-write-slots
-element-write-slots c = omega (arith, c .slot .ensures)
+element-write-slots c = search needs
+
+note-requires : tie.Need-note-requires
+note-requires c κs = search needs
 
 add-result : tie.Need-add-result
 add-result c = search needs
@@ -45,32 +50,39 @@ add-result c = search needs
 same-length-2 : tie.Need-same-length-2
 same-length-2 c = search needs
 
+same-length-3 : tie.Need-same-length-3
+same-length-3 c = search needs
+
 returns-2 : tie.Need-returns-2
 returns-2 c =
-    let is-known = c .before .before .before .before .before .before .before .is-known in
-    let if1 = c .before .before .before .before .before .before .if1 in
-    let if2 = c .before .before .before .before .before .if2 in
-    let put-number = c .before .before .before .put-number in
-    let s = c .before .before .before .before .before .before .before .before .before .before .before in (
-      add-new _ _ (s .pre .0 .fits) (sym (is-known .ensures) ∙ if1 .left) (if2 .taken) (put-number .ensures),
+    let start =
+        c .before .before .before .before .before .before .before .before .before .before .before .before .before .before
+        .before .before .before in
+    let is-known = c .before .before .before .before .before .before .before .before .before .before .before .before .is-known in
+    let if1 = c .before .before .before .before .before .before .before .before .before .before .before .if1 in
+    let if2 = c .before .before .before .before .before .before .before .before .before .before .if2 in
+    let put-number = c .before .before .before .before .before .before .before .before .put-number in
+    let slot = c .before .before .before .before .before .slot in (
+      add-new (start .args .new) _ (start .pre .0 .fits) (sym (is-known .ensures) ∙ if1 .left) (if2 .taken) (start .pre .1 .1 .1)
+          (put-number .ensures) (c .before .before .note .ensures),
       (
         (omega arith, omega arith),
-        λ h. marked-more (s .args .set) _ (s .pre .1) (omega arith) (omega arith) (c .slot .ensures)
-            (omega arith) (put-number .ensures),
+        λ h. marked-more (start .args .new .set) _ (start .pre .1 .0) (omega arith) (omega arith) (slot .ensures) (omega arith)
+            (put-number .ensures),
       ),
     )
 
 add-result-2 : tie.Need-add-result-2
 add-result-2 c = search needs
 
-same-length-3 : tie.Need-same-length-3
-same-length-3 c = search needs
+same-length-4 : tie.Need-same-length-4
+same-length-4 c = search needs
 
 returns-3 : tie.Need-returns-3
 returns-3 c =
-    let start = c .before .before .before .before .before .before in
+    let start = c .before .before .before .before .before .before .before in
     let is-known = c .before .before .is-known in (
-      add-full _ _ (start .pre .0 .fits) (sym (is-known .ensures) ∙ c .before .if1 .left) (c .if2 .left),
+      add-full (start .args .new) _ (start .pre .0 .fits) (sym (is-known .ensures) ∙ c .before .if1 .left) (c .if2 .left),
       ((omega arith, omega arith), λ h. absurd (omega arith)),
     )
 
@@ -88,9 +100,11 @@ add-spec =
     cast-slots
     mul-slots
     element-write-slots
+    note-requires
     add-result
     same-length-2
+    same-length-3
     returns-2
     add-result-2
-    same-length-3
+    same-length-4
     returns-3)

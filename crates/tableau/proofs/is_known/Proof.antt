@@ -2,7 +2,7 @@
 use mathlib.Core.Path.{sym, _∙_}
 use Prim.Native.Nat.{_-_}
 use native.Mathlib.Omega.{arith}
-use Rattle.tableau.proofs.AreaLaws.{found-member}
+use Rattle.tableau.proofs.AreaLaws.{found-member, absent-member}
 use Rattle.tableau.proofs.SlotLaws.{unmarked, stands}
 use borrow.Author.Needs.{needs}
 use Rattle.tableau.proofs.is_known.Statement.{statement}
@@ -12,10 +12,10 @@ slot-requires : tie.Need-slot-requires
 slot-requires c κs = search needs
 
 mul-wide16 : tie.Need-mul-wide16
-mul-wide16 c = omega (arith, c .slot .ensures)
+mul-wide16 c = search needs
 
 element-copy-out-wide16 : tie.Need-element-copy-out-wide16
-element-copy-out-wide16 c = omega (arith, c .slot .ensures)
+element-copy-out-wide16 c = search needs
 
 wide16-requires : tie.Need-wide16-requires
 wide16-requires c κs = search needs
@@ -26,8 +26,8 @@ returns c =
     let slot = c .before .before .before .slot in
     sym (unmarked _ (start .pre .1) (slot .ensures) (c .before .wide16 .ensures) (c .if1 .taken))
 
-sub-t14 : tie.Need-sub-t14
-sub-t14 c = search needs
+sub-t13 : tie.Need-sub-t13
+sub-t13 c = search needs
 
 node-requires : tie.Need-node-requires
 node-requires c κs = search needs
@@ -42,8 +42,23 @@ returns-2 c =
 find-requires : tie.Need-find-requires
 find-requires c κs = search needs
 
+enum-told : tie.Need-enum-told
+enum-told c = c .match .keys1
+
+enum-told-2 : tie.Need-enum-told-2
+enum-told-2 c = c .match .keys2
+
 returns-3 : tie.Need-returns-3
-returns-3 c = found-member _ _ _ (c .before .find .ensures)
+returns-3 c =
+    let a = c .before .before .before .before .before .before .before .before .before .args in
+    let find = c .before .before .find in
+    found-member (a .area .now) (a .known) (a .set) (c .enum-told .given .0 .0) (find .ensures) (c .enum-told .given .1)
+
+returns-4 : tie.Need-returns-4
+returns-4 c =
+    let a = c .before .before .before .before .before .before .before .before .before .args in
+    let find = c .before .before .find in
+    absent-member (a .area .now) (a .known) (a .set) (find .ensures) (c .enum-told2 .given .1)
 
 pub is-known-spec : {M : Type 1} → statement M
 is-known-spec =
@@ -54,8 +69,11 @@ is-known-spec =
     element-copy-out-wide16
     wide16-requires
     returns
-    sub-t14
+    sub-t13
     node-requires
     returns-2
     find-requires
-    returns-3)
+    enum-told
+    enum-told-2
+    returns-3
+    returns-4)

@@ -58,16 +58,6 @@ mark-requires-3 c κs =
     let small = found-fits (read .ensures) 48 (c .before .before .before .before .before .o2 .given .1) (start .pre .0 .fits) in
     omega (arith, c .mark-arg3 .given .0 .1, small .1)
 
-returns-2 : tie.Need-returns-2
-returns-2 c =
-    let first = c .before .before .mark2 in
-    let if2 = c .before .before .before .before .if2 in
-    let pair = c .before .before .before .before .before .before .o2 in
-    let read = c .before .before .before .before .before .before .before .before .operator-at in
-    let start = c .before .before .before .before .before .before .before .before .before .before .before in
-    pass-and (read .ensures) _ (start .args .s .0) _ (start .args .marks .now) (c .mark3 .last .0) (pair .given .1)
-    (not-true _ (if2 .taken)) (first .last .0) (first .ensures) (c .mark3 .ensures)
-
 has-requires : tie.Need-has-requires
 has-requires c κs = search needs
 
@@ -77,17 +67,6 @@ mark-requires-4 c κs =
     let start = c .before .before .before .before .before .before .before .before .before .before in
     let small = found-fits (read .ensures) 48 (c .before .before .before .before .before .o2 .given .1) (start .pre .0 .fits) in
     omega (arith, c .mark-arg4 .given .0 .1, small .1)
-
-returns-3 : tie.Need-returns-3
-returns-3 c =
-    let if3 = c .before .before .if3 in
-    let has = c .before .before .before .has in
-    let if2 = c .before .before .before .before .if2 in
-    let pair = c .before .before .before .before .before .before .o2 in
-    let read = c .before .before .before .before .before .before .before .before .operator-at in
-    let start = c .before .before .before .before .before .before .before .before .before .before .before in
-    pass-or (read .ensures) _ (start .args .s .0) _ (start .args .marks .now) (c .mark4 .last .0) (pair .given .1)
-    (not-false _ (if2 .left)) true (sym (has .ensures) ∙ if3 .taken) (c .mark4 .ensures)
 
 mark-requires-5 : tie.Need-mark-requires-5
 mark-requires-5 c κs =
@@ -125,25 +104,46 @@ mark-requires-6 c κs =
     let small = found-fits (read .ensures) 48 (c .before .before .before .before .before .before .o3 .given .1) (start .pre .0 .fits) in
     omega (arith, c .mark-arg6 .given .0 .1, small)
 
-returns-4 : tie.Need-returns-4
-returns-4 c =
+returns-2 : tie.Need-returns-2
+returns-2 c =
     let start = c .before .before .before .before .before in
     pass-none (c .before .before .operator-at .ensures) _ (start .args .s .0) _ (start .args .marks .now) (start .args .marks .now)
     (c .enum-told .given .1) refl refl refl
 
-returns-5 : tie.Need-returns-5
-returns-5 c =
+returns-3 : tie.Need-returns-3
+returns-3 c =
     let start = c .before .before .before .before .before in
     pass-none (c .before .before .operator-at .ensures) _ (start .args .s .0) _ (start .args .marks .now) (start .args .marks .now)
     (c .enum-told2 .given .1) refl refl refl
 
-returns-6 : tie.Need-returns-6
-returns-6 c =
+returns-4 : tie.Need-returns-4
+returns-4 c =
     let variable = c .before .before .before .o in
     let read = c .before .before .before .before .before .operator-at in
     let start = c .before .before .before .before .before .before .before .before in
     pass-variable (read .ensures) _ (start .args .s .0) _ (start .args .marks .now) (c .mark .last .0) (variable .given .1)
     (c .mark .ensures)
+
+returns-5 : tie.Need-returns-5
+returns-5 c =
+    let first = c .before .before .mark2 in
+    let if2 = c .before .before .before .before .if2 in
+    let pair = c .before .before .before .before .before .before .o2 in
+    let read = c .before .before .before .before .before .before .before .before .operator-at in
+    let start = c .before .before .before .before .before .before .before .before .before .before .before in
+    pass-and (read .ensures) _ (start .args .s .0) _ (start .args .marks .now) (c .mark3 .last .0) (pair .given .1)
+    (not-true _ (if2 .taken)) (first .last .0) (first .ensures) (c .mark3 .ensures)
+
+returns-6 : tie.Need-returns-6
+returns-6 c =
+    let if3 = c .before .before .if3 in
+    let has = c .before .before .before .has in
+    let if2 = c .before .before .before .before .if2 in
+    let pair = c .before .before .before .before .before .before .o2 in
+    let read = c .before .before .before .before .before .before .before .before .operator-at in
+    let start = c .before .before .before .before .before .before .before .before .before .before .before in
+    pass-or (read .ensures) _ (start .args .s .0) _ (start .args .marks .now) (c .mark4 .last .0) (pair .given .1)
+    (not-false _ (if2 .left)) true (sym (has .ensures) ∙ if3 .taken) (c .mark4 .ensures)
 
 returns-7 : tie.Need-returns-7
 returns-7 c =
@@ -187,10 +187,8 @@ passing-spec =
     enum-known-o-2
     mark-requires-2
     mark-requires-3
-    returns-2
     has-requires
     mark-requires-4
-    returns-3
     mark-requires-5
     enum-told-3
     enum-known-o-3
@@ -199,6 +197,8 @@ passing-spec =
     bit8-requires
     minima-requires
     mark-requires-6
+    returns-2
+    returns-3
     returns-4
     returns-5
     returns-6

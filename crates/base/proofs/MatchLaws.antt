@@ -1,28 +1,29 @@
--- The search that numbers what it finds and the search that keeps whole ways find the same, in the same order. `Codes` says which vertex
--- of the one stands for which of the other, one for one; `Matches` says of two lists of items that at equal numbers stand vertices that
--- stand for each other, that a parent comes before its item, and that an item's way has the letters of its parent's way and then its
--- label. A turn of the one keeps up with a turn of the other (`adds-matches`), also where the first goes on by fewer edges, if what the
--- missing ones lead to is among the rest (`Thins`). Assumes nothing.
+-- The search over one list (specs/Spread.antt) and the search that keeps whole ways (specs/Search.antt) find the same, in the same order.
+-- `Codes` says which vertex of the one stands for which of the other, one for one; `Matches` says of two lists of items that at equal
+-- numbers stand vertices that stand for each other, that a parent comes before its item, and that an item's way has the letters of its
+-- parent's way and then its own: what `own` says, so that a start may have a label or an empty way. A turn of the one keeps up with a turn
+-- of the other (`adds-matches`), also where the first goes on by fewer edges, if what the missing ones lead to is among the rest (`Thins`).
+-- So the searches match (`search-matches`), and the labels along the parents are those of the way (`labels-letters`). Assumes nothing.
 use mathlib.Core.Path.{_≡_, refl, sym, ap, subst, subst⁻¹, _∙_}
-use mathlib.Core.Logic.{_⊎_, inl, inr}
+use mathlib.Core.Logic.{inl, inr}
 use mathlib.Core.Bool.{Bool, cond}
-use mathlib.Core.List.{List, [], _∷_, _++_, map, append-nil, append-assoc, List·Memᴰ, List·Memᴰ·head, List·Memᴰ·tail}
+use mathlib.Core.List.{List, [], _∷_, _++_, map, map-append, append-nil, append-assoc, List·Memᴰ, List·Memᴰ·head}
 use mathlib.Core.List.{List·Memᴰ·not-nil, List·Memᴰ·cases-cons, List·Memᴰ·append-cases, List·Memᴰ·eq-of-singleton, Memᴰ·append-left}
-use mathlib.Core.List.{Memᴰ·append-right}
+use mathlib.Core.List.{List·Memᴰ·tail, Memᴰ·append-right}
 use Prim.Native.Nat.{ℕ, zero, suc, _+_, _≤_, _<_}
 use native.Mathlib.Omega.{arith}
 use lib.Dec.{T}
-use lib.ListN.{length, length-append, drop}
+use lib.ListN.{length, length-append}
 use Rattle.base.specs.Lists.{any}
 use Rattle.base.specs.Search.{Edge, Item, seen-in, fresh, walk, search-from}
 use Rattle.base.proofs.BoolLaws.{by-test, of-T}
 use Rattle.base.proofs.TestLaws.{same-truth}
 use Rattle.base.proofs.MemberLaws.{any-of, any-in}
-use Rattle.base.proofs.At.{At, at-lt, at-left, at-next, at-split, at-drop}
+use Rattle.base.proofs.At.{At, at-lt, at-one, at-some, at-left, at-next, at-split}
 use Rattle.base.proofs.Pairs.{Pairs}
 use Rattle.base.proofs.SearchLaws.{Visits, visits-cons, onwards, new-items, seen-visits, regroup}
-use Rattle.coded.specs.Spread.{Numbered, seen, adds, spread, spread-on}
-use Rattle.coded.proofs.SpreadLaws.{spread-done}
+use Rattle.base.specs.Spread.{Numbered, seen, adds, spread, labels-to, Linked}
+use Rattle.base.proofs.SpreadLaws.{spread-done, spread-step, labels-next}
 
 any-ext : {A : Type 0} (q : A → Bool) (xs ys : List A) → ((x : A) → List·Memᴰ x xs → List·Memᴰ x ys) → T (any q xs) → T (any q ys)
 any-ext q xs ys f h = let (a, m, k) = any-of q xs h in any-in q (f a m) k
@@ -54,40 +55,34 @@ walk-length same edges (suc fuel) done (x ∷ queue) =
     let new = new-items same edges x done queue in
     omega (arith, walk-length same edges fuel (done ++ (x ∷ [])) (queue ++ new), length-append done (x ∷ []), length-append queue new)
 
--- the labels along the parents, up to the item whose number is one less than p: its own label comes last
-module _ {M J : Type 0} where
-  abbrev after : (ℕ → List M) → List (Numbered M J) → List M
-  after go [] = []
-  after go (x ∷ xs) = go (x .parent) ++ (x .label ∷ [])
-
-  abbrev labels-upto : ℕ → List (Numbered M J) → ℕ → List M
-  labels-upto zero xs p = []
-  labels-upto (suc fuel) xs zero = []
-  labels-upto (suc fuel) xs (suc i) = after (labels-upto fuel xs) (drop i xs)
-
-  abbrev pub labels-to : List (Numbered M J) → ℕ → List M
-  labels-to xs p = labels-upto p xs p
-
-  labels-none : (fuel : ℕ) (xs : List (Numbered M J)) → labels-upto fuel xs 0 ≡ []
-  labels-none zero xs = refl
-  labels-none (suc fuel) xs = refl
-
--- Two searches: J, M are the vertices and labels of the one that numbers, K, L those of the one that keeps ways.
-module _ {L K M J : Type 0} (letter : L → M) (Codes : J → K → Type 0) where
+-- Two searches: J, M are the vertices and labels of the one over one list, K, L those of the one that keeps ways.
+module _ {L K M J : Type 0} (letter : L → M) (own : Numbered M J → List M) (Codes : J → K → Type 0) where
   abbrev pub letters : Item L K → List M
   letters y = map letter (y .way)
 
-  -- y's way, if ys are the items before it: a start's has one letter, any other goes on from its parent's
-  abbrev pub Continues : List (Item L K) → Numbered M J → Item L K → Type 0
-  Continues ys x y = (p : Item L K) × (i : ℕ) × (x .parent ≡ suc i) × At ys i p × (letters y ≡ letters p ++ (x .label ∷ []))
+  -- the letters of the way to the item whose number is one less, if ys are the items: before a start there are none
+  pub data Before (ys : List (Item L K)) : ℕ → List M → Type 0 where
+    start : Before ys 0 []
+    item : {i : ℕ} {y : Item L K} → At ys i y → Before ys (suc i) (letters y)
 
+  before-more : {ys : List (Item L K)} (zs : List (Item L K)) {k : ℕ} {ls : List M} → Before ys k ls → Before (ys ++ zs) k ls
+  before-more zs start = start
+  before-more zs (item a) = item (at-left zs a)
+
+  before-low : {ys : List (Item L K)} {k : ℕ} {ls : List M} → Before ys k ls → k ≤ length ys
+  before-low start = omega arith
+  before-low (item a) = omega (arith, at-lt a)
+
+  -- x stands for y, if ys are the items before it
   pub record Follows (ys : List (Item L K)) (x : Numbered M J) (y : Item L K) : Type 0 where
     pub codes : Codes (x .at) (y .at)
-    pub way : ((x .parent ≡ 0) × (letters y ≡ x .label ∷ [])) ⊎ Continues ys x y
+    pub before : List M
+    pub parent : Before ys (x .parent) before
+    pub way : letters y ≡ before ++ own x
 
   pub follows-more : (ys zs : List (Item L K)) (x : Numbered M J) (y : Item L K) → Follows ys x y → Follows (ys ++ zs) x y
   follows-more ys zs x y f =
-      record { codes = f .codes; way = elim (f .way) [ inl h ↦ inl h | inr g ↦ inr (g .0, g .1, g .2, at-left zs (g .3), g .4) ] }
+      record { codes = f .codes; before = f .before; parent = before-more zs (f .parent); way = f .way }
 
   pub data Matches : List (Numbered M J) → List (Item L K) → Type 0 where
     none : Matches [] []
@@ -119,35 +114,41 @@ module _ {L K M J : Type 0} (letter : L → M) (Codes : J → K → Type 0) wher
           x,
           subst⁻¹ (λ (n : ℕ). At (xs ++ (x ∷ [])) n x) (b .0 ∙ sym (matches-length m)) (at-next xs x []),
           subst⁻¹ (λ (w : Item L K). Follows (ys ++ (y ∷ [])) x w) (b .1) (follows-more ys (y ∷ []) x y f),
-          parent-before f (b .0),
+          omega (arith, before-low (f .parent), b .0),
         )
       ]
+
+  -- a way's letters are the labels along the parents, where `of` gives the item of each number
+  module _ {xs : List (Numbered M J)} {ys : List (Item L K)} (m : Matches xs ys) (of : ℕ → Numbered M J)
+      (stands : (i : ℕ) → i < length xs → At xs i (of i))
     where
-      parent-before : {zs : List (Item L K)} {x : Numbered M J} {y : Item L K} {i : ℕ} → Follows zs x y → i ≡ length zs → x .parent ≤ i
-      parent-before f e = elim (f .way) [ inl h ↦ omega (arith, h .0) | inr g ↦ omega (arith, g .2, at-lt (g .3)) ]
+      -- each item follows its counterpart
+      counterpart : {i : ℕ} {y : Item L K} → At ys i y → Follows ys (of i) y × (of i .parent ≤ i)
+      counterpart {i} {y} a =
+          let (x, b, f, l) = matches-at m a in
+          subst (λ (z : Numbered M J). Follows ys z y × (z .parent ≤ i)) (at-one b (stands i (at-lt b))) (f, l)
 
-  -- a way's letters are the labels along the parents
-  upto-letters : (fuel : ℕ) {xs : List (Numbered M J)} {ys : List (Item L K)} → Matches xs ys → {i : ℕ} {y : Item L K} → At ys i y
-      → i < fuel
-      → labels-upto fuel xs (suc i) ≡ letters y
-  upto-letters zero m a l = absurd (omega arith)
-  upto-letters (suc fuel) {xs} {ys} m {i} {y} a l =
-      let (x, b, f, h) = matches-at m a in
-      let (zs, d) = at-drop b in
-      ap (after (labels-upto fuel xs)) d
-      ∙ elim (f .way) [
-        | inl e ↦
-            ap (λ (n : ℕ). labels-upto fuel xs n ++ (x .label ∷ [])) (e .0)
-            ∙ ap (λ (s : List M). s ++ (x .label ∷ [])) (labels-none fuel xs) ∙ sym (e .1)
-        | inr e ↦
-            ap (λ (n : ℕ). labels-upto fuel xs n ++ (x .label ∷ [])) (e .2)
-            ∙ ap (λ (s : List M). s ++ (x .label ∷ [])) (upto-letters fuel m (e .3) (omega (arith, e .2)))
-            ∙ sym (e .4)
-      ]
+      pub matches-linked : Linked of (length xs)
+      matches-linked i h =
+          let (y, a) = at-some ys i (omega (arith, matches-length m)) in
+          counterpart a .1
 
-  pub labels-letters : {xs : List (Numbered M J)} {ys : List (Item L K)} → Matches xs ys → {i : ℕ} {y : Item L K} → At ys i y
-      → labels-to xs (suc i) ≡ letters y
-  labels-letters m {i} a = upto-letters (suc i) m a (omega arith)
+      -- given what holds up to each earlier item
+      up-to : (i : ℕ) → ((j : ℕ) (z : Item L K) → At ys j z → j < i → labels-to own of (suc j) ≡ letters z) → {k : ℕ} {ls : List M}
+          → Before ys k ls → k ≤ i → labels-to own of k ≡ ls
+      up-to i f start h = refl
+      up-to i f (item {i = j} {y = z} a) h = f j z a (omega arith)
+
+      labels-below : (bound i : ℕ) (y : Item L K) → At ys i y → i < bound → labels-to own of (suc i) ≡ letters y
+      labels-below zero i y a h = absurd (omega arith)
+      labels-below (suc bound) i y a h =
+          let (f, l) = counterpart a in
+          labels-next own of matches-linked i (omega (arith, at-lt a, matches-length m))
+          ∙ ap (λ (ls : List M). ls ++ own (of i)) (up-to i (λ j z b k. labels-below bound j z b (omega arith)) (f .parent) l)
+          ∙ sym (f .way)
+
+      pub labels-letters : {i : ℕ} {y : Item L K} → At ys i y → labels-to own of (suc i) ≡ letters y
+      labels-letters {i} {y} a = labels-below (suc i) i y a (omega arith)
 
   module _ (same : K → K → Bool) (edges : K → List (Edge L K)) (sound : (a b : K) → T (same a b) → a ≡ b)
       (reflexive : (a : K) → T (same a a))
@@ -261,19 +262,16 @@ module _ {L K M J : Type 0} (letter : L → M) (Codes : J → K → Type 0) wher
               let new = new-items same edges y done queue in
               let here = at-next done y queue in
               let (x, a, f, l) = matches-at m here in
-              let (rest, e) = at-drop a in
               let longer = length-append done (y ∷ []) in
-              let both : Matches (adds same′ xs (onward′ (length done) x)) (all ++ new) =
+              let more = adds same′ xs (onward′ (length done) x) in
+              let both : Matches more (all ++ new) =
               adds-matches (expands all (length done) x y here (f .codes)) m (λ z w g. g) (λ j v. absurd (List·Memᴰ·not-nil (v .1))) in
-              subst⁻¹ (λ (l : List (Numbered M J)). Matches
-              (spread-on same′ onward′ (spread same′ onward′ fuel′ (suc (length done))) (length done) xs l)
-              (walk same edges fuel (done ++ (y ∷ [])) (queue ++ new))) e
-              (subst (λ (n : ℕ). Matches (spread same′ onward′ fuel′ n (adds same′ xs (onward′ (length done) x)))
-              (walk same edges fuel (done ++ (y ∷ [])) (queue ++ new)))
+              subst⁻¹ (λ (l : List (Numbered M J)). Matches l (walk same edges fuel (done ++ (y ∷ [])) (queue ++ new)))
+              (spread-step same′ onward′ fuel′ (length done) xs a)
+              (subst (λ (n : ℕ). Matches (spread same′ onward′ fuel′ n more) (walk same edges fuel (done ++ (y ∷ [])) (queue ++ new)))
               {x = length (done ++ (y ∷ []))} {y = suc (length done)} (omega arith)
-              (walk-matches fuel fuel′ (done ++ (y ∷ [])) (queue ++ new) (adds same′ xs (onward′ (length done) x))
-              (subst⁻¹ (Matches (adds same′ xs (onward′ (length done) x))) (regroup same edges y done queue new) both) (omega arith)
-              (omega arith)))
+              (walk-matches fuel fuel′ (done ++ (y ∷ [])) (queue ++ new) more
+              (subst⁻¹ (Matches more) (regroup same edges y done queue new) both) (omega arith) (omega arith)))
 
           -- from candidates for the starts, one for one
           pub search-matches : (fuel fuel′ : ℕ) (starts : List (Item L K)) (es : List (Numbered M J)) → Thins [] [] es starts
@@ -284,8 +282,17 @@ module _ {L K M J : Type 0} (letter : L → M) (Codes : J → K → Type 0) wher
               (adds-matches r none (λ z w g. g) (λ j v. v)) (omega arith) (omega arith)
 
 -- candidates that are paired one for one
-pub pairs-thins : {L K M J : Type 0} {letter : L → M} {Codes : J → K → Type 0} {all : List (Item L K)} {xs : List (Numbered M J)}
-    {ys : List (Item L K)}
-    → Pairs (Follows letter Codes all) xs ys → (s : List (Item L K)) → Thins letter Codes all s xs ys
+pub pairs-thins : {L K M J : Type 0} {letter : L → M} {own : Numbered M J → List M} {Codes : J → K → Type 0} {all : List (Item L K)}
+    {xs : List (Numbered M J)} {ys : List (Item L K)}
+    → Pairs (Follows letter own Codes all) xs ys → (s : List (Item L K)) → Thins letter own Codes all s xs ys
 pairs-thins Pairs.none s = Thins.none
 pairs-thins (Pairs.more {y = y} f p) s = Thins.both f (pairs-thins p (y ∷ s))
+
+-- where a vertex stands for itself, the vertices are the same
+pub matches-vertices : {L K M : Type 0} (letter : L → M) (own : Numbered M K → List M) {xs : List (Numbered M K)} {ys : List (Item L K)}
+    → Matches letter own (λ j k. j ≡ k) xs ys → map (λ (x : Numbered M K). x .at) xs ≡ map (λ (y : Item L K). y .at) ys
+matches-vertices letter own none = refl
+matches-vertices {L} {K} {M} letter own (more {xs} {ys} {x} {y} m f) =
+    map-append (λ (z : Numbered M K). z .at) xs (x ∷ [])
+    ∙ (λ i. matches-vertices letter own m i ++ (f .codes i ∷ []))
+    ∙ sym (map-append (λ (z : Item L K). z .at) ys (y ∷ []))

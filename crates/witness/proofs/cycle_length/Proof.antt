@@ -1,14 +1,14 @@
--- `decision::length_of` follows the profiles that profile p goes on from. The invariant: those counted and those to go are all.
-use Prim.Native.Nat.{_+_}
+-- `witness::cycle_length` follows the profiles that profile p goes on from. The invariant: the letters counted and those to go are all.
+use Prim.Native.Nat.{suc}
 use native.Mathlib.Omega.{arith}
 use borrow.Author.Needs.{needs}
 use Rattle.runs.specs.Stored.{record-of}
-use Rattle.decision.proofs.ChainLaws.{Counted, counted-start, counted-room, counted-next, counted-less, counted-end}
-use Rattle.decision.proofs.length_of.Statement.{statement}
-use Rattle.decision.proofs.length_of.Tie as tie
+use Rattle.witness.proofs.ChainLaws.{Counted, counted-start, counted-room, counted-next, counted-less, counted-end}
+use Rattle.witness.proofs.cycle_length.Statement.{statement}
+use Rattle.witness.proofs.cycle_length.Tie as tie
 
 abbrev Inv-loop : tie.InvT-loop
-Inv-loop area shelf p n₀ at₀ n at = Counted (record-of shelf area) p n at
+Inv-loop area shelf p n₀ at₀ n at = Counted (record-of shelf area) (suc p) n at
 
 abbrev μ-loop : tie.MeasureT-loop
 μ-loop area shelf p n₀ at₀ n at = at
@@ -19,19 +19,13 @@ add-at c = search needs
 loop-holds : tie.Need-loop-holds Inv-loop μ-loop
 loop-holds c =
     let u = c .before in
-    counted-start (record-of (u .args .shelf) (u .args .area .now)) (u .args .p) (u .args .p + 1) (omega arith)
+    counted-start (record-of (u .args .shelf) (u .args .area .now)) (suc (u .args .p)) (omega arith)
 
 add-n : tie.Need-add-n Inv-loop μ-loop
 add-n c =
     let u = c .before .before .before in
-    record {
-      fits = omega (
-        arith,
-        counted-room (record-of (u .args .shelf) (u .args .area .now)) (u .pre .1 .1) (c .before .loop .inv),
-        u .pre .1 .0,
-        u .pre .0 .few,
-      );
-    }
+    let few = counted-room (record-of (u .args .shelf) (u .args .area .now)) (u .pre .linked) (c .before .loop .inv) in
+    record { fits = omega (arith, u .pre .below, u .pre .lent .few) }
 
 sub-ends-of : tie.Need-sub-ends-of Inv-loop μ-loop
 sub-ends-of c = search needs
@@ -39,29 +33,29 @@ sub-ends-of c = search needs
 ends-of-requires : tie.Need-ends-of-requires Inv-loop μ-loop
 ends-of-requires c κs =
     let u = c .before .before .before in
-    (u .pre .0, omega (arith, c .before .loop .inv .low, u .pre .1 .0))
+    (u .pre .lent, omega (arith, c .before .loop .inv .low, u .pre .below))
 
 loop-less : tie.Need-loop-less Inv-loop μ-loop
 loop-less c =
     let loop = c .before .before .loop in
     let u = c .before .before .before .before in
-    counted-less (record-of (u .args .shelf) (u .args .area .now)) (u .pre .1 .1) (loop .inv) (omega arith)
+    counted-less (record-of (u .args .shelf) (u .args .area .now)) (u .pre .linked) (loop .inv) (omega arith)
     (c .ends-of .ensures .parent)
 
 loop-again : tie.Need-loop-again Inv-loop μ-loop
 loop-again c =
     let loop = c .before .before .loop in
     let u = c .before .before .before .before in
-    counted-next (record-of (u .args .shelf) (u .args .area .now)) (u .pre .1 .1) (loop .inv) (omega arith)
+    counted-next (record-of (u .args .shelf) (u .args .area .now)) (u .pre .linked) (loop .inv) (omega arith)
     (c .ends-of .ensures .parent)
 
 returns : tie.Need-returns Inv-loop μ-loop
 returns c =
     let u = c .before .before .before in
-    counted-end (record-of (u .args .shelf) (u .args .area .now)) (u .pre .1 .1) (c .before .loop .inv) (omega arith)
+    counted-end (record-of (u .args .shelf) (u .args .area .now)) (u .pre .linked) (c .before .loop .inv) (omega arith)
 
-pub length-of-spec : {M : Type 1} → statement M
-length-of-spec =
+pub cycle-length-spec : {M : Type 1} → statement M
+cycle-length-spec =
     tie.close
     (tie.spec
     Inv-loop

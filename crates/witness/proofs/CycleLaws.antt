@@ -1,0 +1,31 @@
+-- The letters along the profiles that are kept are those of a profile's way, where the profiles agree with the definition's one for one.
+-- Assumes nothing.
+use mathlib.Core.Path.{_≡_}
+use mathlib.Core.List.{List}
+use Prim.Native.Nat.{ℕ, suc, _<_}
+use native.Mathlib.Omega.{arith}
+use lib.ListN.{length}
+use Rattle.base.specs.Spread.{Linked}
+use Rattle.base.proofs.At.{At}
+use Rattle.formula.specs.Table.{Table}
+use Rattle.coded.proofs.RunLaws.{Listed}
+use Rattle.coded.proofs.AgreeLaws.{letters-of, Agrees, Agreed}
+use Rattle.runs.specs.Stored.{stored, record-of}
+use Rattle.runs.specs.declared.Shelf.{Shelf}
+use Rattle.runs.proofs.GrowLaws.{stored-length, record-at}
+use Rattle.witness.specs.Letters.{cycle-letters}
+
+module _ (s : Shelf) (area : List ℕ) (P : ℕ) {t : Table} {ys : List Listed} (a : Agrees t (stored s area P) ys) where
+  stands : (i : ℕ) → i < length (stored s area P) → At (stored s area P) i (record-of s area i)
+  stands i h = record-at s area P i (omega (arith, stored-length s area P))
+
+  -- profile i and its counterpart
+  abbrev pub counterpart : (i : ℕ) → i < P → Agreed t ys i (record-of s area i)
+  counterpart i h = a .each i (record-of s area i) (record-at s area P i h)
+
+  pub agreed-linked : (p : ℕ) → p < P → Linked (record-of s area) (suc p)
+  agreed-linked p h i l = a .linked (record-of s area) stands i (omega (arith, stored-length s area P))
+
+  -- Theorem: the letters along the profiles are those of the way.
+  pub cycle-is : (p : ℕ) (h : p < P) → cycle-letters s area p ≡ letters-of (counterpart p h .item)
+  cycle-is p h = a .letters (record-of s area) stands p (counterpart p h .item) (counterpart p h .stands)

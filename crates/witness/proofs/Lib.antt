@@ -1,0 +1,4 @@
+pub mod ChainLaws
+pub mod WriteLaws
+pub mod StemLaws
+pub mod CycleLaws
