@@ -80,10 +80,6 @@ pub inside-repeat : (n : ℕ) (f g : List Bool → List Bool) → ((s t : List B
 inside-repeat zero f g h r = r
 inside-repeat (suc n) f g h {s} {t} r = inside-repeat n f g h (h s t r)
 
-pub toward-refl : (g : Bool) (s : List Bool) → Toward g s s
-toward-refl true s = inside-refl s
-toward-refl false s = inside-refl s
-
 pub toward-trans : (g : Bool) (s t u : List Bool) → Toward g s t → Toward g t u → Toward g s u
 toward-trans true s t u h k = inside-trans k h
 toward-trans false s t u h k = inside-trans h k

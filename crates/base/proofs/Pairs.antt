@@ -20,10 +20,6 @@ module _ {A B : Type 0} {P : A → B → Type 0} where
   pairs-append Pairs.none q = q
   pairs-append (more h p) q = more h (pairs-append p q)
 
-  pub pairs-length : {xs : List A} {ys : List B} → Pairs P xs ys → length xs ≡ length ys
-  pairs-length Pairs.none = refl
-  pairs-length (more h p) = ap suc (pairs-length p)
-
 pub pairs-maps : {A B C : Type 0} {P : A → B → Type 0} (f : C → A) (g : C → B) (xs : List C) → ((x : C) → List·Memᴰ x xs → P (f x) (g x))
     → Pairs P (map f xs) (map g xs)
 pairs-maps f g [] h = Pairs.none

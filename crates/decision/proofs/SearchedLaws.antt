@@ -36,7 +36,7 @@ use Rattle.decision.specs.Lends.{Lends}
 use Rattle.runs.proofs.SingleLaws.{nodes-in-are, node-in-are, node-sets}
 use Rattle.witness.specs.Letters.{over}
 use Rattle.decision.specs.Promise.{node-count, profile-count}
-use Rattle.decision.specs.Searched.{Decoded, Profiled, Answers, concluded, Within, Searched}
+use Rattle.decision.specs.Searched.{Decoded, Stands-behind, Profiled, Answers, concluded, Within, Searched}
 use Rattle.decision.specs.declared.Verdict as code
 use Rattle.decision.specs.declared.Verdict.the-variants.{Refused}
 use Rattle.decision.proofs.ConcludeLaws.{decoded-agrees}
@@ -123,9 +123,7 @@ pub record Behind (rows : List ℕ) (count N M buffer : ℕ) (a area origins : L
   pub notes-are : Origins (table-of rows count) origins known
   pub notes-room : 2 * N ≤ length origins
   pub ranks : Ranks-of rows count r
-  pub base-is : s .base ≡ 8 * N
-  pub capacity-is : s .capacity ≡ M
-  pub nexts-are : s .n ≡ r .nexts
+  pub shelf-is : Stands-behind N M (r .nexts) s
 
 module _ {rows : List ℕ} {count N M buffer : ℕ} {a area origins : List ℕ} {known : ℕ} {r : Ranks} {s : Shelf}
     (b : Behind rows count N M buffer a area origins known r s) where
@@ -165,11 +163,11 @@ module _ {rows : List ℕ} {count N M buffer : ℕ} {a area origins : List ℕ} 
   on-shelf : (x : List ℕ) → length x ≡ length a → Lent s (length x)
   on-shelf x e =
       record {
-        next = omega (arith, b .nexts-are, b .ranks .nexts-are, limited .few-nexts);
-        low = omega (arith, b .base-is, b .lends .capacity .few-nodes);
-        some = omega (arith, b .capacity-is, b .lends .capacity .some-profiles);
-        few = omega (arith, b .capacity-is, b .lends .capacity .few-profiles);
-        enough = omega (arith, b .base-is, ap (λ (k : ℕ). 192 * k) (b .capacity-is), b .lends .workspace-fits, e);
+        next = omega (arith, b .shelf-is .nexts-are, b .ranks .nexts-are, limited .few-nexts);
+        low = omega (arith, b .shelf-is .base-is, b .lends .capacity .few-nodes);
+        some = omega (arith, b .shelf-is .capacity-is, b .lends .capacity .some-profiles);
+        few = omega (arith, b .shelf-is .capacity-is, b .lends .capacity .few-profiles);
+        enough = omega (arith, b .shelf-is .base-is, ap (λ (k : ℕ). 192 * k) (b .shelf-is .capacity-is), b .lends .workspace-fits, e);
       }
 
   pub given : Given rows count r s known area
@@ -178,10 +176,10 @@ module _ {rows : List ℕ} {count N M buffer : ℕ} {a area origins : List ℕ} 
         limited = limited;
         ranks = b .ranks;
         lent = on-shelf area same-length;
-        nexts = b .nexts-are;
+        nexts = b .shelf-is .nexts-are;
         some = omega (arith, known-is, ap length (nodes-first table′));
         few = omega (arith, b .fits, b .lends .capacity .few-nodes);
-        behind = omega (arith, b .fits, b .base-is);
+        behind = omega (arith, b .fits, b .shelf-is .base-is);
         sets = λ i h. node-sets sized kept i (omega (arith, known-length));
         closed = closed;
       }
@@ -195,7 +193,7 @@ module _ {rows : List ℕ} {count N M buffer : ℕ} {a area origins : List ℕ} 
     grown : Grown s 0 area all after (profiles fuel table′ (reachable table′))
     grown =
         subst (λ (l : List Subset). Grown s 0 area all after (profiles fuel table′ l))
-        nodes-are (g fuel (omega (arith, b .capacity-is)))
+        nodes-are (g fuel (omega (arith, b .shelf-is .capacity-is)))
 
     profiles-length : length (profiles fuel table′ (reachable table′)) ≡ profile-count table′
     profiles-length = decoded-agrees (b .decoded) fuel (omega arith) .count
@@ -204,18 +202,18 @@ module _ {rows : List ℕ} {count N M buffer : ℕ} {a area origins : List ℕ} 
     all-within =
         within-of (grown .elsewhere .same-length ∙ same-length)
         (λ i h.
-        grown .elsewhere .beyond i (omega (arith, b .base-is, ap (λ (k : ℕ). 192 * k) (b .capacity-is)))
+        grown .elsewhere .beyond i (omega (arith, b .shelf-is .base-is, ap (λ (k : ℕ). 192 * k) (b .shelf-is .capacity-is)))
         ∙ area-beyond (b .decoded) (b .lends) (b .holds) i (omega arith))
 
     -- Theorem: without room for all profiles the answer is 15.
     pub profiles-15 : M < all → (letters : List ℕ) → Searched table′ N M a after letters letters (Refused 15)
     profiles-15 h letters =
         searched-15 N M table′ letters (omega (arith, known-is, b .fits))
-        (omega (arith, grown .count-is, profiles-length, b .capacity-is)) all-within
+        (omega (arith, grown .count-is, profiles-length, b .shelf-is .capacity-is)) all-within
 
     module _ (h : all ≤ M) where
       all-is : all ≡ profile-count table′
-      all-is = omega (arith, grown .count-is, profiles-length, b .capacity-is)
+      all-is = omega (arith, grown .count-is, profiles-length, b .shelf-is .capacity-is)
 
       -- Theorem: with room, all profiles stand in the workspace, and the notes are those of all nodes,
       pub all-profiled : Profiled rows count origins after s known all
@@ -225,13 +223,13 @@ module _ {rows : List ℕ} {count N M buffer : ℕ} {a area origins : List ℕ} 
             notes-are = b .notes-are;
             notes-room = omega (arith, b .notes-room, b .fits);
             lent = on-shelf after (grown .elsewhere .same-length ∙ same-length);
-            operands-are = b .nexts-are ∙ b .ranks .nexts-are;
-            few = omega (arith, b .capacity-is);
+            operands-are = b .shelf-is .nexts-are ∙ b .ranks .nexts-are;
+            few = omega (arith, b .shelf-is .capacity-is);
             nodes-are = known-is;
             profiles-are = all-is;
             fuel = fuel;
             enough = omega (arith, all-is);
-            stored-are = grown .records (omega (arith, b .capacity-is));
+            stored-are = grown .records (omega (arith, b .shelf-is .capacity-is));
           }
 
       pub buffer-room : known + all ≤ buffer

@@ -45,6 +45,12 @@ pub record Decoded (rows : List ℕ) (count : ℕ) : Type 0 where
   pub is : table-of rows count ≡ table formula
   pub limited : Limited rows count
 
+-- The shelf stands behind N nodes, with room for M profiles over n operands of next.
+pub record Stands-behind (N M n : ℕ) (s : Shelf) : Type 0 where
+  pub base-is : s .base ≡ 8 * N
+  pub capacity-is : s .capacity ≡ M
+  pub nexts-are : s .n ≡ n
+
 -- The area holds on the shelf the P profiles of the rows' table, and the notes are those of its K nodes.
 pub record Profiled (rows : List ℕ) (count : ℕ) (origins area : List ℕ) (s : Shelf) (K P : ℕ) : Type 0 where
   pub decoded : Decoded rows count

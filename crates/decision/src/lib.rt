@@ -18,6 +18,7 @@ ghost use Rattle.decision.specs.Verdict.{between, within-capacity, works
 ghost use Rattle.decision.specs.Lends.{Lends, ToLend};
 ghost use Rattle.decision.specs.Promise.{Decided};
 ghost use Rattle.decision.specs.Searched.{number-in, accepts, Decoded, Profiled, Answers, concluded, Searched, Settled};
+ghost use Rattle.decision.specs.Searched.{Stands-behind};
 
 pub enum Verdict {
     Satisfiable {
@@ -173,6 +174,18 @@ fn profiles_of(
     runs::profiles(area, shelf, ones)
 }
 
+// The shelf behind the nodes, for profiles over n operands of next.
+fn shelf_of(node_capacity: usize, profile_capacity: usize, n: usize) -> Shelf
+    requires { ⌜ «node_capacity» ≤ 1024 ⌝ }
+    ensures { λ s. ⌜ Stands-behind «node_capacity» «profile_capacity» n s ⌝ }
+{
+    Shelf {
+        base: NODE_BYTES * node_capacity,
+        capacity: profile_capacity,
+        n: n,
+    }
+}
+
 // The nodes, the profiles, and the answer: 14 and 15 where there is no room for them.
 fn searched(
     rows: &[u8; 144],
@@ -193,11 +206,7 @@ fn searched(
         return Verdict::Refused(14);
     }
     let r = traces::ranked(rows, count);
-    let shelf = Shelf {
-        base: NODE_BYTES * node_capacity,
-        capacity: profile_capacity,
-        n: r.nexts,
-    };
+    let shelf = shelf_of(node_capacity, profile_capacity, r.nexts);
     let profiles = profiles_of(rows, count, r, shelf, area, nodes);
     if profile_capacity < profiles {
         return Verdict::Refused(15);

@@ -1,4 +1,4 @@
--- Reading from a byte on. From byte 0 it is reading, and past the end it refuses. From any byte it is the definition of reading begun at
+-- Reading from a byte on. From byte 0 it is reading. From any byte it is the definition of reading begun at
 -- that byte's place, which is how the code does it: that and reading the bytes from there on go side by side (Alike), one so many places
 -- ahead of the other. Assumes nothing.
 use mathlib.Core.Path.{_≡_, refl, sym, ap, _∙_}
@@ -6,9 +6,8 @@ use mathlib.Core.List.{List, [], _∷_}
 use Prim.Native.Nat.{ℕ, _+_, _≤_}
 use native.Mathlib.Nat.{add-zero}
 use native.Mathlib.Omega.{arith}
-use lib.ListN.{length, drop, drop-of-length-le}
+use lib.ListN.{length, drop}
 use Rattle.formula.specs.Formula.{Formula}
-use Rattle.formula.specs.Refusal.{at-byte}
 use Rattle.formula.specs.Reading.{Head, Read, Reading, ended, whole, formula, start, parse, with-entries, reading, counted-from}
 use Rattle.formula.specs.Reading.{reading-from}
 use Rattle.formula.proofs.RefusalLaws.{places-from-zero}
@@ -22,10 +21,6 @@ counted-from-zero (Reading.accepted a) = refl
 pub reading-from-start : (bytes : List ℕ) → reading-from bytes 0 ≡ reading bytes
 unfolding reading-from
 reading-from-start bytes = counted-from-zero (reading bytes)
-
-pub reading-past-end : (bytes : List ℕ) (at : ℕ) → length bytes ≤ at → reading-from bytes at ≡ Reading.refused (at-byte 1 at)
-unfolding parse reading reading-from
-reading-past-end bytes at l = rw (drop-of-length-le bytes l, add-zero at)
 
 -- where reading stands that begins at a byte
 abbrev pub start-at : List ℕ → ℕ → Head

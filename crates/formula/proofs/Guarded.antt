@@ -29,6 +29,3 @@ guarded-closed scope (Formula.pair o a b) g = (guarded-closed scope a (g .0), gu
 guarded-closed scope (Formula.next a) g =
     rw (length-map scope (λ _. true)) at (guarded-closed (map (λ _. true) scope) a g)
 guarded-closed scope (Formula.fix m a) g = guarded-closed (false ∷ scope) a g
-
-pub parse-closed : (bytes : List ℕ) (f : Formula) → parse bytes ≡ Reading.accepted f → Closed 0 f
-parse-closed bytes f e = guarded-closed [] f (parse-guarded bytes f e)

@@ -5,7 +5,7 @@
 -- nothing.
 use mathlib.Core.Path.{_≡_, refl, sym, ap, subst, subst⁻¹, _∙_}
 use mathlib.Core.Bool.{Bool, false, cond}
-use mathlib.Core.List.{List, [], _∷_, _++_, map, List·Memᴰ, List·Memᴰ·head, List·Memᴰ·tail, Memᴰ·map}
+use mathlib.Core.List.{List, [], _∷_, _++_, map, List·Memᴰ, List·Memᴰ·head, List·Memᴰ·tail}
 use Prim.Native.Nat.{ℕ, zero, suc, _+_, _-_, _*_, _^_, _≤_, _<_}
 use native.Mathlib.Nat.{zero-add}
 use native.Mathlib.Omega.{arith}
@@ -17,14 +17,13 @@ use Rattle.base.specs.Lists.{numbers, gather, index, tail}
 use Rattle.base.specs.Spread.{add, adds}
 use Rattle.base.proofs.TestLaws.{eqb-flip}
 use Rattle.base.proofs.IndexLaws.{index-same}
-use Rattle.base.proofs.MemberLaws.{gather-in, numbers-in}
-use Rattle.base.proofs.AppendLaws.{gather-map, map-gather}
+use Rattle.base.proofs.AppendLaws.{map-gather}
 use Rattle.base.proofs.NumberLaws.{values-length, values-at}
 use Rattle.base.proofs.ShiftLaws.{same-low-bits}
 use Rattle.base.proofs.WordLaws.{word-bit, word-lt, word-inj}
 use Rattle.formula.specs.Table.{Table}
 use Rattle.tableau.specs.Saturation.{Subset, same-subset, saturate}
-use Rattle.tableau.specs.Transition.{ors, choice-of, Transition, transition-of, by-word, transitions}
+use Rattle.tableau.specs.Transition.{ors, choice-of, Transition, by-word, transitions}
 use Rattle.tableau.specs.Promise.{table-of, Leads-nowhere, Stepped-by}
 use Rattle.tableau.specs.Area.{eight, words-at, lookup, Sized}
 use Rattle.tableau.specs.declared.NodeNumber.{NodeNumber}

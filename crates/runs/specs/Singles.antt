@@ -15,6 +15,7 @@ use Rattle.coded.specs.Runs.{Found, number-of, single-of}
 use Rattle.traces.specs.Promise.{Limited, Ranks-of}
 use Rattle.traces.specs.declared.Ranks.{Ranks}
 use Rattle.runs.specs.declared.Shelf.{Shelf}
+use Rattle.runs.specs.declared.Source.{Source}
 use Rattle.runs.specs.Stored.{Lent, Chained}
 
 -- the set of a word, of that many subformulas
@@ -54,8 +55,8 @@ pub record Ready (rows : List ℕ) (count : ℕ) (r : Ranks) (s : Shelf) (nodes 
   pub room : had ≤ s .capacity
   pub chained : Chained s area had
 
--- The word of node i is from, with these bits unmet, and there is such a choice word.
-pub record Chosen (rows : List ℕ) (count : ℕ) (area : List ℕ) (i from : ℕ) (unmet : List ℕ) (choice-word : ℕ) : Type 0 where
-  pub from-is : from ≡ eight area (8 * i)
-  pub unmet-is : Unmet rows count from unmet
-  pub below : choice-word < 2 ^ ors (table-of rows count)
+-- The node of a source is one of the area, with these bits unmet, and there is such a choice word.
+pub record Chosen (rows : List ℕ) (count : ℕ) (area unmet : List ℕ) (from : Source) : Type 0 where
+  pub set-is : from .set ≡ eight area (8 * from .number .0)
+  pub unmet-is : Unmet rows count (from .set) unmet
+  pub below : from .word < 2 ^ ors (table-of rows count)

@@ -87,6 +87,12 @@ pub record Lent (s : Shelf) (len : ℕ) : Type 0 where
   pub few : s .capacity ≤ 4096
   pub enough : place s (s .capacity) ≤ len
 
+-- The two bytes at an offset of record p are within an area of that length.
+pub record Two-within (s : Shelf) (p offset len : ℕ) : Type 0 where
+  pub low : s .base ≤ 8192
+  pub few : p ≤ 4096
+  pub enough : place s p + offset + 2 ≤ len
+
 -- a became b, and changed at most from one byte up to another
 pub record Changed (from to : ℕ) (a b : List ℕ) : Type 0 where
   pub same-length : length b ≡ length a

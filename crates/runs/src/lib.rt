@@ -9,7 +9,7 @@ ghost use Rattle.tableau.specs.Promise.{table-of};
 ghost use Rattle.triples.specs.Promise.{triples-in};
 ghost use Rattle.runs.specs.Stored.{two, profile-of, found-of, place, record-of, stored, Rising, Parted, Small, Ends-of, Lent};
 ghost use Rattle.runs.specs.Stored.{Changed, bits-of, row-of, mixed, mixed-row, bucket-of, bucket-at, Latest, Chained, Shelved};
-ghost use Rattle.runs.specs.Stored.{Grown, Added};
+ghost use Rattle.runs.specs.Stored.{Grown, Added, Two-within};
 ghost use Rattle.runs.specs.Singles.{node-in, nodes-in, singles-by, Given, Ready, Chosen};
 use tableau::Lookup;
 use tableau::NodeNumber;
@@ -31,6 +31,13 @@ pub struct Shelf {
     pub n: usize,
 }
 
+// Where a transition starts: a node, by its number and its set, and the choice word.
+struct Source {
+    number: NodeNumber,
+    set: u64,
+    word: u64,
+}
+
 // Where record p begins.
 pub fn place(shelf: Shelf, p: usize) -> usize
     requires { ⌜ (shelf .base ≤ 8192) × (p ≤ 4096) ⌝ }
@@ -41,7 +48,7 @@ pub fn place(shelf: Shelf, p: usize) -> usize
 
 // The number at an offset of record p.
 fn get2(area: &[u8], shelf: Shelf, p: usize, offset: usize) -> usize
-    requires { ⌜ (shelf .base ≤ 8192) × ((p ≤ 4096) × (place shelf p + offset + 2 ≤ length (now area))) ⌝ }
+    requires { ⌜ Two-within shelf p offset (length (now area)) ⌝ }
     ensures { λ r. ⌜ (r ≡ two (now (area .entry)) (place shelf p + offset)) × (r < 65536) ⌝ }
 {
     base::number_at(area, place(shelf, p) + offset, 2) as usize
@@ -63,7 +70,7 @@ pub fn ends_of(area: &[u8], shelf: Shelf, p: usize) -> Ends
 
 // Puts a number at an offset of record p.
 fn put2(area: &mut [u8], shelf: Shelf, p: usize, offset: usize, x: usize)
-    requires { ⌜ (shelf .base ≤ 8192) × ((p ≤ 4096) × (place shelf p + offset + 2 ≤ length (now area))) ⌝ }
+    requires { ⌜ Two-within shelf p offset (length (now area)) ⌝ }
     requires { ⌜ x < 65536 ⌝ }
     ensures { λ r. ⌜ two (now (area .exit)) (place shelf p + offset) ≡ x ⌝ }
     ensures { λ r. ⌜ Changed (place shelf p + offset) (place shelf p + offset + 2) (now (area .entry)) (now (area .exit)) ⌝ }
@@ -225,7 +232,7 @@ fn add(area: &mut [u8], shelf: Shelf, count: usize, ends: Ends, t: &[u8; 144]) -
     count + 1
 }
 
-// Adds the profile of the transition of a node, with its number, under a choice word, if there is one.
+// Adds the profile of the transition that starts there, if there is one.
 fn single(
     rows: &[u8; 144],
     subformulas: usize,
@@ -233,27 +240,26 @@ fn single(
     shelf: Shelf,
     area: &mut [u8],
     nodes: usize,
-    number: NodeNumber,
-    from: u64,
     unmet: &[u64; 24],
-    choice_word: u64,
+    from: Source,
     count: usize,
 ) -> usize
-    requires { ⌜ Ready (now rows) subformulas r shelf nodes (now area) (number .0) count ⌝ }
-    requires { ⌜ Chosen (now rows) subformulas (now area) (number .0) from (now unmet) «choice_word» ⌝ }
+    requires { ⌜ Ready (now rows) subformulas r shelf nodes (now area) (from .number .0) count ⌝ }
+    requires { ⌜ Chosen (now rows) subformulas (now area) (now unmet) from ⌝ }
     ensures { λ all. ⌜ Added shelf count (now (area .entry)) all (now (area .exit))
-        (singles-by (table-of (now (rows .entry)) subformulas) (nodes-in subformulas (now (area .entry)) nodes) (number .0)
-        (node-in subformulas (now (area .entry)) (number .0)) «choice_word») ⌝ }
+        (singles-by (table-of (now (rows .entry)) subformulas) (nodes-in subformulas (now (area .entry)) nodes) (from .number .0)
+        (node-in subformulas (now (area .entry)) (from .number .0)) (from .word)) ⌝ }
 {
-    match tableau::by_word(rows, subformulas, unmet, choice_word, from) {
+    match tableau::by_word(rows, subformulas, unmet, from.word, from.set) {
         Step::Nothing => count,
         Step::Leads { to, letter } => match tableau::find(area, nodes, to) {
             Lookup::Absent => count,
             Lookup::Number(last) => {
-                let choice = tableau::choice_of(rows, subformulas, choice_word);
-                let t = traces::triples_of(rows, subformulas, r, choice, from);
+                let choice = tableau::choice_of(rows, subformulas, from.word);
+                let t = traces::triples_of(rows, subformulas, r, choice, from.set);
+                let first = from.number;
                 let ends = Ends {
-                    first: number,
+                    first: first,
                     last: last,
                     parent: 0,
                     letter: letter as usize,
@@ -280,8 +286,8 @@ fn singles_of(
         (ones-of (table-of (now (rows .entry)) subformulas) (nodes-in subformulas (now (area .entry)) nodes) (number .0)
         (node-in subformulas (now (area .entry)) (number .0))) ⌝ }
 {
-    let from = tableau::node(area, number);
-    let unmet = tableau::unmet(rows, subformulas, from);
+    let set = tableau::node(area, number);
+    let unmet = tableau::unmet(rows, subformulas, set);
     let end = base::power(tableau::ors(rows, subformulas));
     let mut all = count;
     let mut word = 0u64;
@@ -289,19 +295,12 @@ fn singles_of(
         if shelf.capacity < all {
             return all;
         }
-        all = single(
-            rows,
-            subformulas,
-            r,
-            shelf,
-            area,
-            nodes,
-            number,
-            from,
-            &unmet,
-            word,
-            all,
-        );
+        let from = Source {
+            number: number,
+            set: set,
+            word: word,
+        };
+        all = single(rows, subformulas, r, shelf, area, nodes, &unmet, from, all);
         word += 1;
     }
     all

@@ -15,25 +15,26 @@ use lib.Seq.{take-all}
 use Rattle.base.specs.Lists.{numbers, gather, At}
 use Rattle.base.specs.Bits.{word}
 use Rattle.base.specs.Spread.{adds}
-use Rattle.base.proofs.AppendLaws.{gather-append, gather-map, map-gather, numbers-append, numbers-more}
+use Rattle.base.proofs.AppendLaws.{gather-append, map-gather, numbers-append, numbers-more}
 use Rattle.base.proofs.MemberLaws.{gather-of}
 use Rattle.base.proofs.At.{at-lt, at-in, in-at, at-some, at-map}
 use Rattle.base.proofs.SpreadLaws.{adds-append, adds-at, After-turns, turns-start, turns-next, turns-done, turns-begin}
 use Rattle.base.proofs.WordLaws.{word-set, word-none}
 use Rattle.formula.specs.Table.{Operator, Table}
 use Rattle.tableau.specs.Saturation.{Subset, same-subset, nothing, saturate}
-use Rattle.tableau.specs.Transition.{ors, choice-of, Transition, transition-of, by-word, transitions}
+use Rattle.tableau.specs.Transition.{ors, choice-of, Transition, by-word, transitions}
 use Rattle.tableau.specs.Nodes.{root, nodes}
 use Rattle.tableau.specs.Origins.{Origins}
-use Rattle.tableau.specs.Promise.{table-of, Formed, Leads-nowhere, Stepped-by}
+use Rattle.tableau.specs.Promise.{table-of, Formed, Stepped-by}
 use Rattle.tableau.specs.Area.{eight, store, Holds, reachable, Reached, worded, root-reached, reached-by, leads, outs}
 use Rattle.tableau.specs.Area.{Reached-sized, Arrives, Keeps, Added, Followed, Expanded}
 use Rattle.tableau.specs.declared.NodeNumber.{NodeNumber}
-use Rattle.tableau.specs.declared.Step.the-variants.{Leads}
+use Rattle.tableau.specs.declared.Step.{Step}
+use Rattle.tableau.specs.declared.Step.the-variants.{Leads, Nothing}
 use Rattle.tableau.proofs.TransitionLaws.{transition-with, letter-small, to-length, transitions-by-word}
 use Rattle.tableau.proofs.NodeLaws.{root-length}
 use Rattle.tableau.proofs.LoopLaws.{table-length}
-use Rattle.tableau.proofs.StepLaws.{Found, a-step}
+use Rattle.tableau.proofs.StepLaws.{Found, a-step, step-nowhere}
 use Rattle.tableau.proofs.SizeLaws.{leads-sized}
 use Rattle.tableau.proofs.KeepLaws.{keeps-more, keeps-all, keeps-holds, known-all, node-word, keeps-one}
 use Rattle.tableau.proofs.NodeMatch.{Matched, onward-from, nodes-match, matched-sets, notes-origins}
@@ -88,12 +89,12 @@ of-table : (rows : List ℕ) (count : ℕ) {l : List Reached} → Reached-sized 
 of-table rows count s u m = s u m ∙ table-length rows count
 
 -- a choice word followed: to nothing where it has no transition
-pub follow-nowhere : {rows : List ℕ} {count from x known capacity : ℕ} {area o : List ℕ} (i : ℕ) → Leads-nowhere rows count from x
-    → Followed rows count i from x known capacity area o area o known
+pub follow-nowhere : {step : Step} {known capacity : ℕ} {area o : List ℕ} (i : ℕ) → step ≡ Nothing
+    → Followed i step known capacity area o area o known
 follow-nowhere {known = known} {capacity} {area} {o} i n = record {
-  is = λ l v a k sz e len.
+  is = λ rows count from x f st l v a k sz e len.
       subst⁻¹ (λ (xs : List Transition). Keeps capacity known a area o (map worded (adds same-subset l (map (reached-by i) xs))))
-      (n .is v len e) k;
+      (step-nowhere st n .is v len e) k;
 }
 
 -- what an arrival says of the node that a transition leads to
@@ -106,20 +107,21 @@ arrives i t w s f number e = record {
   letter-small = omega (arith, f .letter-is, letter-small t w s);
 }
 
-pub follow-some : {rows : List ℕ} {count from x known capacity to p r : ℕ} {area o area′ o′ : List ℕ} (number : NodeNumber)
-    → Formed rows count → known ≤ capacity → Stepped-by rows count x from (Leads to p)
-    → Added known capacity (record { set = to; from = number; letter = p }) area o area′ o′ r
-    → Followed rows count (number .0) from x known capacity area o area′ o′ r
-follow-some {rows} {count} {from} {x} {known} {capacity} {r = r} {area} {o} {area′} {o′} number f h st ad =
-    record { is = λ l v a k sz e len. go l v a k sz e len }
+pub follow-some : {step : Step} {known capacity to p r : ℕ} {area o area′ o′ : List ℕ} (number : NodeNumber) → step ≡ Leads to p
+    → known ≤ capacity → Added known capacity (record { set = to; from = number; letter = p }) area o area′ o′ r
+    → Followed (number .0) step known capacity area o area′ o′ r
+follow-some {step} {known} {capacity} {to} {p} {r} {area} {o} {area′} {o′} number q h ad = record {
+  is = λ rows count from x f st. go rows count from x f (subst (Stepped-by rows count x from) q st);
+}
   where
     i : ℕ
     i = number .0
 
-    go : (l : List Reached) (v : Subset) (a : List ℕ) → Keeps capacity known a area o (map worded l) → Reached-sized count l
+    go : (rows : List ℕ) (count from x : ℕ) → Formed rows count → Stepped-by rows count x from (Leads to p)
+        → (l : List Reached) (v : Subset) (a : List ℕ) → Keeps capacity known a area o (map worded l) → Reached-sized count l
         → from ≡ word v → length v ≡ count
         → Keeps capacity r a area′ o′ (map worded (adds same-subset l (leads (table-of rows count) i v x)))
-    go l v a k sz e len =
+    go rows count from x f st l v a k sz e len =
         let t = table-of rows count in
         let w = choice-of t x in
         let z = a-step t w (saturate t w v) (st .is v len e) in
@@ -141,13 +143,15 @@ expand-start rows count i from known capacity area o = record { is = λ l v a k 
 
 module _ {rows : List ℕ} {count i from known capacity all x : ℕ} {area₀ o₀ area o : List ℕ}
     (ex : Expanding rows count i from known capacity area₀ o₀ all x area o) where
-  pub expand-turn : {r : ℕ} {area′ o′ : List ℕ} → Followed rows count i from x all capacity area o area′ o′ r
+  pub expand-turn : {step : Step} {r : ℕ} {area′ o′ : List ℕ} → Formed rows count → Stepped-by rows count x from step
+      → Followed i step all capacity area o area′ o′ r
       → Expanding rows count i from known capacity area₀ o₀ r (x + 1) area′ o′
-  expand-turn {r} {area′} {o′} fo = record {
+  expand-turn {step} {r} {area′} {o′} f st fo = record {
     is = λ l v a k sz e len.
         let t = table-of rows count in
         subst⁻¹ (λ (m : List Reached). Keeps capacity r a area′ o′ (map worded m)) (led-more t i v l x)
-        (fo .is (led t i v l x) v a (ex .is l v a k sz e len) (of-table rows count (led-sized t i v l x (to-table rows sz))) e len);
+        (fo .is rows count from x f st (led t i v l x) v a (ex .is l v a k sz e len)
+        (of-table rows count (led-sized t i v l x (to-table rows sz))) e len);
   }
 
   -- all choice words, or the capacity is passed

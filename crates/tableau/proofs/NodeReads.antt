@@ -1,5 +1,6 @@
 -- What a caller reads of the nodes in the area, once all of them have found room: the words at the area's beginning are the nodes' words in
--- order (`nodes-kept`), so node i is read as its word (`kept-at`), as long as only later bytes are changed (`kept-same`). Assumes nothing.
+-- order (`nodes-kept`), so node i is read as its word (`kept-at`). Words stay where only later bytes are changed (`words-same`). Assumes
+-- nothing.
 use mathlib.Core.Path.{_≡_, refl, sym, ap, _∙_}
 use mathlib.Core.List.{List, [], map, List·Memᴰ, Memᴰ·of-map}
 use Prim.Native.Nat.{ℕ, zero, suc, _+_, _*_, _≤_, _<_}
@@ -76,6 +77,3 @@ module _ {l : List Subset} {area : List ℕ} (k : Kept l area) where
   kept-at i h =
       ap (λ (j : ℕ). eight area (8 * j)) (sym (zero-add i)) ∙ sym (words-at-get area 0 (length l) i h)
       ∙ ap (λ (ws : List ℕ). getD ws i 0) (k .words) ∙ List·getD-map word l i []
-
-  pub kept-same : (b : List ℕ) → ((j : ℕ) → j < 8 * length l → getD b j 0 ≡ getD area j 0) → Kept l b
-  kept-same b f = record { words = words-same area b 0 (length l) (λ j h. f j (omega arith)) ∙ k .words }

@@ -1,7 +1,8 @@
--- Sizes: what a choice word leads to has as many subformulas as the table, and a set of at most 48 subformulas is a word of 64 bits. Assumes nothing.
+-- Sizes: what a choice word leads to has as many subformulas as the table, and a set of at most 48 subformulas is a word of 64
+-- bits. Assumes nothing.
 use mathlib.Core.Path.{_≡_, sym, ap, subst, _∙_}
 use mathlib.Core.Logic.{inl, inr}
-use mathlib.Core.List.{List, [], _∷_, map, List·Memᴰ, List·Memᴰ·not-nil, List·Memᴰ·eq-of-singleton, Memᴰ·of-map}
+use mathlib.Core.List.{List, [], map, List·Memᴰ, List·Memᴰ·not-nil, List·Memᴰ·eq-of-singleton, Memᴰ·of-map}
 use Prim.Native.Nat.{ℕ, _^_, _≤_, _<_}
 use native.Mathlib.Omega.{arith}
 use lib.Pow.{pow-mono}

@@ -16,9 +16,10 @@ use Rattle.tableau.specs.Saturation.{Subset, same-subset}
 use Rattle.tableau.specs.Transition.{Transition, by-word, transitions}
 use Rattle.tableau.specs.Nodes.{root, nodes}
 use Rattle.tableau.specs.Origins.{parent-at, letter-at}
-use Rattle.tableau.specs.Promise.{table-of}
+use Rattle.tableau.specs.Promise.{table-of, Formed, Stepped-by}
 use Rattle.tableau.specs.declared.Arrival.{Arrival}
 use Rattle.tableau.specs.declared.Lookup.{Lookup}
+use Rattle.tableau.specs.declared.Step.{Step}
 use Rattle.tableau.specs.declared.Lookup.the-variants.{Number, Absent}
 
 -- the eight bytes of a number
@@ -74,6 +75,12 @@ slot-of x = x % 2029
 pub record Marked (known : ℕ) (area slots : List ℕ) : Type 0 where
   pub long : 2048 ≤ length slots
   pub is : (i : ℕ) → i < known → 0 < getD slots (slot-of (eight area (8 * i))) 0
+
+-- What is asked to add nodes to the first known: room for them and for their notes, and the marks of the known.
+pub record Growing (known capacity : ℕ) (area slots origins : List ℕ) : Type 0 where
+  pub room : Room known capacity (length area)
+  pub marked : Marked known area slots
+  pub notes : 2 * capacity ≤ length origins
 
 -- a node as the search keeps it: its set, 1 + the number of the node that it was reached from, 0 for the root, and the letter between
 abbrev pub Reached : Type 0
@@ -136,9 +143,10 @@ pub record Added (known capacity : ℕ) (s : Arrival) (area o area′ o′ : Lis
       → ((y : Reached-word) → List·Memᴰ y ws → y .at < 2 ^ 64)
       → Keeps capacity r a area′ o′ (add eqb ws x)
 
--- The nodes l of the area become those with what a choice word leads to from node i.
-pub record Followed (rows : List ℕ) (count i from x known capacity : ℕ) (area o area′ o′ : List ℕ) (r : ℕ) : Type 0 where
-  pub is : (l : List Reached) (v : Subset) (a : List ℕ) → Keeps capacity known a area o (map worded l) → Reached-sized count l
+-- The nodes l of the area become those with what a step leads to from node i, the set v, where it is that of a choice word x.
+pub record Followed (i : ℕ) (step : Step) (known capacity : ℕ) (area o area′ o′ : List ℕ) (r : ℕ) : Type 0 where
+  pub is : (rows : List ℕ) (count from x : ℕ) → Formed rows count → Stepped-by rows count x from step
+      → (l : List Reached) (v : Subset) (a : List ℕ) → Keeps capacity known a area o (map worded l) → Reached-sized count l
       → from ≡ word v → length v ≡ count
       → Keeps capacity r a area′ o′ (map worded (adds same-subset l (leads (table-of rows count) i v x)))
 

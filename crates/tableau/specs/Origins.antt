@@ -5,9 +5,7 @@ use mathlib.Core.Path.{_≡_}
 use mathlib.Core.List.{List, [], _∷_, _++_, map}
 use Prim.Native.Nat.{ℕ, _+_, _*_, _<_}
 use lib.ListN.{getD}
-use Rattle.base.specs.Search.{Item}
 use Rattle.formula.specs.Table.{Table}
-use Rattle.tableau.specs.Saturation.{Subset}
 use Rattle.tableau.specs.Transition.{Transition}
 use Rattle.tableau.specs.Nodes.{nodes}
 

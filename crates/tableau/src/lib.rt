@@ -15,7 +15,7 @@ ghost use Rattle.tableau.specs.Transition.{ors, choice-of};
 ghost use Rattle.tableau.specs.Promise.{table-of, Formed, with-bits, Saturated, Requires-more, Required-by, Stepped};
 ghost use Rattle.tableau.specs.Promise.{Stepped-by, Widest, Unmet-between, is-unmet, Unmet};
 ghost use Rattle.tableau.specs.Area.{eight, words-at, lookup, zeros, Room, Holds, reachable, slot-of, Marked, with-note};
-ghost use Rattle.tableau.specs.Area.{Added, Followed, Expanded};
+ghost use Rattle.tableau.specs.Area.{Growing, Added, Followed, Expanded};
 ghost use Rattle.tableau.specs.Origins.{Origins};
 
 // The number of a node, kept apart from subformulas and positions.
@@ -376,9 +376,8 @@ fn add(
     capacity: usize,
     new: Arrival,
 ) -> usize
-    requires { ⌜ Room known capacity (length (now area)) ⌝ }
-    requires { ⌜ Marked known (now area) (now slots) ⌝ }
-    requires { ⌜ (new .from .0 < 1024) × (2 * capacity ≤ length (now origins)) ⌝ }
+    requires { ⌜ Growing known capacity (now area) (now slots) (now origins) ⌝ }
+    requires { ⌜ new .from .0 < 1024 ⌝ }
     ensures { λ r. ⌜ Added known capacity new (now (area .entry)) (now (origins .entry)) (now (area .exit)) (now (origins .exit)) r ⌝ }
     ensures { λ r. ⌜ (known ≤ r) × (r ≤ capacity + 1) ⌝ }
     ensures { λ r. ⌜ (r ≤ capacity → Marked r (now (area .exit)) (now (slots .exit))) ⌝ }
@@ -398,31 +397,24 @@ fn add(
     known + 1
 }
 
-// Adds the node that the transition of a choice word leads to from a node, with its number.
+// Adds the node that a step leads to, if it leads to one, from the node with this number.
 fn follow(
-    rows: &[u8; 144],
-    count: usize,
     area: &mut [u8],
     slots: &mut [u16; 2048],
     origins: &mut [u16],
     number: NodeNumber,
-    from: u64,
-    unmet: &[u64; 24],
-    choice_word: u64,
+    step: Step,
     known: usize,
     capacity: usize,
 ) -> usize
-    requires { ⌜ Formed (now rows) count ⌝ }
-    requires { ⌜ Room known capacity (length (now area)) ⌝ }
-    requires { ⌜ Marked known (now area) (now slots) ⌝ }
-    requires { ⌜ Unmet (now rows) count from (now unmet) ⌝ }
-    requires { ⌜ (number .0 < 1024) × (2 * capacity ≤ length (now origins)) ⌝ }
-    ensures { λ r. ⌜ Followed (now (rows .entry)) count (number .0) from «choice_word» known capacity (now (area .entry))
-        (now (origins .entry)) (now (area .exit)) (now (origins .exit)) r ⌝ }
+    requires { ⌜ Growing known capacity (now area) (now slots) (now origins) ⌝ }
+    requires { ⌜ number .0 < 1024 ⌝ }
+    ensures { λ r. ⌜ Followed (number .0) step known capacity (now (area .entry)) (now (origins .entry)) (now (area .exit))
+        (now (origins .exit)) r ⌝ }
     ensures { λ r. ⌜ (known ≤ r) × (r ≤ capacity + 1) ⌝ }
     ensures { λ r. ⌜ (r ≤ capacity → Marked r (now (area .exit)) (now (slots .exit))) ⌝ }
 {
-    match by_word(rows, count, unmet, choice_word, from) {
+    match step {
         Step::Nothing => known,
         Step::Leads { to, letter } => {
             let new = Arrival {
@@ -448,9 +440,7 @@ fn expand(
 ) -> usize
     requires { ⌜ Formed (now rows) count ⌝ }
     requires { ⌜ number .0 < known ⌝ }
-    requires { ⌜ Room known capacity (length (now area)) ⌝ }
-    requires { ⌜ Marked known (now area) (now slots) ⌝ }
-    requires { ⌜ 2 * capacity ≤ length (now origins) ⌝ }
+    requires { ⌜ Growing known capacity (now area) (now slots) (now origins) ⌝ }
     ensures { λ r. ⌜ Expanded (now (rows .entry)) count (number .0) known capacity (now (area .entry)) (now (origins .entry))
         (now (area .exit)) (now (origins .exit)) r ⌝ }
     ensures { λ r. ⌜ (known ≤ r) × (r ≤ capacity + 1) ⌝ }
@@ -465,19 +455,8 @@ fn expand(
         if capacity < all {
             return all;
         }
-        all = follow(
-            rows,
-            count,
-            area,
-            slots,
-            origins,
-            number,
-            from,
-            &unmet,
-            word,
-            all,
-            capacity,
-        );
+        let step = by_word(rows, count, &unmet, word, from);
+        all = follow(area, slots, origins, number, step, all, capacity);
         word += 1;
     }
     all

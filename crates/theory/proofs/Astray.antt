@@ -2,7 +2,7 @@
 -- bytes. (Those that profiles show are in profile's Examples; that a next outside the fixpoint is no guard is among the reading's; that an
 -- or has one pick within a transition is part of what a transition is.) Assumes nothing.
 use mathlib.Core.Path.{_≡_, refl}
-use mathlib.Core.Bool.{Bool, true, false}
+use mathlib.Core.Bool.{true, false}
 use mathlib.Core.List.{List, [], _∷_, map}
 use Prim.Native.Nat.{ℕ}
 use Rattle.formula.specs.Formula.{Formula}

@@ -2,8 +2,8 @@
 use decision::Verdict;
 use formula::Operator;
 use formula::Outcome;
-use formula::Subformula;
 use formula::Refusal;
+use formula::Subformula;
 use formula::Table;
 use lasso::Truth;
 ghost use mathlib.Core.Path.{_≡_};

@@ -1,6 +1,5 @@
 -- `base::put_number` writes from the lowest byte up: each turn is one byte more (`Writing`).
 use Prim.Native.Nat.{_-_}
-use lib.ListN.{length-set}
 use Rattle.base.proofs.BytesLaws.{Writing, write-none, write-more, write-all}
 use borrow.Author.Needs.{needs}
 use native.Mathlib.Omega.{arith}

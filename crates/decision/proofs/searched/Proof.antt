@@ -1,7 +1,6 @@
 -- `decision::searched` builds the nodes and, if there is room for them, the profiles behind them. Where there is room for these too, they
 -- and the notes of the nodes are all that the answer is made from.
-use Prim.Native.Nat.{ℕ, _*_}
-use mathlib.Core.Path.{refl}
+use Prim.Native.Nat.{ℕ}
 use mathlib.Core.List.{List}
 use lib.ListN.{length}
 use native.Mathlib.Omega.{arith}
@@ -28,8 +27,8 @@ returns c =
 ranked-requires : tie.Need-ranked-requires
 ranked-requires c κs = search needs
 
-mul-t18 : tie.Need-mul-t18
-mul-t18 c = search needs
+shelf-of-requires : tie.Need-shelf-of-requires
+shelf-of-requires c κs = search needs
 
 -- what the search of nodes leaves in the workspace, and its notes
 abbrev area-of : tie.After-nodes → List ℕ
@@ -39,26 +38,24 @@ abbrev notes-of : tie.After-nodes → List ℕ
 notes-of c = c .nodes .last .1 .1 .1 .1 .0
 
 -- the nodes have room, and the shelf stands behind them
-behind : (c : tie.After-ranked) →
-    let nodes = c .before .before .before .before .before in
+behind : (c : tie.After-shelf-of) →
+    let nodes = c .before .before .before .before .before .before in
     let u = nodes .before .before .before .before .before in
     Behind (u .args .rows .now) (u .args .count) (u .args .node-capacity) (u .args .profile-capacity) (length (u .args .letters .now))
-    (u .args .area .now) (area-of nodes) (notes-of nodes) (nodes .nodes .result) (c .ranked .result)
-    (record { base = 8 * u .args .node-capacity; capacity = u .args .profile-capacity; n = c .ranked .result .nexts })
+    (u .args .area .now) (area-of nodes) (notes-of nodes) (nodes .nodes .result) (c .before .ranked .result) (c .shelf-of .result)
 behind c =
-    let nodes = c .before .before .before .before .before in
+    let nodes = c .before .before .before .before .before .before in
     let u = nodes .before .before .before .before .before in
+    let if1 = c .before .before .if1 in
     record {
       decoded = u .pre .0;
       lends = u .pre .1;
       holds = nodes .nodes .ensures .0;
-      fits = omega (arith, c .before .if1 .left);
-      notes-are = nodes .nodes .ensures .1 (omega (arith, c .before .if1 .left));
+      fits = omega (arith, if1 .left);
+      notes-are = nodes .nodes .ensures .1 (omega (arith, if1 .left));
       notes-room = omega (arith, u .pre .1 .capacity .few-nodes);
-      ranks = c .ranked .ensures;
-      base-is = refl;
-      capacity-is = refl;
-      nexts-are = refl;
+      ranks = c .before .ranked .ensures;
+      shelf-is = c .shelf-of .ensures;
     }
 
 profiles-of-requires : tie.Need-profiles-of-requires
@@ -70,9 +67,9 @@ same-length-2 c = search needs
 returns-2 : tie.Need-returns-2
 returns-2 c =
     let profiles-of = c .before .before .before in
-    let ranked = profiles-of .before .before in
-    let start = ranked .before .before .before .before .before .before .before .before .before .before in
-    profiles-15 (behind ranked) (profiles-of .profiles-of .ensures) (c .if2 .taken) (start .args .letters .now)
+    let shelf-of = profiles-of .before .before in
+    let start = shelf-of .before .before .before .before .before .before .before .before .before .before .before in
+    profiles-15 (behind shelf-of) (profiles-of .profiles-of .ensures) (c .if2 .taken) (start .args .letters .now)
 
 slice-aggregate-answered : tie.Need-slice-aggregate-answered
 slice-aggregate-answered c = search needs
@@ -108,7 +105,7 @@ searched-spec =
     same-length
     returns
     ranked-requires
-    mul-t18
+    shelf-of-requires
     profiles-of-requires
     same-length-2
     returns-2

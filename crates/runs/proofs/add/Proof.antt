@@ -6,7 +6,6 @@ use Rattle.triples.specs.Promise.{triples-in}
 use Rattle.runs.specs.Stored.{found-of, Lent, bucket-of}
 use Rattle.runs.proofs.GrowLaws.{grown-known, grown-new, grown-full}
 use Rattle.runs.proofs.BucketLaws.{chained-kept}
-use native.Mathlib.Omega.{arith}
 use borrow.Author.Needs.{needs}
 use Rattle.runs.proofs.add.Statement.{statement}
 use Rattle.runs.proofs.add.Tie as tie

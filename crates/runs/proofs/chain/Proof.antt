@@ -1,6 +1,5 @@
 -- `runs::chain` puts a record at the head of the chain of its bucket, by three stores into spare bytes.
 use Rattle.runs.proofs.BucketLaws.{linked-changed, linked-records, chained-more}
-use native.Mathlib.Omega.{arith}
 use borrow.Author.Needs.{needs}
 use Rattle.runs.proofs.chain.Statement.{statement}
 use Rattle.runs.proofs.chain.Tie as tie

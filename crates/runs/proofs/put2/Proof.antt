@@ -22,8 +22,8 @@ returns : tie.Need-returns
 returns c =
     let s = c .before .before .before .before .before .before in
     let e = ap (λ (at : ℕ). at + s .args .offset) (c .before .before .before .place .ensures) in
-    let two = put-two (s .args .area .now) (s .args .x) e (s .pre .0 .1 .1) (s .pre .1) in
-    let changed = put-changed (s .args .area .now) (s .args .x) e (s .pre .0 .1 .1) in
+    let two = put-two (s .args .area .now) (s .args .x) e (s .pre .0 .enough) (s .pre .1) in
+    let changed = put-changed (s .args .area .now) (s .args .x) e (s .pre .0 .enough) in
     rw (c .before .before .put-number .ensures) (two, changed)
 
 pub put2-spec : {M : Type 1} → statement M

@@ -35,23 +35,24 @@ triples-of-requires c κs = search needs
 
 add-requires : tie.Need-add-requires
 add-requires c κs =
-    let start = c .before .before .before .before .before .before .before .before .before .before .before .before .before .before in
-    let to = c .before .before .before .before .before .before .before .before .before .before .to in
-    let by-word = c .before .before .before .before .before .before .before .before .before .before .before .before .by-word in
-    let last = c .before .before .before .before .before .last in
-    let find = c .before .before .before .before .before .before .before .find in
+    let earlier = c .before .before .before .before .before .before in
+    let start = earlier .before .before .before .before .before .before .before .before .before in
+    let to = earlier .before .before .before .before .before .to in
+    let by-word = earlier .before .before .before .before .before .before .before .by-word in
+    let last = earlier .last in
+    let find = earlier .before .before .find in
     let ready = start .pre .0 in
     let chosen = start .pre .1 in
     let step = subst (Stepped-by _ _ _ _) (to .given .1) (by-word .ensures) in
-    let i = start .args .number .0 in
-    let x = start .args .choice-word in (
+    let i = start .args .from .number .0 in
+    let x = start .args .from .word in (
       record { lent = ready .given .lent; room = ready .room; chained = ready .chained },
       record {
         first = omega (arith, ready .node, ready .given .few);
-        last = single-small (ready .given) i x (ready .node) (chosen .below) (chosen .from-is) step (last .given .0 .0) (find .ensures)
+        last = single-small (ready .given) i x (ready .node) (chosen .below) (chosen .set-is) step (last .given .0 .0) (find .ensures)
             (last .given .1);
         parent = omega arith;
-        letter = single-letter (ready .given) i x (ready .node) (chosen .below) (chosen .from-is) step;
+        letter = single-letter (ready .given) i x (ready .node) (chosen .below) (chosen .set-is) step;
       },
     )
 
@@ -60,7 +61,7 @@ returns c =
     let start = c .before .before .before .before in
     let by-word = c .before .before .by-word in
     let ready = start .pre .0 in
-    single-nowhere (ready .given) (start .args .number .0) (start .args .choice-word) (ready .node) (start .pre .1 .from-is)
+    single-nowhere (ready .given) (start .args .from .number .0) (start .args .from .word) (ready .node) (start .pre .1 .set-is)
     (ready .room) (ready .chained) (step-nowhere (by-word .ensures) (c .enum-told .given .1))
 
 same-length : tie.Need-same-length
@@ -74,31 +75,31 @@ returns-2 c =
     let ready = start .pre .0 in
     let chosen = start .pre .1 in
     let step = subst (Stepped-by _ _ _ _) (to .given .1) (by-word .ensures) in
-    absurd (single-there (ready .given) (start .args .number .0) (start .args .choice-word) (ready .node) (chosen .below)
-    (chosen .from-is) step (c .before .before .find .ensures) (c .enum-told2 .given .1))
+    absurd (single-there (ready .given) (start .args .from .number .0) (start .args .from .word) (ready .node) (chosen .below)
+    (chosen .set-is) step (c .before .before .find .ensures) (c .enum-told2 .given .1))
 
 same-length-2 : tie.Need-same-length-2
 same-length-2 c = search needs
 
 returns-3 : tie.Need-returns-3
 returns-3 c =
-    let earlier = c .before .before .before .before .before .before .before .before in
+    let earlier = c .before .before .before .before .before .before .before .before .before in
     let start = earlier .before .before .before .before .before .before .before .before .before in
     let to = earlier .before .before .before .before .before .to in
     let by-word = earlier .before .before .before .before .before .before .before .by-word in
-    let last = c .before .before .before .before .before .before .before .before .last in
+    let last = earlier .last in
     let find = earlier .before .before .find in
-    let triples-of = c .before .before .before .before .before .triples-of in
-    let choice-of = c .before .before .before .before .before .before .choice-of in
+    let triples-of = c .before .before .before .before .before .before .triples-of in
+    let choice-of = c .before .before .before .before .before .before .before .choice-of in
     let ready = start .pre .0 in
     let chosen = start .pre .1 in
     let step = subst (Stepped-by _ _ _ _) (to .given .1) (by-word .ensures) in
-    let i = start .args .number .0 in
-    let x = start .args .choice-word in
+    let i = start .args .from .number .0 in
+    let x = start .args .from .word in
     let there =
-    single-last (ready .given) i x (ready .node) (chosen .below) (chosen .from-is) step (last .given .0 .0) (find .ensures)
+    single-last (ready .given) i x (ready .node) (chosen .below) (chosen .set-is) step (last .given .0 .0) (find .ensures)
     (last .given .1) in
-    single-some (ready .given) i x (ready .node) (chosen .below) (chosen .from-is) step (triples-of .result) refl there
+    single-some (ready .given) i x (ready .node) (chosen .below) (chosen .set-is) step (triples-of .result) refl there
     (choice-of .ensures) (triples-of .ensures) (c .before .before .add .ensures)
 
 pub single-spec : {M : Type 1} → statement M

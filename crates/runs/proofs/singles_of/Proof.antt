@@ -18,11 +18,11 @@ record Turned (rows : List ℕ) (count : ℕ) (s : Shelf) (a : List ℕ) (nodes 
   grown : Grown s had a all b (of-first (table-of rows count) count s nodes a i had word)
 
 abbrev Inv-loop : tie.InvT-loop
-Inv-loop rows subformulas r shelf area₀ nodes number count from unmet end all₀ word₀ area all word =
+Inv-loop rows subformulas r shelf area₀ nodes number count set unmet end all₀ word₀ area all word =
     Turned rows subformulas shelf area₀ nodes (number .0) count end area all word
 
 abbrev μ-loop : tie.MeasureT-loop
-μ-loop rows subformulas r shelf area₀ nodes number count from unmet end all₀ word₀ area all word = end - word
+μ-loop rows subformulas r shelf area₀ nodes number count set unmet end all₀ word₀ area all word = end - word
 
 node-requires : tie.Need-node-requires Inv-loop μ-loop
 node-requires c κs = search needs
@@ -82,7 +82,7 @@ single-requires c κs =
         chained = grown .chained (if1 .left);
       },
       record {
-        from-is = from-kept (ready .given) (grown .elsewhere) (omega arith) (start .args .number .0) (ready .node) (node .ensures);
+        set-is = from-kept (ready .given) (grown .elsewhere) (omega arith) (start .args .number .0) (ready .node) (node .ensures);
         unmet-is = unmet .ensures;
         below = omega (arith, test .taken, end-is);
       },

@@ -16,8 +16,8 @@ same-length c = search needs
 returns : tie.Need-returns
 returns c =
     let start = c .before .before .before .before .before .before in (
-      add-known (start .args .new) _ (start .pre .0 .fits) (sym (c .before .is-known .ensures) ∙ c .if1 .taken),
-      ((omega arith, omega arith), λ h. start .pre .1 .0),
+      add-known (start .args .new) _ (start .pre .0 .room .fits) (sym (c .before .is-known .ensures) ∙ c .if1 .taken),
+      ((omega arith, omega arith), λ h. start .pre .0 .marked),
     )
 
 mul-put-number : tie.Need-mul-put-number
@@ -56,18 +56,18 @@ same-length-3 c = search needs
 returns-2 : tie.Need-returns-2
 returns-2 c =
     let start =
-        c .before .before .before .before .before .before .before .before .before .before .before .before .before .before
-        .before .before .before in
+    c .before .before .before .before .before .before .before .before .before .before .before .before .before .before
+    .before .before .before in
     let is-known = c .before .before .before .before .before .before .before .before .before .before .before .before .is-known in
     let if1 = c .before .before .before .before .before .before .before .before .before .before .before .if1 in
     let if2 = c .before .before .before .before .before .before .before .before .before .before .if2 in
     let put-number = c .before .before .before .before .before .before .before .before .put-number in
     let slot = c .before .before .before .before .before .slot in (
-      add-new (start .args .new) _ (start .pre .0 .fits) (sym (is-known .ensures) ∙ if1 .left) (if2 .taken) (start .pre .1 .1 .1)
+      add-new (start .args .new) _ (start .pre .0 .room .fits) (sym (is-known .ensures) ∙ if1 .left) (if2 .taken) (start .pre .0 .notes)
           (put-number .ensures) (c .before .before .note .ensures),
       (
         (omega arith, omega arith),
-        λ h. marked-more (start .args .new .set) _ (start .pre .1 .0) (omega arith) (omega arith) (slot .ensures) (omega arith)
+        λ h. marked-more (start .args .new .set) _ (start .pre .0 .marked) (omega arith) (omega arith) (slot .ensures) (omega arith)
             (put-number .ensures),
       ),
     )
@@ -82,7 +82,7 @@ returns-3 : tie.Need-returns-3
 returns-3 c =
     let start = c .before .before .before .before .before .before .before in
     let is-known = c .before .before .is-known in (
-      add-full (start .args .new) _ (start .pre .0 .fits) (sym (is-known .ensures) ∙ c .before .if1 .left) (c .if2 .left),
+      add-full (start .args .new) _ (start .pre .0 .room .fits) (sym (is-known .ensures) ∙ c .before .if1 .left) (c .if2 .left),
       ((omega arith, omega arith), λ h. absurd (omega arith)),
     )
 

@@ -53,7 +53,7 @@ loop-holds c =
       turn = omega arith;
       same-area = refl;
       same-notes = refl;
-      marked = λ h. start .pre .1 .1 .1 .0;
+      marked = λ h. start .pre .1 .1 .marked;
       reached = expand-start _ _ _ _ _ _ _ _;
     }
 
@@ -70,18 +70,21 @@ returns c =
     let node = c .before .before .before .before .before .before .node in
     let ors = c .before .before .before .before .ors in
     let power = c .before .before .before .power in (
-      expand-end (loop .inv .reached) (start .pre .0) (start .pre .1 .1 .0 .fits) (node .ensures) (ors .ensures)
+      expand-end (loop .inv .reached) (start .pre .0) (start .pre .1 .1 .room .fits) (node .ensures) (ors .ensures)
           (omega (arith, power .ensures)) (inl (c .if1 .taken)),
       ((omega arith, omega arith), loop .inv .marked),
     )
 
+by-word-requires : tie.Need-by-word-requires Inv-loop μ-loop
+by-word-requires c κs =
+    let start = c .before .before .before .before .before .before .before .before .before .before .before in
+    (start .pre .0, c .before .before .before .before .before .before .unmet .ensures)
+
 follow-requires : tie.Need-follow-requires Inv-loop μ-loop
 follow-requires c κs =
-    let loop = c .before .before .before .before .before .before .loop in
-    let start = c .before .before .before .before .before .before .before .before .before .before .before .before .before .before in
-    let unmet = c .before .before .before .before .before .before .before .before .before .unmet in
+    let loop = c .before .before .before .before .before .before .before .loop in
     let marked = loop .inv .marked (omega arith) in
-    (start .pre .0, (search needs, (marked, (unmet .ensures, search needs))))
+    (record { room = search needs; marked = marked; notes = search needs }, search needs)
 
 add-word : tie.Need-add-word Inv-loop μ-loop
 add-word c = search needs
@@ -92,7 +95,9 @@ loop-less c = search needs
 loop-again : tie.Need-loop-again Inv-loop μ-loop
 loop-again c =
     let follow = c .before .before .before .before .follow in
-    let loop = c .before .before .before .before .before .before .before .before .before .before .before .loop in
+    let by-word = c .before .before .before .before .before .before .before .before in
+    let loop = by-word .before .before .before .before .loop in
+    let start = by-word .before .before .before .before .before .before .before .before .before .before .before .before in
     record {
       low = omega arith;
       high = omega arith;
@@ -100,7 +105,7 @@ loop-again c =
       same-area = search needs;
       same-notes = search needs;
       marked = follow .ensures .1 .1;
-      reached = expand-turn (loop .inv .reached) (follow .ensures .0);
+      reached = expand-turn (loop .inv .reached) (start .pre .0) (by-word .by-word .ensures) (follow .ensures .0);
     }
 
 same-length-3 : tie.Need-same-length-3 Inv-loop μ-loop
@@ -116,7 +121,7 @@ returns-2 c =
     let node = c .before .before .before .before .before .node in
     let ors = c .before .before .before .ors in
     let power = c .before .before .power in (
-      expand-end (loop .inv .reached) (start .pre .0) (start .pre .1 .1 .0 .fits) (node .ensures) (ors .ensures)
+      expand-end (loop .inv .reached) (start .pre .0) (start .pre .1 .1 .room .fits) (node .ensures) (ors .ensures)
           (omega (arith, power .ensures)) (inr (omega (arith, power .ensures, c .loop-test .left))),
       ((omega arith, omega arith), loop .inv .marked),
     )
@@ -135,6 +140,7 @@ expand-spec =
     same-length
     same-length-2
     returns
+    by-word-requires
     follow-requires
     add-word
     loop-less

@@ -1,5 +1,4 @@
 -- `tableau::find` tells where a word stands among the first `known`, by looking at one after the other (`Looking`).
-use native.Mathlib.Omega.{arith}
 use Prim.Native.Nat.{_-_}
 use mathlib.Core.Path.{sym, _∙_}
 use borrow.Author.Needs.{needs}

@@ -6,7 +6,6 @@ use native.Mathlib.Omega.{arith}
 use Prim.Native.Nat.{ℕ, _+_, _-_, _≤_}
 use lib.ListN.{length, length-replicate}
 use Rattle.tableau.specs.Area.{Marked, Added}
-use Rattle.tableau.specs.declared.Arrival.{Arrival}
 use Rattle.tableau.proofs.NodeLoop.{Finding, find-start, find-turn, find-end, find-origins, find-full}
 use Rattle.tableau.proofs.SlotLaws.{marked-none}
 use borrow.Author.Needs.{needs}
@@ -32,7 +31,10 @@ abbrev μ-loop : tie.MeasureT-loop
 μ-loop rows count area₀ capacity origins₀ slots₀ known₀ i₀ area origins slots known i = (capacity + 1) - i
 
 add-requires : tie.Need-add-requires Inv-loop μ-loop
-add-requires c κs = (search needs, (marked-none _ _ (omega (arith, length-replicate {A = ℕ} 2048 0)), search needs))
+add-requires c κs = (
+  record { room = search needs; marked = marked-none _ _ (omega (arith, length-replicate {A = ℕ} 2048 0)); notes = search needs },
+  search needs,
+)
 
 loop-holds : tie.Need-loop-holds Inv-loop μ-loop
 loop-holds c =
@@ -69,7 +71,7 @@ expand-requires c κs =
     let start = earlier .before .before .before .before .before .before .before .before in
     let test = c .before .before .before .before .loop-test in
     let marked = loop .inv .marked (if1 .left) in
-    (start .pre .0, (test .taken, (search needs, (marked, search needs))))
+    (start .pre .0, (test .taken, record { room = search needs; marked = marked; notes = search needs }))
 
 add-i : tie.Need-add-i Inv-loop μ-loop
 add-i c = search needs
