@@ -1,6 +1,6 @@
 -- Numbers in bytes, over the width: what is written is what is read (`number-written`), bytes elsewhere do not count (`number-same`,
--- `number-behind`), a number of w bytes is below 256^w (`number-small`). `Reading` and `Writing` say what a loop has done that reads from
--- the highest byte down, or writes from the lowest byte up. Assumes nothing.
+-- `number-behind`), a number of w bytes is below 256^w (`number-small`). `Reading-bytes` and `Writing-bytes` say what a loop has done that
+-- reads from the highest byte down, or writes from the lowest byte up. Assumes nothing.
 use mathlib.Core.Path.{_≡_, refl, sym, ap, _∙_}
 use mathlib.Core.List.{List, [], _∷_, _++_, append-nil, append-assoc}
 use Prim.Native.Nat.{ℕ, zero, suc, _+_, _-_, _*_, _/_, _%_, _^_, _≤_, _<_}
@@ -86,13 +86,13 @@ power-below : {n : ℕ} → n ≤ 7 → 256 ^ n ≤ 256 ^ 7
 power-below h = pow-le-pow-right (zero-lt-suc 255) h
 
 -- The w - i highest of w bytes are read.
-pub record Reading (w : ℕ) (a : List ℕ) (at i x : ℕ) : Type 0 where
+pub record Reading-bytes (w : ℕ) (a : List ℕ) (at i x : ℕ) : Type 0 where
   pub among : i ≤ w
   pub is : x ≡ number-at (w - i) a (at + i)
   pub small : x < 256 ^ (w - i)
 
 -- The i lowest of w bytes of x are written, and y is what is left of x.
-pub record Writing (w : ℕ) (a : List ℕ) (at x i y : ℕ) (b : List ℕ) : Type 0 where
+pub record Writing-bytes (w : ℕ) (a : List ℕ) (at x i y : ℕ) (b : List ℕ) : Type 0 where
   pub among : i ≤ w
   pub written : List ℕ
   pub many : length written ≡ i
@@ -101,7 +101,7 @@ pub record Writing (w : ℕ) (a : List ℕ) (at x i y : ℕ) (b : List ℕ) : Ty
   pub long : length b ≡ length a
 
 module _ (w : ℕ) (a : List ℕ) (at : ℕ) where
-  pub read-none : Reading w a at w 0
+  pub read-none : Reading-bytes w a at w 0
   read-none = record {
     among = omega arith;
     is = sym (ap (λ (n : ℕ). number-at n a (at + w)) {x = w - w} {y = 0} (omega arith));
@@ -109,10 +109,11 @@ module _ (w : ℕ) (a : List ℕ) (at : ℕ) where
   }
 
   -- one byte more fits into eight
-  pub read-fits : {i x : ℕ} → 0 < i → w ≤ 8 → Reading w a at i x → x < 0x100000000000000
+  pub read-fits : {i x : ℕ} → 0 < i → w ≤ 8 → Reading-bytes w a at i x → x < 0x100000000000000
   read-fits {i} h l r = omega (arith, r .small, power-below {n = w - i} (omega (arith, r .among)))
 
-  pub read-more : {i x b : ℕ} → 0 < i → b ≡ getD a (at + (i - 1)) 0 → b < 256 → Reading w a at i x → Reading w a at (i - 1) (x * 256 + b)
+  pub read-more : {i x b : ℕ} → 0 < i → b ≡ getD a (at + (i - 1)) 0 → b < 256 → Reading-bytes w a at i x
+      → Reading-bytes w a at (i - 1) (x * 256 + b)
   read-more {i} {x} {b} h e l r = record {
     among = omega (arith, r .among);
     is =
@@ -127,7 +128,7 @@ module _ (w : ℕ) (a : List ℕ) (at : ℕ) where
         omega (arith, power, r .small);
   }
 
-  pub read-all : {i x : ℕ} → i ≤ 0 → Reading w a at i x → (x ≡ number-at w a at) × (x < 256 ^ w)
+  pub read-all : {i x : ℕ} → i ≤ 0 → Reading-bytes w a at i x → (x ≡ number-at w a at) × (x < 256 ^ w)
   read-all {i} {x} h r = (is, small)
     where
       small : x < 256 ^ w
@@ -138,7 +139,7 @@ module _ (w : ℕ) (a : List ℕ) (at : ℕ) where
           ∙ ap (number-at w a) {x = at + i} {y = at} (omega arith)
 
 module _ (w : ℕ) (a : List ℕ) (at x : ℕ) where
-  pub write-none : Writing w a at x 0 x a
+  pub write-none : Writing-bytes w a at x 0 x a
   write-none = record {
     among = omega arith;
     written = [];
@@ -148,8 +149,8 @@ module _ (w : ℕ) (a : List ℕ) (at x : ℕ) where
     long = refl;
   }
 
-  pub write-more : {i y : ℕ} {b : List ℕ} → i < w → at + w ≤ length a → Writing w a at x i y b
-      → Writing w a at x (i + 1) (y / 256) (set b (at + i) (y % 256))
+  pub write-more : {i y : ℕ} {b : List ℕ} → i < w → at + w ≤ length a → Writing-bytes w a at x i y b
+      → Writing-bytes w a at x (i + 1) (y / 256) (set b (at + i) (y % 256))
   write-more {i} {y} {b} h l r = record {
     among = omega arith;
     written = pre ++ (y % 256 ∷ []);
@@ -183,7 +184,7 @@ module _ (w : ℕ) (a : List ℕ) (at x : ℕ) where
           ap (λ (l : List ℕ). take at a ++ (r .written ++ l)) (drop-cons a (at + i) 0 (omega arith))
           ∙ sym (append-assoc (take at a) (r .written) (getD a (at + i) 0 ∷ drop (suc (at + i)) a))
 
-  pub write-all : {i y : ℕ} {b : List ℕ} → w ≤ i → Writing w a at x i y b → b ≡ with-number w a at x
+  pub write-all : {i y : ℕ} {b : List ℕ} → w ≤ i → Writing-bytes w a at x i y b → b ≡ with-number w a at x
   write-all {i} {y} {b} h r =
       let all : bytes-of w x ≡ r .written =
       r .bytes ∙ ap (λ (n : ℕ). r .written ++ bytes-of n y) {x = w - i} {y = 0} (omega arith) ∙ append-nil (r .written) in

@@ -8,9 +8,9 @@ use mathlib.Core.List.{List, [], _∷_, _++_, map}
 use Prim.Native.Nat.{ℕ, zero, suc, _+_, _≤_, _<_}
 use native.Mathlib.Omega.{arith}
 use lib.ListN.{length, getD, length-map}
-use Rattle.base.specs.Lists.{repeat, tail, same-bit}
+use Rattle.base.specs.Lists.{iterate, tail, same-bit}
 use Rattle.base.specs.Sets.{Below, Inside, Toward}
-use Rattle.base.proofs.ListLaws.{repeat-stays, repeat-keeps}
+use Rattle.base.proofs.ListLaws.{iterate-stays, iterate-keeps}
 
 pub below-true : {a b : Bool} → Below a b → a ≡ true → b ≡ true
 below-true Below.same q = q
@@ -75,10 +75,10 @@ inside-tail Inside.none = Inside.none
 inside-tail (Inside.put p h) = h
 
 -- rounds that keep the order, from sets in order
-pub inside-repeat : (n : ℕ) (f g : List Bool → List Bool) → ((s t : List Bool) → Inside s t → Inside (f s) (g t))
-    → {s t : List Bool} → Inside s t → Inside (repeat n f s) (repeat n g t)
-inside-repeat zero f g h r = r
-inside-repeat (suc n) f g h {s} {t} r = inside-repeat n f g h (h s t r)
+pub inside-iterate : (n : ℕ) (f g : List Bool → List Bool) → ((s t : List Bool) → Inside s t → Inside (f s) (g t))
+    → {s t : List Bool} → Inside s t → Inside (iterate n f s) (iterate n g t)
+inside-iterate zero f g h r = r
+inside-iterate (suc n) f g h {s} {t} r = inside-iterate n f g h (h s t r)
 
 pub toward-trans : (g : Bool) (s t u : List Bool) → Toward g s t → Toward g t u → Toward g s u
 toward-trans true s t u h k = inside-trans k h
@@ -136,14 +136,14 @@ toward-or true s t h =
 -- rounds of a function that keeps the order
 module _ (g : Bool) (f : List Bool → List Bool) (mono : (s t : List Bool) → Toward g s t → Toward g (f s) (f t)) where
   -- if the first one moves, as many rounds as there are elements left to move come to rest
-  pub rests : (n : ℕ) (s : List Bool) → Toward g s (f s) → waiting g s ≤ n → f (repeat n f s) ≡ repeat n f s
+  pub rests : (n : ℕ) (s : List Bool) → Toward g s (f s) → waiting g s ≤ n → f (iterate n f s) ≡ iterate n f s
   rests zero s h l = elim (toward-or g s (f s) h) [ inl e ↦ sym e | inr k ↦ absurd (omega arith) ]
   rests (suc n) s h l =
       elim (toward-or g s (f s) h) [
-        | inl e ↦ let q = repeat-stays (suc n) f s (sym e) in ap f q ∙ sym e ∙ sym q
+        | inl e ↦ let q = iterate-stays (suc n) f s (sym e) in ap f q ∙ sym e ∙ sym q
         | inr k ↦ rests n (f s) (mono s (f s) h) (omega arith)
       ]
 
   -- they pass no set that the function moves no further
-  pub passes-none : (n : ℕ) (s t : List Bool) → Toward g s t → Toward g (f t) t → Toward g (repeat n f s) t
-  passes-none n s t h k = repeat-keeps (λ (u : List Bool). Toward g u t) n f (λ u r. toward-trans g (f u) (f t) t (mono u t r) k) s h
+  pub passes-none : (n : ℕ) (s t : List Bool) → Toward g s t → Toward g (f t) t → Toward g (iterate n f s) t
+  passes-none n s t h k = iterate-keeps (λ (u : List Bool). Toward g u t) n f (λ u r. toward-trans g (f u) (f t) t (mono u t r) k) s h

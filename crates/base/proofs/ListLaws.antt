@@ -5,7 +5,7 @@ use mathlib.Core.Path.{_≡_, refl, ap, subst, _∙_}
 use mathlib.Core.List.{List, [], _∷_, _++_, map}
 use native.Mathlib.Omega.{arith}
 use lib.ListN.{length, getD}
-use Rattle.base.specs.Lists.{numbers, repeat}
+use Rattle.base.specs.Lists.{range, iterate}
 
 module _ {A : Type 0} where
   -- the elements, numbered from e on, each have the property
@@ -40,34 +40,34 @@ module _ {A : Type 0} where
         (f (suc i) (omega arith))),
   )
 
-  pub repeat-add : (m n : ℕ) (f : A → A) (a : A) → repeat (m + n) f a ≡ repeat n f (repeat m f a)
-  repeat-add zero n f a = ap (λ (k : ℕ). repeat k f a) {x = 0 + n} {y = n} (omega arith)
-  repeat-add (suc m) n f a = ap (λ (k : ℕ). repeat k f a) {x = suc m + n} {y = suc (m + n)} (omega arith) ∙ repeat-add m n f (f a)
+  pub iterate-add : (m n : ℕ) (f : A → A) (a : A) → iterate (m + n) f a ≡ iterate n f (iterate m f a)
+  iterate-add zero n f a = ap (λ (k : ℕ). iterate k f a) {x = 0 + n} {y = n} (omega arith)
+  iterate-add (suc m) n f a = ap (λ (k : ℕ). iterate k f a) {x = suc m + n} {y = suc (m + n)} (omega arith) ∙ iterate-add m n f (f a)
 
   -- one round more, taken last
-  pub repeat-suc : (n : ℕ) (f : A → A) (a : A) → repeat (suc n) f a ≡ f (repeat n f a)
-  repeat-suc zero f a = refl
-  repeat-suc (suc n) f a = repeat-suc n f (f a)
+  pub iterate-suc : (n : ℕ) (f : A → A) (a : A) → iterate (suc n) f a ≡ f (iterate n f a)
+  iterate-suc zero f a = refl
+  iterate-suc (suc n) f a = iterate-suc n f (f a)
 
-  pub repeat-stays : (n : ℕ) (f : A → A) (a : A) → f a ≡ a → repeat n f a ≡ a
-  repeat-stays zero f a q = refl
-  repeat-stays (suc n) f a q = ap (repeat n f) q ∙ repeat-stays n f a q
+  pub iterate-stays : (n : ℕ) (f : A → A) (a : A) → f a ≡ a → iterate n f a ≡ a
+  iterate-stays zero f a q = refl
+  iterate-stays (suc n) f a q = ap (iterate n f) q ∙ iterate-stays n f a q
 
   -- what a round keeps, all rounds keep
-  pub repeat-keeps : (P : A → Type 0) (n : ℕ) (f : A → A) → ((a : A) → P a → P (f a)) → (a : A) → P a → P (repeat n f a)
-  repeat-keeps P zero f h a p = p
-  repeat-keeps P (suc n) f h a p = repeat-keeps P n f h (f a) (h a p)
+  pub iterate-keeps : (P : A → Type 0) (n : ℕ) (f : A → A) → ((a : A) → P a → P (f a)) → (a : A) → P a → P (iterate n f a)
+  iterate-keeps P zero f h a p = p
+  iterate-keeps P (suc n) f h a p = iterate-keeps P n f h (f a) (h a p)
 
 pub getD-map : {A B : Type 0} (f : A → B) (xs : List A) (i : ℕ) (d : A) (z : B) → i < length xs → getD (map f xs) i z ≡ f (getD xs i d)
 getD-map f [] i d z h = absurd (omega arith)
 getD-map f (x ∷ xs) zero d z h = refl
 getD-map f (x ∷ xs) (suc i) d z h = getD-map f xs i d z (omega arith)
 
-pub length-numbers : (k n : ℕ) → length (numbers k n) ≡ n
-length-numbers k zero = refl
-length-numbers k (suc n) = ap suc (length-numbers (suc k) n)
+pub length-range : (k n : ℕ) → length (range k n) ≡ n
+length-range k zero = refl
+length-range k (suc n) = ap suc (length-range (suc k) n)
 
-pub getD-numbers : (k n i d : ℕ) → i < n → getD (numbers k n) i d ≡ k + i
-getD-numbers k zero i d h = absurd (omega arith)
-getD-numbers k (suc n) zero d h = omega arith
-getD-numbers k (suc n) (suc i) d h = omega (arith, getD-numbers (suc k) n i d (omega arith))
+pub getD-range : (k n i d : ℕ) → i < n → getD (range k n) i d ≡ k + i
+getD-range k zero i d h = absurd (omega arith)
+getD-range k (suc n) zero d h = omega arith
+getD-range k (suc n) (suc i) d h = omega (arith, getD-range (suc k) n i d (omega arith))

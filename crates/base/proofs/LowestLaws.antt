@@ -15,16 +15,17 @@ use Rattle.base.proofs.BitLaws.{bit-and, bit-other, set-off}
 use Rattle.base.proofs.WordLaws.{bit-zero, bit-suc, same-bits}
 
 -- e is the lowest bit of w, and below d
-abbrev Found : (w d e : ℕ) → Type 0
-Found w d e = (e < d) × (bit w e ≡ true) × ((k : ℕ) → k < e → bit w k ≡ false)
+abbrev Lowest-below : (w d e : ℕ) → Type 0
+Lowest-below w d e = (e < d) × (bit w e ≡ true) × ((k : ℕ) → k < e → bit w k ≡ false)
 
 -- an odd word has bit 0; an even one has the lowest bit of its half, one further up
-found : (d w : ℕ) → 0 < w → w < 2 ^ d → Found w d (trailingZeros d w)
+found : (d w : ℕ) → 0 < w → w < 2 ^ d → Lowest-below w d (trailingZeros d w)
 unfolding trailingZeros
 found zero w h l = absurd (omega arith)
 found (suc d) w h l = by (w % 2) refl (λ q. found d (w / 2) (omega arith) (omega (arith, pow-succ' 2 d)))
   where
-    by : (r : ℕ) → w % 2 ≡ r → (w % 2 ≡ 0 → Found (w / 2) d (trailingZeros d (w / 2))) → Found w (suc d) (under r (trailingZeros d (w / 2)))
+    by : (r : ℕ) → w % 2 ≡ r → (w % 2 ≡ 0 → Lowest-below (w / 2) d (trailingZeros d (w / 2)))
+        → Lowest-below w (suc d) (under r (trailingZeros d (w / 2)))
     by zero q half =
         let (a, b, c) = half q in
         (omega arith, bit-suc w (trailingZeros d (w / 2)) ∙ b, λ k m. lower k m c)

@@ -12,23 +12,23 @@ use native.Mathlib.Decide.{ℕ-discrete}
 use native.Mathlib.Nat.{pow-succ', suc-mul, zero-mul}
 use lib.Dec.{T, eqb, eqb→eq, eqb-refl}
 use lib.ListN.{length, length-append, length-map}
-use Rattle.base.specs.Lists.{numbers, gather, any, keep, alike, member}
+use Rattle.base.specs.Lists.{range, flat-map, any, filter, alike, member}
 use Rattle.base.proofs.BoolLaws.{by-test, and-left, and-right, and-both, or-cases, or-left, or-right}
 
 module _ {A B : Type 0} (f : A → List B) where
-  pub gather-of : (xs : List A) {b : B} → List·Memᴰ b (gather f xs) → (a : A) × List·Memᴰ a xs × List·Memᴰ b (f a)
-  gather-of [] m = absurd (List·Memᴰ·not-nil m)
-  gather-of (x ∷ xs) m =
+  pub flat-map-of : (xs : List A) {b : B} → List·Memᴰ b (flat-map f xs) → (a : A) × List·Memᴰ a xs × List·Memᴰ b (f a)
+  flat-map-of [] m = absurd (List·Memᴰ·not-nil m)
+  flat-map-of (x ∷ xs) m =
       elim (List·Memᴰ·append-cases (f x) m)
-      [ inl h ↦ (x, List·Memᴰ·head refl, h) | inr t ↦ let (a, q, h) = gather-of xs t in (a, List·Memᴰ·tail q, h) ]
+      [ inl h ↦ (x, List·Memᴰ·head refl, h) | inr t ↦ let (a, q, h) = flat-map-of xs t in (a, List·Memᴰ·tail q, h) ]
 
-  pub gather-in : {xs : List A} {a : A} {b : B} → List·Memᴰ a xs → List·Memᴰ b (f a) → List·Memᴰ b (gather f xs)
-  gather-in {b} (List·Memᴰ·head {xs} e) h = Memᴰ·append-left (gather f xs) (subst (λ (y : A). List·Memᴰ b (f y)) e h)
-  gather-in (List·Memᴰ·tail {x} m) h = Memᴰ·append-right (f x) (gather-in m h)
+  pub flat-map-in : {xs : List A} {a : A} {b : B} → List·Memᴰ a xs → List·Memᴰ b (f a) → List·Memᴰ b (flat-map f xs)
+  flat-map-in {b} (List·Memᴰ·head {xs} e) h = Memᴰ·append-left (flat-map f xs) (subst (λ (y : A). List·Memᴰ b (f y)) e h)
+  flat-map-in (List·Memᴰ·tail {x} m) h = Memᴰ·append-right (f x) (flat-map-in m h)
 
-  pub length-gather : (n : ℕ) (xs : List A) → ((a : A) → length (f a) ≡ n) → length (gather f xs) ≡ length xs * n
-  length-gather n [] h = sym (zero-mul n)
-  length-gather n (x ∷ xs) h = omega (arith, length-append (f x) (gather f xs), h x, length-gather n xs h, suc-mul (length xs) n)
+  pub length-flat-map : (n : ℕ) (xs : List A) → ((a : A) → length (f a) ≡ n) → length (flat-map f xs) ≡ length xs * n
+  length-flat-map n [] h = sym (zero-mul n)
+  length-flat-map n (x ∷ xs) h = omega (arith, length-append (f x) (flat-map f xs), h x, length-flat-map n xs h, suc-mul (length xs) n)
 
 module _ {A : Type 0} (q : A → Bool) where
   pub any-of : (xs : List A) → T (any q xs) → (a : A) × List·Memᴰ a xs × T (q a)
@@ -41,32 +41,32 @@ module _ {A : Type 0} (q : A → Bool) where
   any-in (List·Memᴰ·head {x} {xs} e) h = or-left (q x) (any q xs) (subst (λ (b : A). T (q b)) e h)
   any-in (List·Memᴰ·tail {x} {xs} m) h = or-right (q x) (any q xs) (any-in m h)
 
-  pub keep-of : (xs : List A) {a : A} → List·Memᴰ a (keep q xs) → List·Memᴰ a xs × T (q a)
-  keep-of [] m = absurd (List·Memᴰ·not-nil m)
-  keep-of (x ∷ xs) {a} m =
-      by-test (q x) (λ b. List·Memᴰ a (cond b (x ∷ keep q xs) (keep q xs)) → List·Memᴰ a (x ∷ xs) × T (q a))
+  pub filter-of : (xs : List A) {a : A} → List·Memᴰ a (filter q xs) → List·Memᴰ a xs × T (q a)
+  filter-of [] m = absurd (List·Memᴰ·not-nil m)
+  filter-of (x ∷ xs) {a} m =
+      by-test (q x) (λ b. List·Memᴰ a (cond b (x ∷ filter q xs) (filter q xs)) → List·Memᴰ a (x ∷ xs) × T (q a))
       (λ h r.
       elim (List·Memᴰ·cases-cons r)
-      [ inl e ↦ (List·Memᴰ·head e, subst⁻¹ (λ (b : A). T (q b)) e h) | inr s ↦ (List·Memᴰ·tail (keep-of xs s .0), keep-of xs s .1) ])
-      (λ h r. (List·Memᴰ·tail (keep-of xs r .0), keep-of xs r .1))
+      [ inl e ↦ (List·Memᴰ·head e, subst⁻¹ (λ (b : A). T (q b)) e h) | inr s ↦ (List·Memᴰ·tail (filter-of xs s .0), filter-of xs s .1) ])
+      (λ h r. (List·Memᴰ·tail (filter-of xs r .0), filter-of xs r .1))
       m
 
-  pub keep-in : {xs : List A} {a : A} → List·Memᴰ a xs → T (q a) → List·Memᴰ a (keep q xs)
-  keep-in {a} (List·Memᴰ·head {x} {xs} e) h =
-      by-test (q x) (λ b. List·Memᴰ a (cond b (x ∷ keep q xs) (keep q xs)))
+  pub filter-in : {xs : List A} {a : A} → List·Memᴰ a xs → T (q a) → List·Memᴰ a (filter q xs)
+  filter-in {a} (List·Memᴰ·head {x} {xs} e) h =
+      by-test (q x) (λ b. List·Memᴰ a (cond b (x ∷ filter q xs) (filter q xs)))
       (λ k. List·Memᴰ·head e)
       (λ k. absurd (k (subst (λ (b : A). T (q b)) e h)))
-  keep-in {a} (List·Memᴰ·tail {x} {xs} m) h =
-      by-test (q x) (λ b. List·Memᴰ a (cond b (x ∷ keep q xs) (keep q xs)))
-      (λ k. List·Memᴰ·tail (keep-in m h))
-      (λ k. keep-in m h)
+  filter-in {a} (List·Memᴰ·tail {x} {xs} m) h =
+      by-test (q x) (λ b. List·Memᴰ a (cond b (x ∷ filter q xs) (filter q xs)))
+      (λ k. List·Memᴰ·tail (filter-in m h))
+      (λ k. filter-in m h)
 
-  pub keep-part : (xs : List A) → Sublistᴰ (keep q xs) xs
-  keep-part [] = Sublistᴰ·slnil
-  keep-part (x ∷ xs) =
-      by-test (q x) (λ b. Sublistᴰ (cond b (x ∷ keep q xs) (keep q xs)) (x ∷ xs))
-      (λ h. Sublistᴰ·cons-cons refl (keep-part xs))
-      (λ h. Sublistᴰ·cons (keep-part xs))
+  pub filter-part : (xs : List A) → Sublistᴰ (filter q xs) xs
+  filter-part [] = Sublistᴰ·slnil
+  filter-part (x ∷ xs) =
+      by-test (q x) (λ b. Sublistᴰ (cond b (x ∷ filter q xs) (filter q xs)) (x ∷ xs))
+      (λ h. Sublistᴰ·cons-cons refl (filter-part xs))
+      (λ h. Sublistᴰ·cons (filter-part xs))
 
 -- the test of two lists, from that of their elements
 module _ {A : Type 0} (q : A → A → Bool) where
@@ -89,11 +89,11 @@ member-of j xs h = let (i, m, e) = any-of (eqb j) xs h in Memᴰ·cast (eqb→eq
 pub member-in : {j : ℕ} {xs : List ℕ} → List·Memᴰ j xs → T (member j xs)
 member-in {j} m = any-in (eqb j) m (eqb-refl j)
 
-pub numbers-in : (k n x : ℕ) → k ≤ x → x < k + n → List·Memᴰ x (numbers k n)
-numbers-in k zero x h l = absurd (omega arith)
-numbers-in k (suc n) x h l = go (ℕ-discrete x k) (λ q. numbers-in (suc k) n x q (omega arith))
+pub range-in : (k n x : ℕ) → k ≤ x → x < k + n → List·Memᴰ x (range k n)
+range-in k zero x h l = absurd (omega arith)
+range-in k (suc n) x h l = go (ℕ-discrete x k) (λ q. range-in (suc k) n x q (omega arith))
   where
-    go : Dec (x ≡ k) → (suc k ≤ x → List·Memᴰ x (numbers (suc k) n)) → List·Memᴰ x (k ∷ numbers (suc k) n)
+    go : Dec (x ≡ k) → (suc k ≤ x → List·Memᴰ x (range (suc k) n)) → List·Memᴰ x (k ∷ range (suc k) n)
     go (yes e) f = List·Memᴰ·head e
     go (no e) f = List·Memᴰ·tail (f (omega arith))
 

@@ -7,8 +7,8 @@ use Prim.Native.Nat.{ℕ, zero, suc, _+_, _*_, _≤_, _<_}
 use native.Mathlib.Omega.{arith}
 use native.Mathlib.Nat.{suc-mul}
 use lib.ListN.{length}
-use Rattle.base.specs.Lists.{repeat}
-use Rattle.base.proofs.ListLaws.{repeat-stays}
+use Rattle.base.specs.Lists.{iterate}
+use Rattle.base.proofs.ListLaws.{iterate-stays}
 
 -- related element by element
 pub data Pairs {A B : Type 0} (P : A → B → Type 0) : List A → List B → Type 0 where
@@ -51,10 +51,10 @@ module _ {A : Type 0} (P : A → A → Type 0) (size : A → ℕ) (less : (a b :
 module _ {A : Type 0} (f : A → A) (Shape : A → Type 0) (kept : (a : A) → Shape a → Shape (f a)) (size : A → ℕ)
     (less : (a : A) → Shape a → (a ≡ f a) ⊎ (size (f a) < size a))
   where
-    pub comes-to-rest : (n : ℕ) (a : A) → Shape a → size a ≤ n → f (repeat n f a) ≡ repeat n f a
+    pub comes-to-rest : (n : ℕ) (a : A) → Shape a → size a ≤ n → f (iterate n f a) ≡ iterate n f a
     comes-to-rest zero a s l = elim (less a s) [ inl e ↦ sym e | inr k ↦ absurd (omega arith) ]
     comes-to-rest (suc n) a s l =
         elim (less a s) [
-          | inl e ↦ let q = repeat-stays (suc n) f a (sym e) in ap f q ∙ sym e ∙ sym q
+          | inl e ↦ let q = iterate-stays (suc n) f a (sym e) in ap f q ∙ sym e ∙ sym q
           | inr k ↦ comes-to-rest n (f a) (kept a s) (omega arith)
         ]

@@ -136,21 +136,21 @@ module _ {L K : Type 0} (same : K → K → Bool) (edges : K → List (Edge L K)
   new-onward x done queue m = Memᴰ·of-map (onward same edges x) (edges (x .at)) (fresh-given (done ++ (x ∷ queue)) (onwards x) m)
 
   -- a vertex with a way from a start to it: what can be found
-  pub data Found (starts : List (Item L K)) : Item L K → Type 0 where
-    start : {x : Item L K} → List·Memᴰ x starts → Found starts x
-    go : {x : Item L K} {e : Edge L K} → Found starts x → List·Memᴰ e (edges (x .at)) → Found starts (onward same edges x e)
+  pub data Reachable-by (starts : List (Item L K)) : Item L K → Type 0 where
+    start : {x : Item L K} → List·Memᴰ x starts → Reachable-by starts x
+    go : {x : Item L K} {e : Edge L K} → Reachable-by starts x → List·Memᴰ e (edges (x .at)) → Reachable-by starts (onward same edges x e)
 
   -- the search finds only that
   pub search-found : (fuel : ℕ) (starts : List (Item L K)) {x : Item L K} → List·Memᴰ x (search-from same edges fuel starts)
-      → Found starts x
+      → Reachable-by starts x
   search-found fuel starts {x} m =
-      walk-keeps (λ xs. (y : Item L K) → List·Memᴰ y xs → Found starts y)
+      walk-keeps (λ xs. (y : Item L K) → List·Memᴰ y xs → Reachable-by starts y)
       (λ z done queue f y r.
       elim (List·Memᴰ·append-cases (done ++ (z ∷ queue)) r) [
         | inl a ↦ f y a
         | inr b ↦
             let (e, h, q) = new-onward z done queue b in
-            subst (Found starts) q (go (f z (Memᴰ·append-right done (List·Memᴰ·head refl))) h)
+            subst (Reachable-by starts) q (go (f z (Memᴰ·append-right done (List·Memᴰ·head refl))) h)
       ])
       fuel [] (fresh same edges [] starts) (λ y r. start (fresh-given [] starts r)) x m
 
@@ -202,7 +202,7 @@ module _ {L K : Type 0} (same : K → K → Bool) (edges : K → List (Edge L K)
         fuel [] (fresh same edges [] starts) (fresh-distinct [] starts)
 
     -- it finds no more than there are vertices that can be found
-    pub search-few : (fuel : ℕ) (starts : List (Item L K)) (us : List K) → ((x : Item L K) → Found starts x → List·Memᴰ (x .at) us)
+    pub search-few : (fuel : ℕ) (starts : List (Item L K)) (us : List K) → ((x : Item L K) → Reachable-by starts x → List·Memᴰ (x .at) us)
         → length (search-from same edges fuel starts) ≤ length us
     search-few fuel starts us f =
         pigeons (search-from same edges fuel starts) (search-distinct fuel starts) us (λ x m. f x (search-found fuel starts m))

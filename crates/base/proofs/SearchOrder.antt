@@ -44,13 +44,13 @@ module _ {L K : Type 0} (rank : Item L K → ℕ) where
   sorted-rest (z ∷ xs) x ys (more f s) = sorted-rest xs x ys s
 
   -- some item of the list is at k, with a rank of at most n
-  abbrev pub Within : List (Item L K) → K → ℕ → Type 0
-  Within xs k n = (x : Item L K) × List·Memᴰ x xs × (k ≡ x .at) × (rank x ≤ n)
+  abbrev pub Rank-within : List (Item L K) → K → ℕ → Type 0
+  Rank-within xs k n = (x : Item L K) × List·Memᴰ x xs × (k ≡ x .at) × (rank x ≤ n)
 
-  within-left : (xs ys : List (Item L K)) (k : K) (n : ℕ) → Within xs k n → Within (xs ++ ys) k n
+  within-left : (xs ys : List (Item L K)) (k : K) (n : ℕ) → Rank-within xs k n → Rank-within (xs ++ ys) k n
   within-left xs ys k n (x, m, e, h) = (x, Memᴰ·append-left ys m, e, h)
 
-  within-right : (xs ys : List (Item L K)) (k : K) (n : ℕ) → Within ys k n → Within (xs ++ ys) k n
+  within-right : (xs ys : List (Item L K)) (k : K) (n : ℕ) → Rank-within ys k n → Rank-within (xs ++ ys) k n
   within-right xs ys k n (x, m, e, h) = (x, Memᴰ·append-right xs m, e, h)
 
 module _ {L K : Type 0} (same : K → K → Bool) (edges : K → List (Edge L K)) (rank : Item L K → ℕ) (B : ℕ) where
@@ -61,7 +61,8 @@ module _ {L K : Type 0} (same : K → K → Bool) (edges : K → List (Edge L K)
 
   -- from each of the first an edge leads to one of the second that is at most one edge further
   abbrev Near : List (Item L K) → List (Item L K) → Type 0
-  Near done all = (x : Item L K) → List·Memᴰ x done → (e : Edge L K) → List·Memᴰ e (edges (x .at)) → Within rank all (e .to) (rank x + B)
+  Near done all = (x : Item L K) → List·Memᴰ x done → (e : Edge L K) → List·Memᴰ e (edges (x .at))
+      → Rank-within rank all (e .to) (rank x + B)
 
   -- none is more than one edge further than any of the queue
   abbrev pub Tight : List (Item L K) → List (Item L K) → Type 0
@@ -84,16 +85,16 @@ module _ {L K : Type 0} (same : K → K → Bool) (edges : K → List (Edge L K)
           (λ n. more {x = y} {xs = fresh same edges (y ∷ s) ys} (λ z m. f z (fresh-given same edges (y ∷ s) ys m))
           (fresh-sorted (y ∷ s) ys o))
 
-      within-later : (y : Item L K) (ys : List (Item L K)) (k : K) (n : ℕ) → Within rank ys k n → Within rank (y ∷ ys) k n
+      within-later : (y : Item L K) (ys : List (Item L K)) (k : K) (n : ℕ) → Rank-within rank ys k n → Rank-within rank (y ∷ ys) k n
       within-later y ys k n (x, m, e, h) = (x, List·Memᴰ·tail m, e, h)
 
       -- of the items at a vertex that is not yet seen the first is taken, which has the lowest rank
       fresh-within : (s ys : List (Item L K)) → Sorted rank ys → (x : Item L K) → List·Memᴰ x ys
-          → Visits (x .at) s ⊎ Within rank (fresh same edges s ys) (x .at) (rank x)
+          → Visits (x .at) s ⊎ Rank-within rank (fresh same edges s ys) (x .at) (rank x)
       fresh-within s [] o x m = absurd (List·Memᴰ·not-nil m)
       fresh-within s (y ∷ ys) (more f o) x m =
           by-test (seen-in same edges s (y .at))
-          (λ b. Visits (x .at) s ⊎ Within rank (cond b (fresh same edges s ys) (y ∷ fresh same edges (y ∷ s) ys)) (x .at) (rank x))
+          (λ b. Visits (x .at) s ⊎ Rank-within rank (cond b (fresh same edges s ys) (y ∷ fresh same edges (y ∷ s) ys)) (x .at) (rank x))
           (λ t.
           elim (List·Memᴰ·cases-cons m) [
             | inl e ↦ inl (subst⁻¹ (λ (i : Item L K). Visits (i .at) s) e (seen-visits same edges sound s (y .at) t))
@@ -141,7 +142,7 @@ module _ {L K : Type 0} (same : K → K → Bool) (edges : K → List (Edge L K)
             omega arith
 
         -- where an edge leads from x
-        edge-within : (e : Edge L K) → List·Memᴰ e (edges (x .at)) → Within rank (all ++ new) (e .to) (rank x + B)
+        edge-within : (e : Edge L K) → List·Memᴰ e (edges (x .at)) → Rank-within rank (all ++ new) (e .to) (rank x + B)
         edge-within e m =
             elim
             (fresh-within all (onwards same edges x) (sorted-same rank (rank x + B) (onwards same edges x) (onwards-rank x))
@@ -157,7 +158,7 @@ module _ {L K : Type 0} (same : K → K → Bool) (edges : K → List (Edge L K)
               | inl a ↦ within-left rank all new (e .to) (rank y + B) (o .near y a e m)
               | inr b ↦
                   let q = List·Memᴰ·eq-of-singleton b in
-                  subst⁻¹ (λ (i : Item L K). Within rank (all ++ new) (e .to) (rank i + B)) q
+                  subst⁻¹ (λ (i : Item L K). Rank-within rank (all ++ new) (e .to) (rank i + B)) q
                   (edge-within e (subst (λ (i : Item L K). List·Memᴰ e (edges (i .at))) q m))
             ]
 
@@ -197,12 +198,12 @@ module _ {L K : Type 0} (same : K → K → Bool) (edges : K → List (Edge L K)
 
         -- and, where what it finds is no more than its fuel, finds each vertex that can be reached, at a rank as low as any
         pub search-near : (fuel : ℕ) → length (search-from same edges fuel starts) ≤ fuel
-            → {k : K} {n : ℕ} → Far starts k n → Within rank (search-from same edges fuel starts) k n
+            → {k : K} {n : ℕ} → Far starts k n → Rank-within rank (search-from same edges fuel starts) k n
         search-near fuel h (start {x} m) =
             elim (fresh-within [] starts rising x m) [
               | inl a ↦ absurd (List·Memᴰ·not-nil (a .1))
               | inr b ↦
-                  walk-keeps same edges (λ l. Within rank l (x .at) (rank x))
+                  walk-keeps same edges (λ l. Rank-within rank l (x .at) (rank x))
                   (λ z done queue w. within-left rank (done ++ (z ∷ queue)) (new-items same edges z done queue) (x .at) (rank x) w)
                   fuel [] firsts b
             ]

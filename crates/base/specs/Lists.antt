@@ -6,9 +6,9 @@ use Prim.Native.Nat.{ℕ, zero, suc}
 use lib.Dec.{eqb}
 
 -- the n numbers from k on
-abbrev pub numbers : ℕ → ℕ → List ℕ
-numbers k zero = []
-numbers k (suc n) = k ∷ numbers (suc k) n
+abbrev pub range : ℕ → ℕ → List ℕ
+range k zero = []
+range k (suc n) = k ∷ range (suc k) n
 
 -- x stands at number i of a list
 pub data At {A : Type 0} : List A → ℕ → A → Type 0 where
@@ -17,9 +17,9 @@ pub data At {A : Type 0} : List A → ℕ → A → Type 0 where
 
 module _ {A B : Type 0} where
   -- what f gives for each element, one after another
-  abbrev pub gather : (A → List B) → List A → List B
-  gather f [] = []
-  gather f (x ∷ xs) = f x ++ gather f xs
+  abbrev pub flat-map : (A → List B) → List A → List B
+  flat-map f [] = []
+  flat-map f (x ∷ xs) = f x ++ flat-map f xs
 
 module _ {A : Type 0} where
   -- whether q holds of some element
@@ -28,9 +28,9 @@ module _ {A : Type 0} where
   any q (x ∷ xs) = let r = any q xs in q x || r
 
   -- the elements that q holds of
-  abbrev pub keep : (A → Bool) → List A → List A
-  keep q [] = []
-  keep q (x ∷ xs) = let r = keep q xs in cond (q x) (x ∷ r) r
+  abbrev pub filter : (A → Bool) → List A → List A
+  filter q [] = []
+  filter q (x ∷ xs) = let r = filter q xs in cond (q x) (x ∷ r) r
 
   -- the first element that q holds of
   abbrev pub first : (A → Bool) → List A → Option A
@@ -43,9 +43,9 @@ module _ {A : Type 0} where
   index q (x ∷ xs) = let r = suc (index q xs) in cond (q x) 0 r
 
   -- f applied n times
-  abbrev pub repeat : ℕ → (A → A) → A → A
-  repeat zero f a = a
-  repeat (suc n) f a = repeat n f (f a)
+  abbrev pub iterate : ℕ → (A → A) → A → A
+  iterate zero f a = a
+  iterate (suc n) f a = iterate n f (f a)
 
   -- two lists, element by element
   abbrev pub alike : (A → A → Bool) → List A → List A → Bool

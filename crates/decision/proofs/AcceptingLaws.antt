@@ -10,47 +10,47 @@ use native.Mathlib.Decide.{decLt}
 use borrow.Author.Tests.{eq-eqb, ne-eqb}
 use lib.Dec.{eqb}
 use lib.ListN.{length, getD}
-use Rattle.base.specs.Lists.{numbers, first}
+use Rattle.base.specs.Lists.{range, first}
 use Rattle.base.proofs.BoolLaws.{by-test, of-T}
 use Rattle.base.proofs.TestLaws.{not-of-T}
 use Rattle.formula.specs.Table.{Table}
 use Rattle.tableau.specs.Nodes.{operands}
-use Rattle.coded.specs.Triples.{rejecting}
-use Rattle.coded.specs.Marks.{leasts}
-use Rattle.coded.specs.Runs.{Found, accepting}
-use Rattle.coded.proofs.TriplesLaws.{rejecting-same}
+use Rattle.profile_tables.specs.Triples.{rejecting}
+use Rattle.profile_tables.specs.Marks.{leasts}
+use Rattle.profile_tables.specs.Runs.{Found-profile, accepting}
+use Rattle.profile_tables.proofs.TriplesLaws.{rejecting-same}
 use Rattle.decision.specs.Searched.{accepts}
 
 -- The numbers below p fail the test: the first of all n is the first from p on.
 pub record Trying (test : ℕ → Bool) (n p : ℕ) : Type 0 where
   pub low : p ≤ n
-  pub rest : first test (numbers 0 n) ≡ first test (numbers p (n - p))
+  pub rest : first test (range 0 n) ≡ first test (range p (n - p))
 
 -- the numbers from p on, where there are some
-numbers-on : {n p : ℕ} → p < n → numbers p (n - p) ≡ p ∷ numbers (p + 1) (n - (p + 1))
+numbers-on : {n p : ℕ} → p < n → range p (n - p) ≡ p ∷ range (p + 1) (n - (p + 1))
 numbers-on {n} {p} h =
-    ap (numbers p) {x = n - p} {y = suc (n - (p + 1))} (omega arith)
-    ∙ ap (λ (k : ℕ). p ∷ numbers k (n - (p + 1))) {x = suc p} {y = p + 1} (omega arith)
+    ap (range p) {x = n - p} {y = suc (n - (p + 1))} (omega arith)
+    ∙ ap (λ (k : ℕ). p ∷ range k (n - (p + 1))) {x = suc p} {y = p + 1} (omega arith)
 
 pub try-start : (test : ℕ → Bool) (n : ℕ) → Trying test n 0
-try-start test n = record { low = omega arith; rest = ap (λ (k : ℕ). first test (numbers 0 k)) {x = n} {y = n - 0} (omega arith) }
+try-start test n = record { low = omega arith; rest = ap (λ (k : ℕ). first test (range 0 k)) {x = n} {y = n - 0} (omega arith) }
 
 module _ {test : ℕ → Bool} {n p : ℕ} (t : Trying test n p) where
   -- the test of number p decides
   tried : p < n → {b : Bool} → test p ≡ b
-      → first test (numbers 0 n) ≡ cond b (some p) (first test (numbers (p + 1) (n - (p + 1))))
+      → first test (range 0 n) ≡ cond b (some p) (first test (range (p + 1) (n - (p + 1))))
   tried h e =
       t .rest ∙ ap (first test) (numbers-on h)
-      ∙ ap (λ (b : Bool). cond b (some p) (first test (numbers (p + 1) (n - (p + 1))))) e
+      ∙ ap (λ (b : Bool). cond b (some p) (first test (range (p + 1) (n - (p + 1))))) e
 
-  pub try-found : p < n → test p ≡ true → some p ≡ first test (numbers 0 n)
+  pub try-found : p < n → test p ≡ true → some p ≡ first test (range 0 n)
   try-found h e = sym (tried h e)
 
   pub try-next : p < n → test p ≡ false → Trying test n (p + 1)
   try-next h e = record { low = omega arith; rest = tried h e }
 
-  pub try-none : n ≤ p → none ≡ first test (numbers 0 n)
-  try-none h = sym (t .rest ∙ ap (λ (k : ℕ). first test (numbers p k)) {x = n - p} {y = 0} (omega arith))
+  pub try-none : n ≤ p → none ≡ first test (range 0 n)
+  try-none h = sym (t .rest ∙ ap (λ (k : ℕ). first test (range p k)) {x = n - p} {y = 0} (omega arith))
 
 -- p is the first of the n numbers from k on that passes.
 pub record First (test : ℕ → Bool) (k n p : ℕ) : Type 0 where
@@ -62,10 +62,10 @@ pub record First (test : ℕ → Bool) (k n p : ℕ) : Type 0 where
 same-number : {p q : ℕ} → some p ≡ some q → p ≡ q
 same-number e = cc
 
-pub first-is : (test : ℕ → Bool) (k n : ℕ) {p : ℕ} → first test (numbers k n) ≡ some p → First test k n p
+pub first-is : (test : ℕ → Bool) (k n : ℕ) {p : ℕ} → first test (range k n) ≡ some p → First test k n p
 first-is test k zero e = absurd (let z : _≡_ {A = ℕ} 0 1 = cc in omega arith)
 first-is test k (suc n) {p} e =
-    by-test (test k) (λ b. cond b (some k) (first test (numbers (suc k) n)) ≡ some p → First test k (suc n) p)
+    by-test (test k) (λ b. cond b (some k) (first test (range (suc k) n)) ≡ some p → First test k (suc n) p)
     (λ h r.
     let q : k ≡ p = same-number r in
     record {
@@ -88,24 +88,24 @@ first-is test k (suc n) {p} e =
     passed f h i l m = elim (decLt k i) [ yes y ↦ f i (omega arith) m | no y ↦ ap test {x = i} {y = k} (omega arith) ∙ h ]
 
 -- the test of the code's mask is the definition's
-pub accepts-same : (t : Table) (n : ℕ) (least : ℕ → Bool) (x : Found) → n ≡ length (operands t)
+pub accepts-same : (t : Table) (n : ℕ) (least : ℕ → Bool) (x : Found-profile) → n ≡ length (operands t)
     → ((i : ℕ) → least i ≡ getD (leasts t) i false)
     → accepts least n x ≡ accepting t x
 unfolding accepts accepting
 accepts-same t n least x e f =
     ap (λ (b : Bool). eqb (x .at .first) (x .at .last) && not b)
-    (ap (λ (k : ℕ). rejecting least k (x .at .carried)) e
-    ∙ rejecting-same least (λ i. getD (leasts t) i false) (length (operands t)) (x .at .carried) (λ i h. f i))
+    (ap (λ (k : ℕ). rejecting least k (x .at .triple-set)) e
+    ∙ rejecting-same least (λ i. getD (leasts t) i false) (length (operands t)) (x .at .triple-set) (λ i h. f i))
 
 -- the code's two tests
-module _ (least : ℕ → Bool) (n : ℕ) (x : Found) {a b : ℕ} (starts : a ≡ x .at .first) (ends : b ≡ x .at .last) where
+module _ (least : ℕ → Bool) (n : ℕ) (x : Found-profile) {a b : ℕ} (starts : a ≡ x .at .first) (ends : b ≡ x .at .last) where
   pub accepts-open : (a ≡ b → ⊥) → false ≡ accepts least n x
   unfolding accepts
-  accepts-open h = sym (ap (λ (c : Bool). c && not (rejecting least n (x .at .carried)))
+  accepts-open h = sym (ap (λ (c : Bool). c && not (rejecting least n (x .at .triple-set)))
       (ne-eqb (x .at .first) (x .at .last) (λ e. h (starts ∙ e ∙ sym ends))))
 
-  pub accepts-closed : a ≡ b → {r : Bool} → r ≡ rejecting least n (x .at .carried) → not r ≡ accepts least n x
+  pub accepts-closed : a ≡ b → {r : Bool} → r ≡ rejecting least n (x .at .triple-set) → not r ≡ accepts least n x
   unfolding accepts
   accepts-closed h {r} e =
-      ap not e ∙ sym (ap (λ (c : Bool). c && not (rejecting least n (x .at .carried)))
+      ap not e ∙ sym (ap (λ (c : Bool). c && not (rejecting least n (x .at .triple-set)))
       (eq-eqb (x .at .first) (x .at .last) (sym starts ∙ h ∙ ends)))

@@ -18,9 +18,9 @@ use Rattle.tableau.specs.Transition.{Transition}
 use Rattle.theory.proofs.CoreTheorem.{cycle-meets, meets-cycle}
 use Rattle.decision.specs.Verdict.{Verdict, verdict}
 use Rattle.profile.specs.Cycle.{AcceptingCycle}
-use Rattle.decision.specs.Promise.{node-count, profile-count, Witness, Met, Unmet}
+use Rattle.decision.specs.Contract.{node-count, profile-count, Witness, Met, Unmet}
 use Rattle.decision.specs.Lends.{Lends}
-use Rattle.decision.proofs.VerdictLaws.{Concluded, From11, Decided, Answered, verdict-answered}
+use Rattle.decision.proofs.VerdictLaws.{Concluded, From11, Decided-cases, Verdict-cases, verdict-answered}
 
 abbrev pub lasso : List ℕ → ℕ → Lasso
 lasso letters stem = record { letters = letters; stem = stem }
@@ -38,9 +38,9 @@ IsMet (Verdict.refused code) = ⊥
 IsMet (Verdict.satisfiable stem cycle K P letters) = Unit {0}
 IsMet (Verdict.unsatisfiable K P) = ⊥
 
-pub read-of : {N M workspace buffer : ℕ} {f : Formula} {o : Verdict} → Answered N M workspace buffer (Reading.accepted f) o
-    → Decided N M workspace buffer (table f) o
-read-of (Answered.read d) = d
+pub read-of : {N M workspace buffer : ℕ} {f : Formula} {o : Verdict} → Verdict-cases N M workspace buffer (Reading.accepted f) o
+    → Decided-cases N M workspace buffer (table f) o
+read-of (Verdict-cases.read d) = d
 
 -- nothing is refused
 pub record Unrefused (N M workspace buffer : ℕ) (t : Table) : Type 0 where
@@ -53,7 +53,7 @@ pub past-13 : {N M workspace buffer : ℕ} {After : Verdict → Type 0} {o : Ver
     → Lends N M workspace buffer → After o
 past-13 d l = passed (passed (passed d (l .capacity)) (l .workspace-fits)) (l .buffer-fits)
 
-fitting : {N M workspace buffer : ℕ} {t : Table} {o : Verdict} → Decided N M workspace buffer t o → Unrefused N M workspace buffer t
+fitting : {N M workspace buffer : ℕ} {t : Table} {o : Verdict} → Decided-cases N M workspace buffer t o → Unrefused N M workspace buffer t
     → Concluded t o
 fitting d f = passed (passed (past-13 d (f .lends)) (f .nodes-fit)) (f .profiles-fit)
 
@@ -89,14 +89,14 @@ module _ (bytes : List ℕ) (f : Formula) (reads : parse bytes ≡ Reading.accep
       → (o : Verdict) → Asked Question (Verdict.refused code) After o → Says bytes o
   asked-says s = every-outcome (Says bytes) tt (λ q. s)
 
-  decided-says : {N M workspace buffer : ℕ} {o : Verdict} → Decided N M workspace buffer (table f) o → Says bytes o
+  decided-says : {N M workspace buffer : ℕ} {o : Verdict} → Decided-cases N M workspace buffer (table f) o → Says bytes o
   decided-says {o} d = asked-says (asked-says (asked-says (asked-says (asked-says (λ o c. concluded-says c))))) o d
 
 -- Theorem: a verdict that answers the questions says what is so.
 pub answered-says : {N M workspace buffer : ℕ} (bytes : List ℕ) {r : Reading Formula} {o : Verdict} → parse bytes ≡ r
-    → Answered N M workspace buffer r o → Says bytes o
-answered-says bytes e Answered.unread = e
-answered-says bytes e (Answered.read {f} d) = decided-says bytes f e d
+    → Verdict-cases N M workspace buffer r o → Says bytes o
+answered-says bytes e Verdict-cases.unread = e
+answered-says bytes e (Verdict-cases.read {f} d) = decided-says bytes f e d
 
 -- So does the verdict.
 pub verdict-says : (N M workspace buffer : ℕ) (bytes : List ℕ) → Says bytes (verdict N M workspace buffer bytes)
@@ -115,7 +115,7 @@ pub verdict-exact : (N M workspace buffer : ℕ) (bytes : List ℕ) (f : Formula
     → Unrefused N M workspace buffer (table f)
     → IsMet (verdict N M workspace buffer bytes) ↔ ((c : Lasso) × (meets c f ≡ true))
 verdict-exact N M workspace buffer bytes f e fits =
-    exact (fitting (read-of (subst (λ (r : Reading Formula). Answered N M workspace buffer r (verdict N M workspace buffer bytes)) e
+    exact (fitting (read-of (subst (λ (r : Reading Formula). Verdict-cases N M workspace buffer r (verdict N M workspace buffer bytes)) e
     (verdict-answered N M workspace buffer bytes))) fits)
   where
     exact : {o : Verdict} → Concluded (table f) o → IsMet o ↔ ((c : Lasso) × (meets c f ≡ true))

@@ -22,13 +22,13 @@ use Rattle.tableau.proofs.TransitionLaws.{letter-bound}
 use Rattle.profile.specs.Profiles.{Profile}
 use Rattle.profile.specs.Cycle.{Run}
 use Rattle.decision.specs.Verdict.{Verdict, verdict}
-use Rattle.decision.specs.Promise.{says, node-count, profile-count, Witness, Decided}
+use Rattle.decision.specs.Contract.{says, node-count, profile-count, Witness, Decided}
 use Rattle.decision.specs.declared.Verdict as code
 use Rattle.decision.specs.declared.Verdict.the-variants.{Satisfiable, Unsatisfiable, Refused, Unread}
 use Rattle.decision.specs.Lends.{Capacity}
-use Rattle.decision.proofs.VerdictLaws.{Concluded, Answered, verdict-answered}
+use Rattle.decision.proofs.VerdictLaws.{Concluded, Verdict-cases, verdict-answered}
 
-pub record Sized (N M stem cycle K P : ℕ) : Type 0 where
+pub record Answer-sized (N M stem cycle K P : ℕ) : Type 0 where
   pub capacity : Capacity N M
   pub stem-few : stem < N
   pub cycle-few : cycle ≤ M
@@ -36,8 +36,8 @@ pub record Sized (N M stem cycle K P : ℕ) : Type 0 where
   pub profiles-few : P ≤ M
 
 abbrev pub Bounded : (N M : ℕ) → code.Verdict → Type 0
-Bounded N M (Satisfiable stem cycle K P) = Sized N M stem cycle K P
-Bounded N M (Unsatisfiable K P) = Sized N M 0 0 K P
+Bounded N M (Satisfiable stem cycle K P) = Answer-sized N M stem cycle K P
+Bounded N M (Unsatisfiable K P) = Answer-sized N M 0 0 K P
 Bounded N M (Refused code) = code ≤ 15
 Bounded N M (Unread why) = (code-of why ≤ 9) × (place-of why ≤ 97)
 
@@ -61,10 +61,10 @@ module _ {N M : ℕ} where
       record { capacity = c; stem-few = omega (arith, c .some-nodes); cycle-few = omega arith; nodes-few = n; profiles-few = p }
 
   answered-bounded : {workspace buffer : ℕ} (bytes : List ℕ) {r : Reading Formula} → parse bytes ≡ r → (o : Verdict)
-      → Answered N M workspace buffer r o
+      → Verdict-cases N M workspace buffer r o
       → Bounded N M (says o)
-  answered-bounded bytes e o Answered.unread = (parse-stopped bytes e .known, parse-early bytes e)
-  answered-bounded bytes e o (Answered.read d) =
+  answered-bounded bytes e o Verdict-cases.unread = (parse-stopped bytes e .known, parse-early bytes e)
+  answered-bounded bytes e o (Verdict-cases.read d) =
       asked-bounded (omega arith)
       (λ c. asked-bounded (omega arith)
       (λ _. asked-bounded (omega arith)
@@ -77,13 +77,13 @@ decided-bounded {bytes} {N} {M} {w} {b} d =
     (answered-bounded bytes refl (verdict N M (length w) (length b) bytes) (verdict-answered N M (length w) (length b) bytes))
 
 -- letters of sixteen bits
-abbrev pub Small : List ℕ → Type 0
-Small xs = (x : ℕ) → List·Memᴰ x xs → x < 65536
+abbrev pub Letters-small : List ℕ → Type 0
+Letters-small xs = (x : ℕ) → List·Memᴰ x xs → x < 65536
 
-one-small : {x : ℕ} → x < 65536 → Small (x ∷ [])
+one-small : {x : ℕ} → x < 65536 → Letters-small (x ∷ [])
 one-small h y i = subst⁻¹ (λ (z : ℕ). z < 65536) (List·Memᴰ·eq-of-singleton i) h
 
-more-small : (xs : List ℕ) (x : ℕ) → Small xs → x < 65536 → Small (xs ++ (x ∷ []))
+more-small : (xs : List ℕ) (x : ℕ) → Letters-small xs → x < 65536 → Letters-small (xs ++ (x ∷ []))
 more-small xs x k h y i =
     elim (List·Memᴰ·append-cases xs i) [
       | inl a ↦ k y a
@@ -94,29 +94,30 @@ abbrev letter : Transition → ℕ
 letter s = s .letter
 
 -- one transition more
-step-small : (ss : List Transition) (s : Transition) → Small (map letter ss) → s .letter < 65536 → Small (map letter (ss ++ (s ∷ [])))
-step-small ss s k h = subst⁻¹ Small (map-append letter ss (s ∷ [])) (more-small (map letter ss) (s .letter) k h)
+step-small : (ss : List Transition) (s : Transition) → Letters-small (map letter ss) → s .letter < 65536
+    → Letters-small (map letter (ss ++ (s ∷ [])))
+step-small ss s k h = subst⁻¹ Letters-small (map-append letter ss (s ∷ [])) (more-small (map letter ss) (s .letter) k h)
 
 module _ (t : Table) where
-  along-small : {v u : Subset} {ss : List Transition} → Along t v ss u → Small (map letter ss)
+  along-small : {v u : Subset} {ss : List Transition} → Along t v ss u → Letters-small (map letter ss)
   along-small Along.stay = λ x i. absurd (List·Memᴰ·not-nil i)
   along-small (Along.on {u} {ss} {s} a m) = step-small ss s (along-small a) (letter-bound t u m)
 
-  run-small : {p : Profile} {ss : List Transition} → Run t p ss → Small (map letter ss)
+  run-small : {p : Profile} {ss : List Transition} → Run t p ss → Letters-small (map letter ss)
   run-small (Run.one {v} m) = one-small (letter-bound t v m)
   run-small (Run.more {p} {ss} {s} r m) = step-small ss s (run-small r) (letter-bound t (p .last) m)
 
 -- the letters of a witness: those before the cycle, and its own
-pub record Parted (stem cycle : ℕ) (letters : List ℕ) : Type 0 where
+pub record Letters-parted (stem cycle : ℕ) (letters : List ℕ) : Type 0 where
   pub before : List ℕ
   pub around : List ℕ
   pub parts : letters ≡ before ++ around
   pub stem-is : stem ≡ length before
   pub cycle-is : cycle ≡ length around
-  pub before-small : Small before
-  pub around-small : Small around
+  pub before-small : Letters-small before
+  pub around-small : Letters-small around
 
-pub witness-parted : {t : Table} {stem cycle : ℕ} {letters : List ℕ} → Witness t stem cycle letters → Parted stem cycle letters
+pub witness-parted : {t : Table} {stem cycle : ℕ} {letters : List ℕ} → Witness t stem cycle letters → Letters-parted stem cycle letters
 witness-parted {t} w =
     record {
       before = map letter (w .there);

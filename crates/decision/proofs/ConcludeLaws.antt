@@ -9,9 +9,9 @@ use Prim.Native.Nat.{ℕ, _+_, _≤_, _<_}
 use native.Mathlib.Omega.{arith}
 use lib.Dec.{T}
 use lib.ListN.{length, length-append, length-map, drop}
-use Rattle.base.specs.Lists.{numbers, first}
+use Rattle.base.specs.Lists.{range, first}
 use Rattle.base.proofs.BoolLaws.{to-T, of-T}
-use Rattle.base.proofs.MemberLaws.{numbers-in}
+use Rattle.base.proofs.MemberLaws.{range-in}
 use Rattle.base.proofs.FirstLaws.{first-none}
 use Rattle.base.proofs.At.{At, at-lt, at-get, at-in, at-one, at-unmap}
 use Rattle.base.specs.Search.{Item}
@@ -19,24 +19,24 @@ use Rattle.formula.specs.Table.{Table}
 use Rattle.tableau.specs.Saturation.{Subset}
 use Rattle.tableau.specs.Transition.{Transition}
 use Rattle.tableau.specs.Nodes.{nodes}
-use Rattle.tableau.specs.Promise.{table-of}
+use Rattle.tableau.specs.Inner.{table-of}
 use Rattle.tableau.specs.Area.{reachable}
 use Rattle.tableau.specs.Origins.{way-letters}
 use Rattle.tableau.proofs.NodeLaws.{nodes-distinct}
 use Rattle.profile.specs.Profiles as literal
-use Rattle.coded.specs.Runs.{Found, profiles, accepting}
-use Rattle.coded.proofs.NodeNumbers.{sets}
-use Rattle.coded.proofs.RunLaws.{Listed}
-use Rattle.coded.proofs.AgreeLaws.{Agrees, agrees, first-accepting, none-accepting}
-use Rattle.runs.specs.Stored.{stored, record-of, first-of}
-use Rattle.runs.specs.declared.Shelf.{Shelf}
-use Rattle.runs.proofs.GrowLaws.{stored-length, record-at}
-use Rattle.witness.specs.Letters.{stem-letters, cycle-letters, over, Ready, Written}
+use Rattle.profile_tables.specs.Runs.{Found-profile, profiles, accepting}
+use Rattle.profile_tables.proofs.NodeNumbers.{sets}
+use Rattle.profile_tables.proofs.RunLaws.{Item-listed}
+use Rattle.profile_tables.proofs.AgreeLaws.{Profiles-agree, agrees, first-accepting, none-accepting}
+use Rattle.profile_search.specs.Stored.{stored, record-of, first-of}
+use Rattle.profile_search.specs.declared.Store.{Store}
+use Rattle.profile_search.proofs.GrowLaws.{stored-length, record-at}
+use Rattle.witness.specs.Letters.{stem-letters, cycle-letters, over, Witness-ready, Witness-written}
 use Rattle.witness.specs.declared.Lengths.{Lengths}
 use Rattle.witness.proofs.StemLaws.{origins-noted, stem-is}
 use Rattle.witness.proofs.CycleLaws.{counterpart, agreed-linked, cycle-is}
 use Rattle.decision.specs.Verdict.{stem-to, conclude}
-use Rattle.decision.specs.Promise.{profile-count}
+use Rattle.decision.specs.Contract.{profile-count}
 use Rattle.decision.specs.declared.Verdict.the-variants.{Satisfiable, Unsatisfiable}
 use Rattle.decision.specs.Searched.{Decoded, Profiled, Answers, concluded}
 use Rattle.decision.proofs.AcceptingLaws.{First, first-is}
@@ -74,25 +74,26 @@ never {b} e h =
 
 -- the profiles of the table that was read, as they are kept, agree with the definition's
 pub decoded-agrees : {rows : List ℕ} {count : ℕ} → Decoded rows count → let t = table-of rows count in (fuel : ℕ)
-    → profile-count t ≤ fuel → Agrees t (profiles fuel t (reachable t)) (literal.profiles t (nodes t))
+    → profile-count t ≤ fuel → Profiles-agree t (profiles fuel t (reachable t)) (literal.profiles t (nodes t))
 decoded-agrees d fuel =
-    subst⁻¹ (λ (t : Table). profile-count t ≤ fuel → Agrees t (profiles fuel t (reachable t)) (literal.profiles t (nodes t))) (d .is)
+    subst⁻¹ (λ (t : Table). profile-count t ≤ fuel → Profiles-agree t (profiles fuel t (reachable t)) (literal.profiles t (nodes t)))
+    (d .is)
     (agrees (d .bytes) (d .formula) (d .parsed) fuel)
 
-module _ {rows : List ℕ} {count : ℕ} {origins area : List ℕ} {s : Shelf} {K P : ℕ} (h : Profiled rows count origins area s K P) where
+module _ {rows : List ℕ} {count : ℕ} {origins area : List ℕ} {s : Store} {K P : ℕ} (h : Profiled rows count origins area s K P) where
   abbrev t : Table
   t = table-of rows count
 
-  abbrev of : ℕ → Found
+  abbrev of : ℕ → Found-profile
   of = record-of s area
 
-  agreed : Agrees t (stored s area P) (literal.profiles t (nodes t))
+  agreed : Profiles-agree t (stored s area P) (literal.profiles t (nodes t))
   agreed =
-      subst⁻¹ (λ (l : List Found). Agrees t l (literal.profiles t (nodes t))) (h .stored-are)
+      subst⁻¹ (λ (l : List Found-profile). Profiles-agree t l (literal.profiles t (nodes t))) (h .stored-are)
       (decoded-agrees (h .decoded) (h .fuel) (omega (arith, h .enough, h .profiles-are)))
 
   -- the counterpart of profile p in the definition
-  abbrev item : (p : ℕ) → p < P → Listed
+  abbrev item : (p : ℕ) → p < P → Item-listed
   item p l = counterpart s area P agreed p l .item
 
   first-at : (p : ℕ) (l : p < P) → At (sets (nodes t)) (first-of s area p) (item p l .at .first)
@@ -102,17 +103,17 @@ module _ {rows : List ℕ} {count : ℕ} {origins area : List ℕ} {s : Shelf} {
   first-low : (p : ℕ) → p < P → first-of s area p < K
   first-low p l = omega (arith, at-lt (first-at p l), length-map (nodes t) (λ (x : Item Transition Subset). x .at), h .nodes-are)
 
-  ready : {len : ℕ} → K + P ≤ len → (p : ℕ) → p < P → Ready origins s area p len
+  ready : {len : ℕ} → K + P ≤ len → (p : ℕ) → p < P → Witness-ready origins s area p len
   ready room p l =
       record {
-        kept = record { lent = h .lent; below = omega (arith, h .few); linked = agreed-linked s area P agreed p l };
+        kept = record { fits = h .fits; below = omega (arith, h .few); linked = agreed-linked s area P agreed p l };
         noted = origins-noted (h .notes-are) (first-of s area p) (first-low p l) (h .notes-room);
         room = omega (arith, first-low p l);
       }
 
   -- The first accepting profile by the code's test, which is the definition's.
   module _ {test : ℕ → Bool} (same : (i : ℕ) → test i ≡ accepting t (of i)) where
-    module _ {p : ℕ} (e : first test (numbers 0 P) ≡ some p) where
+    module _ {p : ℕ} (e : first test (range 0 P) ≡ some p) where
       is-first : First test 0 P p
       is-first = first-is test 0 P e
 
@@ -125,7 +126,7 @@ module _ {rows : List ℕ} {count : ℕ} {origins area : List ℕ} {s : Shelf} {
           (λ j y c k. never (ap (accepting t) (at-one c (record-at s area P j (omega (arith, low)))) ∙ sym (same j)
           ∙ is-first .before j (omega arith) k))
 
-      pub witness-ready : {len : ℕ} → K + P ≤ len → Ready origins s area p len
+      pub witness-ready : {len : ℕ} → K + P ≤ len → Witness-ready origins s area p len
       witness-ready room = ready room p low
 
       stem-same : stem-letters origins (first-of s area p) ≡ letters (stem-to (item p low .at .first) (nodes t))
@@ -135,10 +136,10 @@ module _ {rows : List ℕ} {count : ℕ} {origins area : List ℕ} {s : Shelf} {
       cycle-same = cycle-is s area P agreed p low
 
       -- Theorem: the witness of this profile, written, is the answer.
-      pub witness-answers : {before after : List ℕ} {r : Lengths} → Written origins s area p before after r
+      pub witness-answers : {before after : List ℕ} {r : Lengths} → Witness-written origins s area p before after r
           → Answers (concluded t) before after (Satisfiable (r .stem) (r .cycle) K P)
       witness-answers {before} {after} {r} w =
-          subst⁻¹ (λ (o : Option Listed). Answers (conclude (nodes t) (literal.profiles t (nodes t)) o) before after
+          subst⁻¹ (λ (o : Option Item-listed). Answers (conclude (nodes t) (literal.profiles t (nodes t)) o) before after
           (Satisfiable (r .stem) (r .cycle) K P)) found
           (record {
             answered = λ i. Satisfiable (stem-long i) (cycle-long i) (h .nodes-are i) (h .profiles-are i);
@@ -155,13 +156,14 @@ module _ {rows : List ℕ} {count : ℕ} {origins area : List ℕ} {s : Shelf} {
           cycle-long = w .cycle-is ∙ ap length cycle-same ∙ length-map (item p low .way) (λ (x : Transition). x .letter)
 
     -- Theorem: where no profile that is kept is accepting, the answer is NOT.
-    pub none-answers : first test (numbers 0 P) ≡ none → (before : List ℕ)
+    pub none-answers : first test (range 0 P) ≡ none → (before : List ℕ)
         → Answers (concluded t) before before (Unsatisfiable K P)
     none-answers e before =
-        subst⁻¹ (λ (o : Option Listed). Answers (conclude (nodes t) (literal.profiles t (nodes t)) o) before before (Unsatisfiable K P))
+        subst⁻¹ (λ (o : Option Item-listed). Answers (conclude (nodes t) (literal.profiles t (nodes t)) o) before before
+        (Unsatisfiable K P))
         (none-accepting agreed
         (λ j y c g.
         let k : j < P = omega (arith, at-lt c, stored-length s area P) in
-        first-none test (numbers 0 P) e (numbers-in 0 P j (omega arith) (omega arith))
-        (subst⁻¹ T (same j) (subst (λ (x : Found). T (accepting t x)) (at-one c (record-at s area P j k)) g))))
+        first-none test (range 0 P) e (range-in 0 P j (omega arith) (omega arith))
+        (subst⁻¹ T (same j) (subst (λ (x : Found-profile). T (accepting t x)) (at-one c (record-at s area P j k)) g))))
         (record { answered = λ i. Unsatisfiable (h .nodes-are i) (h .profiles-are i); buffered = refl })

@@ -15,9 +15,9 @@ use Rattle.formula.specs.Table.{Table, table}
 use Rattle.formula.specs.Reading.{Reading, parse}
 use Rattle.lasso.specs.Lasso.{Lasso, meets}
 use Rattle.decision.specs.Verdict.{Verdict, verdict}
-use Rattle.decision.specs.Promise.{node-count, profile-count, Witness}
+use Rattle.decision.specs.Contract.{node-count, profile-count, Witness}
 use Rattle.decision.specs.Lends.{Lends}
-use Rattle.decision.proofs.VerdictLaws.{Concluded, From14, Answered, verdict-answered}
+use Rattle.decision.proofs.VerdictLaws.{Concluded, From14, Verdict-cases, verdict-answered}
 use Rattle.decision.proofs.Answer.{lasso, past-13, read-of, witness-holds, no-lasso}
 
 -- the verdict is no refusal
@@ -61,8 +61,8 @@ pub record Short (f : Formula) (o : Verdict) : Type 0 where
   pub witness : Witness (table f) stem cycle letters
 
 -- the questions from 14 on
-abbrev Searched : (N M : ℕ) → Table → Verdict → Type 0
-Searched N M t = From14 N M t (Concluded t)
+abbrev Search-asked : (N M : ℕ) → Table → Verdict → Type 0
+Search-asked N M t = From14 N M t (Concluded t)
 
 -- a question before 14 was answered by yes
 yes-before : {Question : Type 0} {code : ℕ} {After : Verdict → Type 0} {o : Verdict} → Asked Question (Verdict.refused code) After o
@@ -79,17 +79,17 @@ not-refused code (Concluded.unmet n) e = let z : _≡_ {A = ℕ} 0 1 = cc in ome
 same-code : {a b : ℕ} → Verdict.refused a ≡ Verdict.refused b → a ≡ b
 same-code e = cc
 
-only-14 : {N M : ℕ} {t : Table} {o : Verdict} → Searched N M t o → o ≡ Verdict.refused 14 → N < node-count t
+only-14 : {N M : ℕ} {t : Table} {o : Verdict} → Search-asked N M t o → o ≡ Verdict.refused 14 → N < node-count t
 only-14 (Asked.answered-no n) e = omega arith
 only-14 (Asked.answered-yes q (Asked.answered-no n)) e = absurd (omega (arith, same-code e))
 only-14 (Asked.answered-yes q (Asked.answered-yes r c)) e = absurd (not-refused 14 c e)
 
-only-15 : {N M : ℕ} {t : Table} {o : Verdict} → Searched N M t o → o ≡ Verdict.refused 15 → (node-count t ≤ N) × (M < profile-count t)
+only-15 : {N M : ℕ} {t : Table} {o : Verdict} → Search-asked N M t o → o ≡ Verdict.refused 15 → (node-count t ≤ N) × (M < profile-count t)
 only-15 (Asked.answered-no n) e = absurd (omega (arith, same-code e))
 only-15 (Asked.answered-yes q (Asked.answered-no n)) e = (q, omega arith)
 only-15 (Asked.answered-yes q (Asked.answered-yes r c)) e = absurd (not-refused 15 c e)
 
-past-14 : {N M : ℕ} {t : Table} {o : Verdict} → Searched N M t o → Past13 o
+past-14 : {N M : ℕ} {t : Table} {o : Verdict} → Search-asked N M t o → Past13 o
 past-14 (Asked.answered-no n) = omega arith
 past-14 (Asked.answered-yes q (Asked.answered-no n)) = omega arith
 past-14 (Asked.answered-yes q (Asked.answered-yes r (Concluded.met w))) = tt
@@ -101,7 +101,7 @@ answer-past (Verdict.refused code) h = absurd h
 answer-past (Verdict.satisfiable stem cycle K P letters) h = tt
 answer-past (Verdict.unsatisfiable K P) h = tt
 
-answer-concluded : {N M : ℕ} {t : Table} {o : Verdict} → Searched N M t o → IsAnswer o → Concluded t o
+answer-concluded : {N M : ℕ} {t : Table} {o : Verdict} → Search-asked N M t o → IsAnswer o → Concluded t o
 answer-concluded (Asked.answered-no n) h = absurd h
 answer-concluded (Asked.answered-yes q (Asked.answered-no n)) h = absurd h
 answer-concluded (Asked.answered-yes q (Asked.answered-yes r c)) h = c
@@ -110,19 +110,19 @@ module _ (N M workspace buffer : ℕ) (bytes : List ℕ) where
   abbrev given : Verdict
   given = verdict N M workspace buffer bytes
 
-  answered-granted : {r : Reading Formula} {o : Verdict} → parse bytes ≡ r → Answered N M workspace buffer r o → Past13 o
+  answered-granted : {r : Reading Formula} {o : Verdict} → parse bytes ≡ r → Verdict-cases N M workspace buffer r o → Past13 o
       → (f : Formula) × Granted N M workspace buffer bytes f
-  answered-granted e Answered.unread p = absurd p
-  answered-granted e (Answered.read {f} d) p =
+  answered-granted e Verdict-cases.unread p = absurd p
+  answered-granted e (Verdict-cases.read {f} d) p =
       let (c, d12) = yes-before d (omega arith) p in
       let (w, d13) = yes-before d12 (omega arith) p in
       let (b, d14) = yes-before d13 (omega arith) p in
       (f, record { reads = e; lends = record { capacity = c; workspace-fits = w; buffer-fits = b } })
 
-  from-14 : {f : Formula} → Granted N M workspace buffer bytes f → Searched N M (table f) given
+  from-14 : {f : Formula} → Granted N M workspace buffer bytes f → Search-asked N M (table f) given
   from-14 {f} g =
       let a = verdict-answered N M workspace buffer bytes in
-      let d = read-of (subst (λ (r : Reading Formula). Answered N M workspace buffer r given) (g .reads) a) in
+      let d = read-of (subst (λ (r : Reading Formula). Verdict-cases N M workspace buffer r given) (g .reads) a) in
       past-13 d (g .lends)
 
   -- Theorem: nothing of 1 to 13 refuses exactly if the bytes are a formula and the capacities and the areas are as asked.

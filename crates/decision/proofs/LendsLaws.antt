@@ -1,5 +1,5 @@
--- What the questions 11 to 13 ask: their tests say what they mean, and the code's functions work out how much is to be lent. Assumes
--- nothing.
+-- What the questions 11 to 13 ask: their tests say what they mean, and the code's functions work out how much is to be lent.
+-- Assumes nothing.
 use mathlib.Core.Path.{_≡_, refl, sym, ap, subst, _∙_}
 use mathlib.Core.Bool.{Bool, true, false, not, _&&_}
 use Prim.Native.Nat.{ℕ, _≤_, _<_}
@@ -52,7 +52,7 @@ module _ (N M : ℕ) {b : Bool} (is : b ≡ within-capacity N M) where
   no-capacity : b ≡ false → Capacity N M → ⊥
   no-capacity n c = subst T (sym is ∙ n) (capacity-in N M c)
 
-  -- as `lent` asks it
+  -- as `ask-capacities` asks it
   pub capacity-granted : not b ≡ false → Capacity N M
   capacity-granted e = in-capacity (not-false b e)
 
@@ -66,9 +66,10 @@ module _ (N M : ℕ) {b : Bool} (is : b ≡ within-capacity N M) where
   none-to-lend size n = record { in-range = λ c. absurd (no-capacity n c); out-of-range = λ c. refl }
 
 -- what it knows once 12 and 13 are answered by yes
-pub lent-enough : {N M workspace buffer bytes places : ℕ} → Capacity N M → ToLend N M (workspace-size N M) bytes → bytes ≤ workspace
+pub enough-lent : {N M workspace buffer bytes places : ℕ} → Capacity N M → ToLend N M (workspace-size N M) bytes
+    → bytes ≤ workspace
     → ToLend N M (witness-size N M) places → places ≤ buffer → Lends N M workspace buffer
-lent-enough c w l b k =
+enough-lent c w l b k =
     record {
       capacity = c;
       workspace-fits = omega (arith, w .in-range c);

@@ -1,5 +1,5 @@
 -- The nodes and then the profiles in the workspace: what the two searches promise, put together. The nodes stand at the beginning of the
--- workspace and the shelf of profiles behind them; both searches leave all behind the shelf. The counts are K and P, or one more than
+-- workspace and the store of profiles behind them; both searches leave all behind the store. The counts are K and P, or one more than
 -- there is room for. Assumes nothing.
 use mathlib.Core.Path.{_≡_, sym, ap, subst, _∙_}
 use mathlib.Core.List.{List, [], _++_, map, List·Memᴰ}
@@ -7,7 +7,7 @@ use Prim.Native.Nat.{ℕ, _+_, _*_, _-_, _≤_, _<_}
 use native.Mathlib.Omega.{arith}
 use lib.ListN.{length, length-append, length-map, length-take, length-drop, getD, take, drop}
 use lib.Seq.{getD-append-add, getD-drop, ext-getD}
-use Rattle.base.specs.Lists.{gather}
+use Rattle.base.specs.Lists.{flat-map}
 use Rattle.base.specs.Bits.{word}
 use Rattle.base.specs.Search.{Item}
 use Rattle.base.proofs.At.{at-lt, at-of}
@@ -16,38 +16,38 @@ use Rattle.formula.specs.Table.{Table}
 use Rattle.tableau.specs.Saturation.{Subset}
 use Rattle.tableau.specs.Transition.{Transition, transitions}
 use Rattle.tableau.specs.Nodes.{operands, nodes}
-use Rattle.tableau.specs.Promise.{table-of}
-use Rattle.tableau.specs.Area.{bytes8, Holds, reachable, Sized}
+use Rattle.tableau.specs.Inner.{table-of}
+use Rattle.tableau.specs.Area.{bytes8, Nodes-held, reachable, Subsets-sized}
 use Rattle.tableau.specs.Origins.{Origins}
 use Rattle.tableau.proofs.NodeLaws.{nodes-first}
 use Rattle.tableau.proofs.LoopLaws.{table-length}
 use Rattle.tableau.proofs.AreaLaws.{stored-length}
-use Rattle.tableau.proofs.NodeReads.{reachable-sized, Kept, nodes-kept}
-use Rattle.coded.specs.Runs.{same-profile, longer, profiles-from, number-of, ones, profiles}
-use Rattle.coded.proofs.NodeNumbers.{leads-in}
-use Rattle.traces.specs.Promise.{Limited, Ranks-of}
+use Rattle.tableau.proofs.NodeReads.{reachable-sized, Words-kept, nodes-kept}
+use Rattle.profile_tables.specs.Runs.{same-profile, longer, profiles-from, number-of, singles, profiles}
+use Rattle.profile_tables.proofs.NodeNumbers.{leads-in}
+use Rattle.traces.specs.Inner.{Rows-limited, Ranks-of}
 use Rattle.traces.specs.declared.Ranks.{Ranks}
-use Rattle.runs.specs.Stored.{stored, Lent, Grown}
-use Rattle.runs.specs.Singles.{Given, node-in, nodes-in}
-use Rattle.runs.specs.declared.Shelf.{Shelf}
-use Rattle.runs.proofs.GrowLaws.{grown-longer, grown-on}
+use Rattle.profile_search.specs.Stored.{stored, Store-fits, Grown}
+use Rattle.profile_search.specs.Singles.{Search-input, node-in, nodes-in}
+use Rattle.profile_search.specs.declared.Store.{Store}
+use Rattle.profile_search.proofs.GrowLaws.{grown-longer, grown-on}
 use Rattle.decision.specs.Verdict.{workspace-size}
 use Rattle.decision.specs.Lends.{Lends}
-use Rattle.runs.proofs.SingleLaws.{nodes-in-are, node-in-are, node-sets}
+use Rattle.profile_search.proofs.SingleLaws.{nodes-in-are, node-in-are, node-sets}
 use Rattle.witness.specs.Letters.{over}
-use Rattle.decision.specs.Promise.{node-count, profile-count}
-use Rattle.decision.specs.Searched.{Decoded, Stands-behind, Profiled, Answers, concluded, Within, Searched}
+use Rattle.decision.specs.Contract.{node-count, profile-count}
+use Rattle.decision.specs.Searched.{Decoded, Store-placed, Profiled, Answers, concluded, Within, Searched}
 use Rattle.decision.specs.declared.Verdict as code
 use Rattle.decision.specs.declared.Verdict.the-variants.{Refused}
 use Rattle.decision.proofs.ConcludeLaws.{decoded-agrees}
 use Rattle.decision.proofs.SettleLaws.{searched-14, searched-15, searched-on}
 
 -- The profiles of one transition, and then all.
-module _ (t : Table) (vs : List Subset) {s : Shelf} {a b : List ℕ} {one : ℕ} (g : Grown s 0 a one b (ones t vs)) where
+module _ (t : Table) (vs : List Subset) {s : Store} {a b : List ℕ} {one : ℕ} (g : Grown s 0 a one b (singles t vs)) where
   pub profiles-full : s .capacity < one → (fuel : ℕ) → Grown s 0 a one b (profiles fuel t vs)
   unfolding profiles profiles-from
   profiles-full h fuel =
-      grown-longer g h (spread-length same-profile (longer (length (operands t)) (ones t vs)) fuel 0 (ones t vs))
+      grown-longer g h (spread-length same-profile (longer (length (operands t)) (singles t vs)) fuel 0 (singles t vs))
 
   pub profiles-all : {r : ℕ} {d : List ℕ} → one ≤ s .capacity → s .n ≡ length (operands t)
       → ((fuel : ℕ) → s .capacity < fuel → Grown s one b r d (profiles-from fuel (s .n) (stored s b one)))
@@ -83,7 +83,7 @@ module _ (g a : List ℕ) (h : length g ≤ length a) where
 
 -- The nodes, as the search of nodes leaves them.
 module _ {rows : List ℕ} {count : ℕ} (d : Decoded rows count) {N M buffer : ℕ} {a : List ℕ} (lends : Lends N M (length a) buffer)
-    {known : ℕ} {area : List ℕ} (holds : Holds N known a area (reachable (table-of rows count)))
+    {known : ℕ} {area : List ℕ} (holds : Nodes-held N known a area (reachable (table-of rows count)))
   where
     abbrev t : Table
     t = table-of rows count
@@ -94,19 +94,19 @@ module _ {rows : List ℕ} {count : ℕ} (d : Decoded rows count) {N M buffer : 
     abbrev words : List ℕ
     words = take N (map word (reachable t))
 
-    words-few : length (gather bytes8 words) ≤ 8 * N
+    words-few : length (flat-map bytes8 words) ≤ 8 * N
     words-few = omega (arith, stored-length words, length-take N (map word (reachable t)))
 
-    area-is : area ≡ over (gather bytes8 words) a
-    area-is = holds .area-is ∙ ap (λ (k : ℕ). gather bytes8 words ++ drop k a) (sym (stored-length words))
+    area-is : area ≡ over (flat-map bytes8 words) a
+    area-is = holds .area-is ∙ ap (λ (k : ℕ). flat-map bytes8 words ++ drop k a) (sym (stored-length words))
 
     area-length : length area ≡ length a
-    area-length = ap length area-is ∙ over-length (gather bytes8 words) a (omega (arith, words-few, lends .workspace-fits))
+    area-length = ap length area-is ∙ over-length (flat-map bytes8 words) a (omega (arith, words-few, lends .workspace-fits))
 
     area-beyond : (i : ℕ) → 8 * N ≤ i → getD area i 0 ≡ getD a i 0
     area-beyond i h =
         ap (λ (l : List ℕ). getD l i 0) area-is
-        ∙ over-beyond (gather bytes8 words) a (omega (arith, words-few, lends .workspace-fits)) i (omega (arith, words-few))
+        ∙ over-beyond (flat-map bytes8 words) a (omega (arith, words-few, lends .workspace-fits)) i (omega (arith, words-few))
 
     -- Theorem: without room for them the answer is 14.
     pub nodes-14 : N < known → (letters : List ℕ) → Searched t N M a area letters letters (Refused 14)
@@ -114,23 +114,23 @@ module _ {rows : List ℕ} {count : ℕ} (d : Decoded rows count) {N M buffer : 
         searched-14 N M t letters (omega (arith, holds .known-is, reachable-length))
         (within-of area-length (λ i k. area-beyond i (omega arith)))
 
--- The nodes have room, and the shelf s stands behind them.
-pub record Behind (rows : List ℕ) (count N M buffer : ℕ) (a area origins : List ℕ) (known : ℕ) (r : Ranks) (s : Shelf) : Type 0 where
+-- The nodes have room, and the store s stands behind them.
+pub record Store-behind (rows : List ℕ) (count N M buffer : ℕ) (a area origins : List ℕ) (known : ℕ) (r : Ranks) (s : Store) : Type 0 where
   pub decoded : Decoded rows count
   pub lends : Lends N M (length a) buffer
-  pub holds : Holds N known a area (reachable (table-of rows count))
+  pub holds : Nodes-held N known a area (reachable (table-of rows count))
   pub fits : known ≤ N
   pub notes-are : Origins (table-of rows count) origins known
   pub notes-room : 2 * N ≤ length origins
   pub ranks : Ranks-of rows count r
-  pub shelf-is : Stands-behind N M (r .nexts) s
+  pub store-is : Store-placed N M (r .nexts) s
 
-module _ {rows : List ℕ} {count N M buffer : ℕ} {a area origins : List ℕ} {known : ℕ} {r : Ranks} {s : Shelf}
-    (b : Behind rows count N M buffer a area origins known r s) where
+module _ {rows : List ℕ} {count N M buffer : ℕ} {a area origins : List ℕ} {known : ℕ} {r : Ranks} {s : Store}
+    (b : Store-behind rows count N M buffer a area origins known r s) where
   abbrev table′ : Table
   table′ = table-of rows count
 
-  abbrev limited : Limited rows count
+  abbrev limited : Rows-limited rows count
   limited = b .decoded .limited
 
   same-length : length area ≡ length a
@@ -142,10 +142,10 @@ module _ {rows : List ℕ} {count N M buffer : ℕ} {a area origins : List ℕ} 
   known-is : known ≡ node-count table′
   known-is = known-length ∙ reachable-length (b .decoded) (b .lends) (b .holds)
 
-  sized : Sized count (reachable table′)
+  sized : Subsets-sized count (reachable table′)
   sized u m = reachable-sized table′ u m ∙ table-length rows count
 
-  kept : Kept (reachable table′) area
+  kept : Words-kept (reachable table′) area
   kept = nodes-kept (limited .formed) (b .holds) (b .fits)
 
   nodes-are : nodes-in count area known ≡ reachable table′
@@ -160,26 +160,26 @@ module _ {rows : List ℕ} {count N M buffer : ℕ} {a area origins : List ℕ} 
       let leads = leads-in table′ x there (subst (λ (v : Subset). List·Memᴰ x (transitions table′ v)) same m) in
       omega (arith, ap (λ (us : List Subset). number-of us (x .to)) nodes-are, at-lt leads, known-length)
 
-  on-shelf : (x : List ℕ) → length x ≡ length a → Lent s (length x)
-  on-shelf x e =
+  in-store : (x : List ℕ) → length x ≡ length a → Store-fits s (length x)
+  in-store x e =
       record {
-        next = omega (arith, b .shelf-is .nexts-are, b .ranks .nexts-are, limited .few-nexts);
-        low = omega (arith, b .shelf-is .base-is, b .lends .capacity .few-nodes);
-        some = omega (arith, b .shelf-is .capacity-is, b .lends .capacity .some-profiles);
-        few = omega (arith, b .shelf-is .capacity-is, b .lends .capacity .few-profiles);
-        enough = omega (arith, b .shelf-is .base-is, ap (λ (k : ℕ). 192 * k) (b .shelf-is .capacity-is), b .lends .workspace-fits, e);
+        next = omega (arith, b .store-is .nexts-are, b .ranks .nexts-are, limited .few-nexts);
+        low = omega (arith, b .store-is .base-is, b .lends .capacity .few-nodes);
+        some = omega (arith, b .store-is .capacity-is, b .lends .capacity .some-profiles);
+        few = omega (arith, b .store-is .capacity-is, b .lends .capacity .few-profiles);
+        enough = omega (arith, b .store-is .base-is, ap (λ (k : ℕ). 192 * k) (b .store-is .capacity-is), b .lends .workspace-fits, e);
       }
 
-  pub given : Given rows count r s known area
+  pub given : Search-input rows count r s known area
   given =
       record {
         limited = limited;
         ranks = b .ranks;
-        lent = on-shelf area same-length;
-        nexts = b .shelf-is .nexts-are;
+        fits = in-store area same-length;
+        nexts = b .store-is .nexts-are;
         some = omega (arith, known-is, ap length (nodes-first table′));
         few = omega (arith, b .fits, b .lends .capacity .few-nodes);
-        behind = omega (arith, b .fits, b .shelf-is .base-is);
+        behind = omega (arith, b .fits, b .store-is .base-is);
         sets = λ i h. node-sets sized kept i (omega (arith, known-length));
         closed = closed;
       }
@@ -193,7 +193,7 @@ module _ {rows : List ℕ} {count N M buffer : ℕ} {a area origins : List ℕ} 
     grown : Grown s 0 area all after (profiles fuel table′ (reachable table′))
     grown =
         subst (λ (l : List Subset). Grown s 0 area all after (profiles fuel table′ l))
-        nodes-are (g fuel (omega (arith, b .shelf-is .capacity-is)))
+        nodes-are (g fuel (omega (arith, b .store-is .capacity-is)))
 
     profiles-length : length (profiles fuel table′ (reachable table′)) ≡ profile-count table′
     profiles-length = decoded-agrees (b .decoded) fuel (omega arith) .count
@@ -202,18 +202,18 @@ module _ {rows : List ℕ} {count N M buffer : ℕ} {a area origins : List ℕ} 
     all-within =
         within-of (grown .elsewhere .same-length ∙ same-length)
         (λ i h.
-        grown .elsewhere .beyond i (omega (arith, b .shelf-is .base-is, ap (λ (k : ℕ). 192 * k) (b .shelf-is .capacity-is)))
+        grown .elsewhere .beyond i (omega (arith, b .store-is .base-is, ap (λ (k : ℕ). 192 * k) (b .store-is .capacity-is)))
         ∙ area-beyond (b .decoded) (b .lends) (b .holds) i (omega arith))
 
     -- Theorem: without room for all profiles the answer is 15.
     pub profiles-15 : M < all → (letters : List ℕ) → Searched table′ N M a after letters letters (Refused 15)
     profiles-15 h letters =
         searched-15 N M table′ letters (omega (arith, known-is, b .fits))
-        (omega (arith, grown .count-is, profiles-length, b .shelf-is .capacity-is)) all-within
+        (omega (arith, grown .count-is, profiles-length, b .store-is .capacity-is)) all-within
 
     module _ (h : all ≤ M) where
       all-is : all ≡ profile-count table′
-      all-is = omega (arith, grown .count-is, profiles-length, b .shelf-is .capacity-is)
+      all-is = omega (arith, grown .count-is, profiles-length, b .store-is .capacity-is)
 
       -- Theorem: with room, all profiles stand in the workspace, and the notes are those of all nodes,
       pub all-profiled : Profiled rows count origins after s known all
@@ -222,14 +222,14 @@ module _ {rows : List ℕ} {count N M buffer : ℕ} {a area origins : List ℕ} 
             decoded = b .decoded;
             notes-are = b .notes-are;
             notes-room = omega (arith, b .notes-room, b .fits);
-            lent = on-shelf after (grown .elsewhere .same-length ∙ same-length);
-            operands-are = b .shelf-is .nexts-are ∙ b .ranks .nexts-are;
-            few = omega (arith, b .shelf-is .capacity-is);
+            fits = in-store after (grown .elsewhere .same-length ∙ same-length);
+            operands-are = b .store-is .nexts-are ∙ b .ranks .nexts-are;
+            few = omega (arith, b .store-is .capacity-is);
             nodes-are = known-is;
             profiles-are = all-is;
             fuel = fuel;
             enough = omega (arith, all-is);
-            stored-are = grown .records (omega (arith, b .shelf-is .capacity-is));
+            stored-are = grown .records (omega (arith, b .store-is .capacity-is));
           }
 
       pub buffer-room : known + all ≤ buffer

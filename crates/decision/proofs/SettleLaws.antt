@@ -14,20 +14,20 @@ use Rattle.formula.specs.Table.{Table, table}
 use Rattle.formula.specs.Reading.{Reading, parse}
 use Rattle.formula.specs.declared.Refusal.{Refusal}
 use Rattle.formula.specs.declared.Table.{Table as Stored}
-use Rattle.formula.proofs.RowLaws.{Held}
+use Rattle.formula.proofs.RowLaws.{Holds-formula}
 use Rattle.tableau.specs.Transition.{Transition}
 use Rattle.tableau.specs.Nodes.{nodes}
-use Rattle.tableau.specs.Promise.{table-of}
+use Rattle.tableau.specs.Inner.{table-of}
 use Rattle.tableau.specs.Area.{zeros}
 use Rattle.traces.proofs.LimitLaws.{held-limited}
 use Rattle.profile.specs.Profiles as literal
-use Rattle.decision.specs.Verdict.{Verdict, conclude, decide, workspace-size, witness-size, lent, after-reading, verdict}
+use Rattle.decision.specs.Verdict.{Verdict, conclude, decide, workspace-size, witness-size, ask-capacities, after-reading, verdict}
 use Rattle.decision.specs.Lends.{Capacity, Lends}
-use Rattle.decision.specs.Promise.{says, node-count, profile-count, Buffered, zeroed, cleared, Decided}
+use Rattle.decision.specs.Contract.{says, node-count, profile-count, Buffered, zeroed, cleared, Decided}
 use Rattle.decision.specs.Searched.{Decoded, leaves, Answers, Within, Searched, Settled, concluded}
 use Rattle.decision.specs.declared.Verdict as code
 use Rattle.decision.specs.declared.Verdict.the-variants.{Refused, Unread}
-use Rattle.decision.proofs.VerdictLaws.{From11, From14, lent-asked, decide-asked}
+use Rattle.decision.proofs.VerdictLaws.{From11, From14, capacities-asked, decide-asked}
 use Rattle.decision.proofs.Answer.{past-13, verdict-met, verdict-unmet}
 
 -- The questions 14 and 15.
@@ -76,10 +76,10 @@ module _ (N M : ℕ) (workspace buffer : List ℕ) (t : Table) where
   abbrev B : ℕ
   B = length buffer
 
-  from-11 : From11 N M W B (λ o. o ≡ decide N M t) (lent N M W B t)
-  from-11 = lent-asked N M W B t refl
+  from-11 : From11 N M W B (λ o. o ≡ decide N M t) (ask-capacities N M W B t)
+  from-11 = capacities-asked N M W B t refl
 
-  refuses : (c : ℕ) → cleared N M (Verdict.refused c) workspace ≡ workspace → lent N M W B t ≡ Verdict.refused c
+  refuses : (c : ℕ) → cleared N M (Verdict.refused c) workspace ≡ workspace → ask-capacities N M W B t ≡ Verdict.refused c
       → Settled t N M workspace workspace buffer buffer (Refused c)
   refuses c k e =
       record {
@@ -109,7 +109,7 @@ module _ (N M : ℕ) (workspace buffer : List ℕ) (t : Table) where
             ∙ sym (ap (λ (v : Verdict). cleared N M v workspace) whole ∙ decided-clears N M t workspace);
       }
     where
-      whole : lent N M W B t ≡ decide N M t
+      whole : ask-capacities N M W B t ≡ decide N M t
       whole = past-13 from-11 l
 
 -- An answer over the table of what was read.
@@ -132,7 +132,7 @@ module _ (bytes : List ℕ) (N M : ℕ) (workspace buffer : List ℕ) where
       → Settled (table f) N M workspace workspace′ buffer buffer′ r → Decided bytes N M workspace workspace′ buffer buffer′ r
   unfolding verdict
   settled-decided {buffer′ = buffer′} f p s =
-      let e : whole-verdict ≡ lent N M (length workspace) (length buffer) (table f) =
+      let e : whole-verdict ≡ ask-capacities N M (length workspace) (length buffer) (table f) =
       ap (after-reading N M (length workspace) (length buffer)) p in
       record {
         answered = s .answers .answered ∙ sym (ap says e);
@@ -141,7 +141,7 @@ module _ (bytes : List ℕ) (N M : ℕ) (workspace buffer : List ℕ) where
       }
 
   -- Theorem: settled over the table of the formula that was read, it is decided.
-  pub held-decided : {workspace′ buffer′ : List ℕ} {r : code.Verdict} {t : Stored} → Held bytes t
+  pub held-decided : {workspace′ buffer′ : List ℕ} {r : code.Verdict} {t : Stored} → Holds-formula bytes t
       → Settled (table-of (t .rows) (t .count)) N M workspace workspace′ buffer buffer′ r
       → Decided bytes N M workspace workspace′ buffer buffer′ r
   held-decided {workspace′} {buffer′} {r} h s =
@@ -160,5 +160,5 @@ module _ (bytes : List ℕ) (N M : ℕ) (workspace buffer : List ℕ) where
       }
 
 -- what the search is given
-pub held-decoded : {bytes : List ℕ} {t : Stored} → Held bytes t → Decoded (t .rows) (t .count)
+pub held-decoded : {bytes : List ℕ} {t : Stored} → Holds-formula bytes t → Decoded (t .rows) (t .count)
 held-decoded {bytes} h = record { bytes = bytes; formula = h .formula; parsed = h .parsed; is = h .operators; limited = held-limited h }

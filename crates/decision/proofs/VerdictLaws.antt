@@ -1,6 +1,6 @@
 -- The verdict is that of MEANING 5: each refusal exactly where its question is the first that is answered by no, else MET with a
--- witness, or NOT where there is no accepting cycle, with K and P. `Answered` is the list of questions as a relation, without search and
--- fuel. The verdict's definition meets it (`verdict-answered`), and it leaves nothing open but the witness's letters
+-- witness, or NOT where there is no accepting cycle, with K and P. `Verdict-cases` is the list of questions as a relation, without search
+-- and fuel. The verdict's definition meets it (`verdict-answered`), and it leaves nothing open but the witness's letters
 -- (`answered-settled`). Assumes nothing.
 use mathlib.Core.Path.{_≡_, refl, sym, ap, _∙_}
 use mathlib.Core.Option.{Option, none, some}
@@ -21,10 +21,10 @@ use Rattle.tableau.specs.Nodes.{nodes}
 use Rattle.profile.specs.Profiles.{Profile, profiles, accepting}
 use Rattle.profile.proofs.RootLaws.{root-apart}
 use Rattle.decision.specs.Verdict.{Verdict, conclude, decide, within-capacity, workspace-size, witness-size}
-use Rattle.decision.specs.Verdict.{lent, after-reading, verdict}
+use Rattle.decision.specs.Verdict.{ask-capacities, after-reading, verdict}
 use Rattle.decision.specs.Lends.{Capacity}
 use Rattle.profile.specs.Cycle.{AcceptingCycle}
-use Rattle.decision.specs.Promise.{node-count, profile-count, Witness}
+use Rattle.decision.specs.Contract.{node-count, profile-count, Witness}
 use Rattle.decision.specs.Searched.{concluded}
 use Rattle.decision.proofs.LendsLaws.{capacity-of, capacity-in}
 use Rattle.decision.proofs.WitnessLaws.{no-cycle, first-witness}
@@ -52,19 +52,20 @@ From14 N M t After =
     After)
 
 -- all of them
-abbrev pub Decided : (N M workspace buffer : ℕ) → Table → Verdict → Type 0
-Decided N M workspace buffer t = From11 N M workspace buffer (From14 N M t (Concluded t))
+abbrev pub Decided-cases : (N M workspace buffer : ℕ) → Table → Verdict → Type 0
+Decided-cases N M workspace buffer t = From11 N M workspace buffer (From14 N M t (Concluded t))
 
 -- a refusal of reading is passed on
-pub data Answered (N M workspace buffer : ℕ) : Reading Formula → Verdict → Type 0 where
-  unread : {why : Refusal} → Answered N M workspace buffer (Reading.refused why) (Verdict.unread why)
-  read : {f : Formula} {o : Verdict} → Decided N M workspace buffer (table f) o → Answered N M workspace buffer (Reading.accepted f) o
+pub data Verdict-cases (N M workspace buffer : ℕ) : Reading Formula → Verdict → Type 0 where
+  unread : {why : Refusal} → Verdict-cases N M workspace buffer (Reading.refused why) (Verdict.unread why)
+  read : {f : Formula} {o : Verdict} → Decided-cases N M workspace buffer (table f) o
+      → Verdict-cases N M workspace buffer (Reading.accepted f) o
 
 -- the definitions ask these questions
-pub lent-asked : (N M workspace buffer : ℕ) (t : Table) {After : Verdict → Type 0} → After (decide N M t)
-    → From11 N M workspace buffer After (lent N M workspace buffer t)
+pub capacities-asked : (N M workspace buffer : ℕ) (t : Table) {After : Verdict → Type 0} → After (decide N M t)
+    → From11 N M workspace buffer After (ask-capacities N M workspace buffer t)
 unfolding decide
-lent-asked N M workspace buffer t a =
+capacities-asked N M workspace buffer t a =
     asked _ (within-capacity N M) (capacity-of N M) (capacity-in N M)
     (asked-le (workspace-size N M) workspace _
     (asked-le (witness-size N M) buffer (decide N M t)
@@ -82,16 +83,17 @@ concludes : (f : Formula) (o : Option (Item Transition Profile)) → first (acce
 concludes f none e = unmet (no-cycle (table f) (root-apart f) e)
 concludes f (some x) e = met (first-witness (table f) (root-apart f) e)
 
-read-answered : (N M workspace buffer : ℕ) (r : Reading Formula) → Answered N M workspace buffer r (after-reading N M workspace buffer r)
+read-answered : (N M workspace buffer : ℕ) (r : Reading Formula)
+    → Verdict-cases N M workspace buffer r (after-reading N M workspace buffer r)
 unfolding table decide
 read-answered N M workspace buffer (Reading.refused why) = unread
 read-answered N M workspace buffer (Reading.accepted f) =
     let t = table f in
-    read (lent-asked N M workspace buffer t (decide-asked N M t (concludes f (first (accepting t) (profiles t (nodes t))) refl)))
+    read (capacities-asked N M workspace buffer t (decide-asked N M t (concludes f (first (accepting t) (profiles t (nodes t))) refl)))
 
 -- Theorem: the verdict answers the questions.
 pub verdict-answered : (N M workspace buffer : ℕ) (bytes : List ℕ)
-    → Answered N M workspace buffer (parse bytes) (verdict N M workspace buffer bytes)
+    → Verdict-cases N M workspace buffer (parse bytes) (verdict N M workspace buffer bytes)
 unfolding verdict
 verdict-answered N M workspace buffer bytes = read-answered N M workspace buffer (parse bytes)
 
@@ -128,7 +130,7 @@ concluded-settled t o p (unmet n) (met u) = absurd (n (u .node) (u .around) (u .
 concluded-settled t o p (unmet n) (unmet m) = refl
 
 -- Theorem (MEANING 5.8): two verdicts that answer the questions for the same inputs differ at most in the letters.
-pub answered-settled : (N M workspace buffer : ℕ) (r : Reading Formula) → Settles (Answered N M workspace buffer r)
+pub answered-settled : (N M workspace buffer : ℕ) (r : Reading Formula) → Settles (Verdict-cases N M workspace buffer r)
 answered-settled N M workspace buffer r o p unread unread = refl
 answered-settled N M workspace buffer r o p (read {f} a) (read b) =
     asked-settled _ _ (asked-settled _ _ (asked-settled _ _ (asked-settled _ _ (asked-settled _ _ (concluded-settled (table f)))))) o p a b

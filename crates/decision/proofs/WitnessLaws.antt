@@ -26,9 +26,9 @@ use Rattle.tableau.proofs.SaturationLaws.{subset-sound, subset-refl}
 use Rattle.tableau.proofs.NodeLaws.{nodes-all, nodes-distinct, nodes-first, others-in, nodes-sorted, nodes-near, nodes-along, nodes-short}
 use Rattle.profile.specs.Profiles.{Profile, profiles, accepting}
 use Rattle.profile.proofs.ProfileLaws.{rank, profiles-sorted, profiles-short}
-use Rattle.profile.proofs.CycleLaws.{accepting-cycle, Kept, cycle-accepting}
+use Rattle.profile.proofs.CycleLaws.{accepting-cycle, Accepting-listed, cycle-accepting}
 use Rattle.decision.specs.Verdict.{stem-to}
-use Rattle.decision.specs.Promise.{node-count, Witness}
+use Rattle.decision.specs.Contract.{node-count, Witness}
 use Rattle.tableau.specs.Run.{Reachable, Along}
 use Rattle.profile.specs.Cycle.{Run, AcceptingCycle}
 
@@ -104,7 +104,7 @@ module _ (t : Table) where
     run-apart (Run.one {v} {s} m) e = apart v s m e
     run-apart (Run.more {p} {s = s} r m) e = apart (p .last) s m e
 
-    kept : {v : Subset} {ss : List Transition} → AcceptingCycle t v ss → Kept t by-rank (length ss * node-count t + distance v)
+    kept : {v : Subset} {ss : List Transition} → AcceptingCycle t v ss → Accepting-listed t by-rank (length ss * node-count t + distance v)
     kept c = cycle-accepting t distance (node-count t) rising (λ n m. near n (others-in t m)) c (run-apart (c .run))
 
     -- Theorem: where no profile is accepting, there is no accepting cycle.

@@ -12,25 +12,25 @@ use Rattle.formula.specs.Formula.{Formula}
 use Rattle.formula.specs.Table.{Table, table}
 use Rattle.formula.specs.Reading.{Reading, parse}
 use Rattle.tableau.specs.Nodes.{operands, nodes}
-use Rattle.tableau.specs.Promise.{table-of}
+use Rattle.tableau.specs.Inner.{table-of}
 use Rattle.tableau.specs.Area.{reachable}
 use Rattle.tableau.specs.Origins.{Origins}
 use Rattle.profile.specs.Profiles as literal
-use Rattle.coded.specs.Triples.{rejecting}
-use Rattle.coded.specs.Runs.{Found, profiles}
-use Rattle.traces.specs.Promise.{Limited}
-use Rattle.runs.specs.Stored.{stored, Lent}
-use Rattle.runs.specs.declared.Shelf.{Shelf}
-use Rattle.decision.specs.Verdict.{Verdict, conclude, decide, workspace-size, lent}
-use Rattle.decision.specs.Promise.{says, node-count, profile-count, cleared}
+use Rattle.profile_tables.specs.Triples.{rejecting}
+use Rattle.profile_tables.specs.Runs.{Found-profile, profiles}
+use Rattle.traces.specs.Inner.{Rows-limited}
+use Rattle.profile_search.specs.Stored.{stored, Store-fits}
+use Rattle.profile_search.specs.declared.Store.{Store}
+use Rattle.decision.specs.Verdict.{Verdict, conclude, decide, workspace-size, ask-capacities}
+use Rattle.decision.specs.Contract.{says, node-count, profile-count, cleared}
 use Rattle.decision.specs.declared.Verdict as code
 use Rattle.decision.specs.declared.Cycle.{Cycle}
 use Rattle.decision.specs.declared.Cycle.the-variants as cycle
 
 -- back to its first node, and not rejecting, where a test tells the least fixpoints
-unfoldable pub accepts : (ℕ → Bool) → ℕ → Found → Bool
+unfoldable pub accepts : (ℕ → Bool) → ℕ → Found-profile → Bool
 unfolding rejecting
-accepts least n x = eqb (x .at .first) (x .at .last) && not (rejecting least n (x .at .carried))
+accepts least n x = eqb (x .at .first) (x .at .last) && not (rejecting least n (x .at .triple-set))
 
 -- the number of the profile of an accepting cycle, if there is one
 abbrev pub number-in : Cycle → Option ℕ
@@ -43,20 +43,20 @@ pub record Decoded (rows : List ℕ) (count : ℕ) : Type 0 where
   pub formula : Formula
   pub parsed : parse bytes ≡ Reading.accepted formula
   pub is : table-of rows count ≡ table formula
-  pub limited : Limited rows count
+  pub limited : Rows-limited rows count
 
--- The shelf stands behind N nodes, with room for M profiles over n operands of next.
-pub record Stands-behind (N M n : ℕ) (s : Shelf) : Type 0 where
+-- The store stands behind N nodes, with room for M profiles over n operands of next.
+pub record Store-placed (N M n : ℕ) (s : Store) : Type 0 where
   pub base-is : s .base ≡ 8 * N
   pub capacity-is : s .capacity ≡ M
   pub nexts-are : s .n ≡ n
 
--- The area holds on the shelf the P profiles of the rows' table, and the notes are those of its K nodes.
-pub record Profiled (rows : List ℕ) (count : ℕ) (origins area : List ℕ) (s : Shelf) (K P : ℕ) : Type 0 where
+-- The area holds on the store the P profiles of the rows' table, and the notes are those of its K nodes.
+pub record Profiled (rows : List ℕ) (count : ℕ) (origins area : List ℕ) (s : Store) (K P : ℕ) : Type 0 where
   pub decoded : Decoded rows count
   pub notes-are : Origins (table-of rows count) origins K
   pub notes-room : 2 * K ≤ length origins
-  pub lent : Lent s (length area)
+  pub fits : Store-fits s (length area)
   pub operands-are : s .n ≡ length (operands (table-of rows count))
   pub few : P ≤ s .capacity
   pub nodes-are : K ≡ node-count (table-of rows count)
@@ -93,5 +93,5 @@ pub record Searched (t : Table) (N M : ℕ) (area area′ before after : List �
 
 -- The answer to all questions after reading, and what it leaves.
 pub record Settled (t : Table) (N M : ℕ) (workspace workspace′ buffer buffer′ : List ℕ) (r : code.Verdict) : Type 0 where
-  pub answers : Answers (lent N M (length workspace) (length buffer) t) buffer buffer′ r
-  pub worked : workspace′ ≡ cleared N M (lent N M (length workspace) (length buffer) t) workspace
+  pub answers : Answers (ask-capacities N M (length workspace) (length buffer) t) buffer buffer′ r
+  pub worked : workspace′ ≡ cleared N M (ask-capacities N M (length workspace) (length buffer) t) workspace

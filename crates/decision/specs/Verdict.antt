@@ -51,10 +51,11 @@ decide N M t =
 abbrev pub between : ℕ → ℕ → ℕ → Bool
 between low high n = leb low n && leb n high
 
--- the most nodes and the most profiles that there may be room for
+-- the most nodes that there may be room for
 abbrev pub max-nodes : ℕ
 max-nodes = 1024
 
+-- the most profiles
 abbrev pub max-profiles : ℕ
 max-profiles = 4096
 
@@ -71,9 +72,9 @@ abbrev pub witness-size : (N M : ℕ) → ℕ
 witness-size N M = N + M
 
 -- The questions 11 to 13 (MEANING 5.2), and what comes after them.
-abbrev pub lent : (N M workspace buffer : ℕ) → Table → Verdict
+abbrev pub ask-capacities : (N M workspace buffer : ℕ) → Table → Verdict
 unfolding decide
-lent N M workspace buffer t =
+ask-capacities N M workspace buffer t =
     ask (within-capacity N M) (Verdict.refused 11)
     (ask (leb (workspace-size N M) workspace) (Verdict.refused 12)
     (ask (leb (witness-size N M) buffer) (Verdict.refused 13)
@@ -83,7 +84,7 @@ lent N M workspace buffer t =
 abbrev pub after-reading : (N M workspace buffer : ℕ) → Reading Formula → Verdict
 unfolding table decide
 after-reading N M workspace buffer (Reading.refused why) = Verdict.unread why
-after-reading N M workspace buffer (Reading.accepted f) = lent N M workspace buffer (table f)
+after-reading N M workspace buffer (Reading.accepted f) = ask-capacities N M workspace buffer (table f)
 
 -- The whole: the capacities, the lengths of the lent workspace and witness buffer, a formula's bytes.
 unfoldable pub verdict : (N M workspace buffer : ℕ) → List ℕ → Verdict

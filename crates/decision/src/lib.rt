@@ -2,23 +2,23 @@
 use formula::Outcome;
 use formula::Refusal;
 use formula::Table;
-use runs::Shelf;
+use profile_search::Store;
 use traces::Ranks;
 ghost use mathlib.Core.Path.{_≡_};
 ghost use Prim.Native.Nat.{ℕ, _+_, _*_, _≤_, _<_};
 ghost use lib.ListN.{length};
 ghost use Rattle.base.specs.Bits.{bit};
-ghost use Rattle.base.specs.Lists.{numbers, first};
-ghost use Rattle.tableau.specs.Promise.{table-of};
-ghost use Rattle.coded.specs.Runs.{profiles};
-ghost use Rattle.traces.specs.Promise.{fix-rank, Ranked};
-ghost use Rattle.runs.specs.Stored.{record-of, Lent, Grown};
-ghost use Rattle.runs.specs.Singles.{Given, nodes-in};
+ghost use Rattle.base.specs.Lists.{range, first};
+ghost use Rattle.tableau.specs.Inner.{table-of};
+ghost use Rattle.profile_tables.specs.Runs.{profiles};
+ghost use Rattle.traces.specs.Inner.{fix-rank, Ranked};
+ghost use Rattle.profile_search.specs.Stored.{record-of, Store-fits, Grown};
+ghost use Rattle.profile_search.specs.Singles.{Search-input, nodes-in};
 ghost use Rattle.decision.specs.Verdict.{between, within-capacity, workspace-size, witness-size};
 ghost use Rattle.decision.specs.Lends.{Lends, ToLend};
-ghost use Rattle.decision.specs.Promise.{Decided};
+ghost use Rattle.decision.specs.Contract.{Decided};
 ghost use Rattle.decision.specs.Searched.{number-in, accepts, Decoded, Profiled, Answers, concluded, Searched, Settled};
-ghost use Rattle.decision.specs.Searched.{Stands-behind};
+ghost use Rattle.decision.specs.Searched.{Store-placed};
 
 pub enum Verdict {
     Satisfiable {
@@ -91,27 +91,27 @@ enum Cycle {
 }
 
 // Whether profile p is that of an accepting cycle, where the mask has the least fixpoints.
-fn is_accepting(area: &[u8], shelf: Shelf, p: usize, mask: u8) -> bool
-    requires { ⌜ Lent shelf (length (now area)) ⌝ }
-    requires { ⌜ p < shelf .capacity ⌝ }
-    ensures { λ r. ⌜ r ≡ accepts (bit mask) (shelf .n) (record-of shelf (now (area .entry)) p) ⌝ }
+fn is_accepting(area: &[u8], store: Store, p: usize, mask: u8) -> bool
+    requires { ⌜ Store-fits store (length (now area)) ⌝ }
+    requires { ⌜ p < store .capacity ⌝ }
+    ensures { λ r. ⌜ r ≡ accepts (bit mask) (store .n) (record-of store (now (area .entry)) p) ⌝ }
 {
-    let e = runs::ends_of(area, shelf, p);
+    let e = profile_search::header_of(area, store, p);
     if e.first.0 != e.last.0 {
         return false;
     }
-    !triples::is_rejecting(area, runs::place(shelf, p), mask, shelf.n)
+    !triples::is_rejecting(area, profile_search::record_start(store, p), mask, store.n)
 }
 
 // The first such profile.
-fn accepting(area: &[u8], shelf: Shelf, count: usize, mask: u8) -> Cycle
-    requires { ⌜ Lent shelf (length (now area)) ⌝ }
-    requires { ⌜ count ≤ shelf .capacity ⌝ }
-    ensures { λ r. ⌜ number-in r ≡ first (λ p. accepts (bit mask) (shelf .n) (record-of shelf (now (area .entry)) p)) (numbers 0 count) ⌝ }
+fn accepting(area: &[u8], store: Store, count: usize, mask: u8) -> Cycle
+    requires { ⌜ Store-fits store (length (now area)) ⌝ }
+    requires { ⌜ count ≤ store .capacity ⌝ }
+    ensures { λ r. ⌜ number-in r ≡ first (λ p. accepts (bit mask) (store .n) (record-of store (now (area .entry)) p)) (range 0 count) ⌝ }
 {
     let mut p = 0;
     while p < count {
-        if is_accepting(area, shelf, p, mask) {
+        if is_accepting(area, store, p, mask) {
             return Cycle::Accepting(p);
         }
         p += 1;
@@ -126,24 +126,24 @@ fn answered(
     fix: &[u8; 48],
     origins: &[u16],
     area: &[u8],
-    shelf: Shelf,
+    store: Store,
     nodes: usize,
     profiles: usize,
     letters: &mut [u16],
 ) -> Verdict
-    requires { ⌜ Profiled (now rows) count (now origins) (now area) shelf nodes profiles ⌝ }
+    requires { ⌜ Profiled (now rows) count (now origins) (now area) store nodes profiles ⌝ }
     requires { ⌜ Ranked (fix-rank (now rows)) count (now fix) ⌝ }
     requires { ⌜ nodes + profiles ≤ length (now letters) ⌝ }
     ensures { λ r. ⌜ Answers (concluded (table-of (now (rows .entry)) count)) (now (letters .entry)) (now (letters .exit)) r ⌝ }
 {
     let mask = traces::least_mask(rows, count, fix);
-    match accepting(area, shelf, profiles, mask) {
+    match accepting(area, store, profiles, mask) {
         Cycle::None => Verdict::Unsatisfiable {
             nodes: nodes,
             profiles: profiles,
         },
         Cycle::Accepting(p) => {
-            let w = witness::write(origins, area, shelf, p, letters);
+            let w = witness::write(origins, area, store, p, letters);
             Verdict::Satisfiable {
                 stem: w.stem,
                 cycle: w.cycle,
@@ -154,32 +154,32 @@ fn answered(
     }
 }
 
-// Writes all profiles of the nodes to the shelf, breadth first; how many, or capacity + 1.
+// Writes all profiles of the nodes to the store, breadth first; how many, or capacity + 1.
 fn profiles_of(
     rows: &[u8; 144],
     count: usize,
     r: Ranks,
-    shelf: Shelf,
+    store: Store,
     area: &mut [u8],
     nodes: usize,
 ) -> usize
-    requires { ⌜ Given (now rows) count r shelf nodes (now area) ⌝ }
-    ensures { λ all. ⌜ ((fuel : ℕ) → shelf .capacity < fuel → Grown shelf 0 (now (area .entry)) all (now (area .exit))
+    requires { ⌜ Search-input (now rows) count r store nodes (now area) ⌝ }
+    ensures { λ all. ⌜ ((fuel : ℕ) → store .capacity < fuel → Grown store 0 (now (area .entry)) all (now (area .exit))
         (profiles fuel (table-of (now (rows .entry)) count) (nodes-in count (now (area .entry)) nodes))) ⌝ }
 {
-    let ones = runs::singles(rows, count, r, shelf, area, nodes);
-    if shelf.capacity < ones {
-        return ones;
+    let singles = profile_search::singles(rows, count, r, store, area, nodes);
+    if store.capacity < singles {
+        return singles;
     }
-    runs::profiles(area, shelf, ones)
+    profile_search::profiles(area, store, singles)
 }
 
-// The shelf behind the nodes, for profiles over n operands of next.
-fn shelf_of(node_capacity: usize, profile_capacity: usize, n: usize) -> Shelf
+// The store behind the nodes, for profiles over n operands of next.
+fn store_of(node_capacity: usize, profile_capacity: usize, n: usize) -> Store
     requires { ⌜ «node_capacity» ≤ 1024 ⌝ }
-    ensures { λ s. ⌜ Stands-behind «node_capacity» «profile_capacity» n s ⌝ }
+    ensures { λ s. ⌜ Store-placed «node_capacity» «profile_capacity» n s ⌝ }
 {
-    Shelf {
+    Store {
         base: NODE_BYTES * node_capacity,
         capacity: profile_capacity,
         n: n,
@@ -206,8 +206,8 @@ fn searched(
         return Verdict::Refused(14);
     }
     let r = traces::ranked(rows, count);
-    let shelf = shelf_of(node_capacity, profile_capacity, r.nexts);
-    let profiles = profiles_of(rows, count, r, shelf, area, nodes);
+    let store = store_of(node_capacity, profile_capacity, r.nexts);
+    let profiles = profiles_of(rows, count, r, store, area, nodes);
     if profile_capacity < profiles {
         return Verdict::Refused(15);
     }
@@ -218,7 +218,7 @@ fn searched(
         &fix,
         &origins,
         area,
-        shelf,
+        store,
         nodes,
         profiles,
         letters,
@@ -226,38 +226,59 @@ fn searched(
 }
 
 // The questions after reading, in their order.
-fn lent(t: Table, n: usize, m: usize, workspace: &mut [u8], letters: &mut [u16]) -> Verdict
+fn ask_capacities(
+    t: Table,
+    node_capacity: usize,
+    profile_capacity: usize,
+    workspace: &mut [u8],
+    witness: &mut [u16],
+) -> Verdict
     requires { ⌜ Decoded (t .rows) (t .count) ⌝ }
-    ensures { λ r. ⌜ Settled (table-of (t .rows) (t .count)) n m (now (workspace .entry)) (now (workspace .exit))
-        (now (letters .entry)) (now (letters .exit)) r ⌝ }
+    ensures { λ r. ⌜ Settled (table-of (t .rows) (t .count)) «node_capacity» «profile_capacity» (now (workspace .entry))
+        (now (workspace .exit))
+        (now (witness .entry)) (now (witness .exit)) r ⌝ }
 {
-    if !within_capacity(n, m) {
+    if !within_capacity(node_capacity, profile_capacity) {
         return Verdict::Refused(11);
     }
-    let bytes = workspace_size(n, m);
-    if workspace.len() < bytes {
+    let asked = workspace_size(node_capacity, profile_capacity);
+    if workspace.len() < asked {
         return Verdict::Refused(12);
     }
-    let places = witness_size(n, m);
-    if letters.len() < places {
+    let places = witness_size(node_capacity, profile_capacity);
+    if witness.len() < places {
         return Verdict::Refused(13);
     }
     let rows = t.rows;
-    let v = searched(&rows, t.count, n, m, workspace, letters);
-    tableau::clear(workspace, bytes);
+    let v = searched(
+        &rows,
+        t.count,
+        node_capacity,
+        profile_capacity,
+        workspace,
+        witness,
+    );
+    tableau::clear(workspace, asked);
     v
 }
 
-// Whether any lasso meets the formula in the bytes s, with capacities n of nodes and m of profiles.
-pub fn decide(s: &[u8], n: usize, m: usize, workspace: &mut [u8], letters: &mut [u16]) -> Verdict
-    ensures { λ r. ⌜ Decided (now (s .entry)) n m (now (workspace .entry)) (now (workspace .exit)) (now (letters .entry))
-        (now (letters .exit)) r ⌝ }
+// Whether any lasso meets the formula in the bytes, with capacities of nodes and of profiles.
+pub fn decide(
+    bytes: &[u8],
+    node_capacity: usize,
+    profile_capacity: usize,
+    workspace: &mut [u8],
+    witness: &mut [u16],
+) -> Verdict
+    ensures { λ r. ⌜ Decided (now (bytes .entry)) «node_capacity» «profile_capacity» (now (workspace .entry)) (now (workspace .exit))
+        (now (witness .entry))
+        (now (witness .exit)) r ⌝ }
 {
-    let r = formula::read(s);
+    let r = formula::read(bytes);
     let outcome = r.outcome;
     let t = r.table;
     match outcome {
         Outcome::Refused(why) => Verdict::Unread(why),
-        Outcome::Accepted => lent(t, n, m, workspace, letters),
+        Outcome::Accepted => ask_capacities(t, node_capacity, profile_capacity, workspace, witness),
     }
 }

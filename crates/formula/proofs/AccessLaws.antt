@@ -11,7 +11,7 @@ use Rattle.formula.specs.Table.{Operator, is-or, is-next, is-fix}
 use Rattle.formula.specs.Reading.{Opcode, opcode}
 use Rattle.formula.specs.Rows.{operator-of, opcode-at, operand-at, end-at, operator-at}
 use Rattle.formula.specs.Access.{Fits, Placed}
-use Rattle.formula.specs.Promise.{Unpaired}
+use Rattle.formula.specs.Inner.{Unpaired}
 
 module _ (P : ℕ → Opcode → Type 0)
     (p0 : P 0 Opcode.unknown)

@@ -18,8 +18,9 @@ use Rattle.formula.specs.declared.Refusal.{Refusal}
 use Rattle.formula.specs.declared.Taken.{Taken}
 use Rattle.formula.specs.declared.Taken.the-variants as taken
 use Rattle.formula.specs.declared.Outcome.the-variants.{Accepted, Refused}
-use Rattle.formula.specs.Promise.{point, enclosing, binders, Further, Ready, Agrees, Command, Opening, Opened, Completed, Around}
-use Rattle.formula.specs.Promise.{Inside, Inside-ready, Behind}
+use Rattle.formula.specs.Inner.{point, enclosing, binders, Further, Scope-ready, Agrees, Command, Opening, Opened, Completed}
+use Rattle.formula.specs.Inner.{Encloses}
+use Rattle.formula.specs.Inner.{Operand-scope, Inside-ready, Read-behind}
 use Rattle.formula.proofs.CodeOpcodes.{pair-opcode, fix-opcode, pair-byte, fix-byte}
 use Rattle.formula.proofs.CodeFormula.{clash, refuses, accepted, refused-first, unary, second}
 
@@ -28,10 +29,10 @@ pub opened-of : {s : List ℕ} {h : Head} {op : ℕ} {x : Head} {t : Taken} → 
 opened-of {s} {h} q a = subst (λ (t : Taken). Opening s h t) q a
 
 -- reading may go on further on, and inside
-pub ready-on : {h x : Head} {scope : Scope} → Further h x → Ready h scope → Ready x scope
+pub ready-on : {h x : Head} {scope : Scope} → Further h x → Scope-ready h scope → Scope-ready x scope
 ready-on f w = record { limits = f .limits; depth = omega (arith, f .more, w .depth); guarded = w .guarded }
 
-module _ {s : List ℕ} {h x : Head} {scope : Scope} {op : ℕ} (o : Opened s h op x) (w : Ready h scope) where
+module _ {s : List ℕ} {h x : Head} {scope : Scope} {op : ℕ} (o : Opened s h op x) (w : Scope-ready h scope) where
   pub may-enter : Inside-ready scope (h .count) op
   may-enter = record {
     place = omega (arith, o .count, o .further .limits .commands);
@@ -39,7 +40,7 @@ module _ {s : List ℕ} {h x : Head} {scope : Scope} {op : ℕ} (o : Opened s h 
     room = λ l. omega (arith, w .depth, o .deeper l, o .further .limits .fixpoints);
   }
 
-  pub ready-inside : {e : ℕ} {inner : Scope} → Inside scope e op inner → Ready x inner
+  pub ready-inside : {e : ℕ} {inner : Scope} → Operand-scope scope e op inner → Scope-ready x inner
   ready-inside a = record {
     limits = o .further .limits;
     depth = a .depth (x .fixpoints) (omega (arith, w .depth, o .further .more)) (λ l. omega (arith, w .depth, o .deeper l));
@@ -47,7 +48,7 @@ module _ {s : List ℕ} {h x : Head} {scope : Scope} {op : ℕ} (o : Opened s h 
   }
 
 -- behind an operand of the command at h
-pub is-behind : {s : List ℕ} {h x y : Head} {op : ℕ} → Opened s h op x → Further x y → Behind (h .count) y
+pub is-behind : {s : List ℕ} {h x y : Head} {op : ℕ} → Opened s h op x → Further x y → Read-behind (h .count) y
 is-behind o f = record { after = omega (arith, o .count, f .grown); few = f .limits .commands }
 
 -- where a command was read, reading went on
@@ -68,9 +69,9 @@ module _ {s : List ℕ} {h : Head} {rows : List ℕ} (scope : Scope) {op : ℕ} 
   opened-command {r} f zero l = absurd (omega (arith, o .inside))
   opened-command {r} f (suc k) l = rw (o .left k (enclosing scope)) (f k (omega (arith, o .at)))
 
-  module _ {inner : Scope} {p : Parsed} (around : Inside scope (h .count) op inner) (first : Command s x rows inner p) where
+  module _ {inner : Scope} {p : Parsed} (around : Operand-scope scope (h .count) op inner) (first : Command s x rows inner p) where
     -- the first operand's answer, by the scope that the definition gives it
-    operand : (fixpoints : Enclosing) (bs : List ℕ) → Around fixpoints bs inner → (k : ℕ) → length s ≤ x .at + k →
+    operand : (fixpoints : Enclosing) (bs : List ℕ) → Encloses fixpoints bs inner → (k : ℕ) → length s ≤ x .at + k →
         Agrees s (h .count + 1) x bs rows p (formula k fixpoints (point s x))
     operand fixpoints bs a k l =
         rw (← a .fixpoints, ← a .named, ← o .count) (first k l)

@@ -17,7 +17,7 @@ use Rattle.formula.specs.declared.Outcome.{Outcome}
 use Rattle.formula.specs.declared.Outcome.the-variants.{Accepted, Refused}
 use Rattle.formula.specs.declared.Taken.{Taken}
 use Rattle.formula.specs.declared.Taken.the-variants as taken
-use Rattle.formula.specs.Promise.{Argument, point, Limits, Further, Wrote, Got, Agrees, Shape, Argued, Finished, Completed}
+use Rattle.formula.specs.Inner.{Argument, point, Limits, Further, Rows-written, Got, Agrees, Shape, Argued, Finished, Completed}
 use Rattle.formula.proofs.CodeOpcodes.{constant-opcode, constant-byte}
 use Rattle.formula.proofs.CodeRows.{wrote-none, wrote-both, wrote-first}
 
@@ -34,18 +34,18 @@ further-trans f g = record {
 }
 
 -- the same list by another count
-wrote-count : {e n m : ℕ} {xs : Operators} {ys p q : List ℕ} → n ≡ m → Wrote e m xs ys p q → Wrote e n xs ys p q
-wrote-count {e} {xs = xs} {ys = ys} {p = p} {q = q} l w = subst (λ (k : ℕ). Wrote e k xs ys p q) (sym l) w
+wrote-count : {e n m : ℕ} {xs : Operators} {ys p q : List ℕ} → n ≡ m → Rows-written e m xs ys p q → Rows-written e n xs ys p q
+wrote-count {e} {xs = xs} {ys = ys} {p = p} {q = q} l w = subst (λ (k : ℕ). Rows-written e k xs ys p q) (sym l) w
 
 module _ {s : List ℕ} {e : ℕ} {from : Head} {bs rows : List ℕ} {op argument : ℕ} where
   -- the operands' rows p, read up to h, and then the subformula's
   got : {f : Formula} {n : ℕ} {xs : Operators} {ys p : List ℕ} {h : Head} {r : Parsed} → Shape e bs op argument f n xs ys →
-      Wrote (e + 1) n xs ys rows p → h .count ≡ e + size f → Further from h → Finished h p e op argument r →
+      Rows-written (e + 1) n xs ys rows p → h .count ≡ e + size f → Further from h → Finished h p e op argument r →
       Got s e from bs rows f (point s h) r
   got {f} {n} {xs} {ys} {h = h} {r = r} shape wrote count further fin =
       let few : h .count ≤ 48 = further .limits .commands in
       let long : size f ≡ 1 + n = shape .rows in
-      let all : Wrote e (1 + n) (shape .operator ∷ xs) (size f ∷ ys) rows (r .rows) =
+      let all : Rows-written e (1 + n) (shape .operator ∷ xs) (size f ∷ ys) rows (r .rows) =
       wrote-first (shape .operator) (omega arith) (shape .command) (shape .operand) (omega arith) (fin .placed) wrote in
       record {
         outcome = fin .outcome;

@@ -10,17 +10,17 @@ use lib.Dec.{eqb, ltb}
 use borrow.Author.Tests.{ltb-true, eqb-true, lt-ltb}
 use Rattle.formula.specs.Reading.{Opcode, opcode, known, within, one-more, counted, Head as Point}
 use Rattle.formula.specs.declared.Head.{Head}
-use Rattle.formula.specs.Promise.{point, Room, Counted}
+use Rattle.formula.specs.Inner.{point, Room-for, Operator-counted}
 use Rattle.formula.proofs.AccessLaws.{by-opcode}
 
 -- question 4 by the code's tests
-abbrev Limited : ℕ → Opcode → Type 0
-Limited op k = op ≤ 10 → (x : Point) → within k x
+abbrev Limit-tested : ℕ → Opcode → Type 0
+Limit-tested op k = op ≤ 10 → (x : Point) → within k x
     ≡ cond (eqb op 6) (ltb (x .ors) 12) (cond (eqb op 8) (ltb (x .nexts) 12) (cond (ltb 8 op) (ltb (x .fixpoints) 7) true))
 
-pub limit : (op : ℕ) → Limited op (opcode op)
+pub limit : (op : ℕ) → Limit-tested op (opcode op)
 limit =
-    by-opcode Limited (λ l x. refl) (λ l x. refl) (λ l x. refl) (λ l x. refl) (λ l x. refl) (λ l x. refl) (λ l x. refl) (λ l x. refl)
+    by-opcode Limit-tested (λ l x. refl) (λ l x. refl) (λ l x. refl) (λ l x. refl) (λ l x. refl) (λ l x. refl) (λ l x. refl) (λ l x. refl)
     (λ l x. refl) (λ l x. refl) (λ l x. refl) (λ op h l. absurd (omega arith))
 
 -- the counts by the code's tests
@@ -33,20 +33,20 @@ counts =
     (λ l x. refl) (λ l x. refl) (λ l x. refl) (λ op h l. absurd (omega arith))
 
 -- the opcodes are 1 to 10
-abbrev Known : ℕ → Opcode → Type 0
-Known op k = 0 < op → op ≤ 10 → known k ≡ true
+abbrev Known-tested : ℕ → Opcode → Type 0
+Known-tested op k = 0 < op → op ≤ 10 → known k ≡ true
 
-pub known-opcode : (op : ℕ) → Known op (opcode op)
+pub known-opcode : (op : ℕ) → Known-tested op (opcode op)
 known-opcode =
-    by-opcode Known (λ h. absurd (omega arith)) (λ h l. refl) (λ h l. refl) (λ h l. refl) (λ h l. refl) (λ h l. refl) (λ h l. refl)
+    by-opcode Known-tested (λ h. absurd (omega arith)) (λ h l. refl) (λ h l. refl) (λ h l. refl) (λ h l. refl) (λ h l. refl) (λ h l. refl)
     (λ h l. refl) (λ h l. refl) (λ h l. refl) (λ h l. refl) (λ op m h l. absurd (omega arith))
 
-abbrev Unknown : ℕ → Opcode → Type 0
-Unknown op k = 10 < op → k ≡ Opcode.unknown
+abbrev Unknown-tested : ℕ → Opcode → Type 0
+Unknown-tested op k = 10 < op → k ≡ Opcode.unknown
 
-pub unknown-opcode : (op : ℕ) → Unknown op (opcode op)
+pub unknown-opcode : (op : ℕ) → Unknown-tested op (opcode op)
 unknown-opcode =
-    by-opcode Unknown (λ h. refl) (λ h. absurd (omega arith)) (λ h. absurd (omega arith)) (λ h. absurd (omega arith))
+    by-opcode Unknown-tested (λ h. refl) (λ h. absurd (omega arith)) (λ h. absurd (omega arith)) (λ h. absurd (omega arith))
     (λ h. absurd (omega arith)) (λ h. absurd (omega arith)) (λ h. absurd (omega arith)) (λ h. absurd (omega arith))
     (λ h. absurd (omega arith)) (λ h. absurd (omega arith)) (λ h. absurd (omega arith)) (λ op m h. refl)
 
@@ -92,9 +92,15 @@ stays true n most l h = omega (arith, h refl)
 stays false n most l h = omega arith
 
 -- what the code counts is what the definition counts, and stays within the limits
-pub counted-head : (op : ℕ) (h : Head) (o n f : ℕ) → Room op h →
+pub counted-head : (op : ℕ) (h : Head) (o n f : ℕ) → Room-for op h →
     o ≡ cond (eqb op 6) 1 0 → n ≡ cond (eqb op 8) 1 0 → f ≡ cond (ltb 8 op) 1 0 →
-    Counted op h (record { at = h .at; count = h .count + 1; ors = h .ors + o; nexts = h .nexts + n; fixpoints = h .fixpoints + f })
+    Operator-counted op h (record {
+      at = h .at;
+      count = h .count + 1;
+      ors = h .ors + o;
+      nexts = h .nexts + n;
+      fixpoints = h .fixpoints + f;
+    })
 counted-head op h o n f room a b c =
     let x = point [] h in
     let few : (k : ℕ) → op ≡ k → within (opcode k) x ≡ true = λ k e. subst (λ (m : ℕ). within (opcode m) x ≡ true) e (room .allowed []) in

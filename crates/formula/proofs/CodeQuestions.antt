@@ -17,7 +17,8 @@ use Rattle.formula.specs.Refusal.{at-byte}
 use Rattle.formula.specs.Reading.{Opcode, opcode, known, within, counted, Read, Reader, Scope as Enclosing, operands, formula}
 use Rattle.formula.specs.declared.Head.{Head}
 use Rattle.formula.specs.declared.Scope.{Scope}
-use Rattle.formula.specs.Promise.{point, behind, enclosing, binders, Limits, Further, Room, Counted, Refuses, Opened, Argued}
+use Rattle.formula.specs.Inner.{point, behind, enclosing, binders, Limits, Further, Room-for, Operator-counted, Refuses, Opened}
+use Rattle.formula.specs.Inner.{Argued}
 use Rattle.formula.proofs.CodeOpcodes.{known-opcode, signal-opcode, signal-byte}
 use Rattle.formula.proofs.CodeScope.{inward-length, inward-at}
 use Rattle.formula.proofs.CodeFormula.{further-trans}
@@ -37,7 +38,7 @@ passing h p e l = subst (λ (q : Head). Further h q) (sym e) (record {
 
 -- what the code asked before it counts the opcode
 pub room : (op : ℕ) (h p : Head) (t : Bool) → p ≡ behind h → Limits h → op ≤ 10 → h .count < 48 →
-    ((s : List ℕ) → t ≡ within (opcode op) (point s p)) → t ≡ true → Room op p
+    ((s : List ℕ) → t ≡ within (opcode op) (point s p)) → t ≡ true → Room-for op p
 room op h p t e l known few allowed yes′ = record {
   limits = passing h p e l .limits;
   known = known;
@@ -84,7 +85,7 @@ module _ (s : List ℕ) (h : Head) where
           refusing 4 (λ k scope. rw (here, known-opcode next-byte some small, lt-ltb (h .count) 48 l, not-within, place))
 
       -- the opcode is read
-      pub opened : (p x : Head) → p ≡ behind h → Limits h → Room next-byte p → Counted next-byte p x → Opened s h next-byte x
+      pub opened : (p x : Head) → p ≡ behind h → Limits h → Room-for next-byte p → Operator-counted next-byte p x → Opened s h next-byte x
       opened p x e l r c =
           let n : h .count < 48 = omega (arith, r .few, ap (λ (q : Head). q .count) e) in
           let f = passing h p e l in

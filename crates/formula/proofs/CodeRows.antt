@@ -7,11 +7,11 @@ use Prim.Native.Nat.{ℕ, _+_, _%_, _≤_, _<_}
 use native.Mathlib.Omega.{arith}
 use lib.ListN.{length, getD, set, length-set}
 use lib.Seq.{getD-set-same, getD-set-other}
-use Rattle.base.specs.Lists.{numbers}
+use Rattle.base.specs.Lists.{range}
 use Rattle.base.proofs.NumberLaws.{values-join, values-same, values-cons}
 use Rattle.formula.specs.Table.{Operator, Table as Operators}
-use Rattle.formula.specs.Rows.{opcode-at, operand-at, length-at, command-of, operand-of}
-use Rattle.formula.specs.Promise.{Alike, Placed, Listed, Wrote}
+use Rattle.formula.specs.Rows.{opcode-at, operand-at, length-at, opcode-byte, operand-of}
+use Rattle.formula.specs.Inner.{Row-kept, Row-placed, Rows-list, Rows-written}
 
 module _ (p : List ℕ) (e op a n : ℕ) (long : length p ≡ 144) (small : e < 48) (few : n ≤ 48) where
   abbrev first : List ℕ
@@ -28,7 +28,7 @@ module _ (p : List ℕ) (e op a n : ℕ) (long : length p ≡ 144) (small : e < 
       getD-set-other second (96 + e) i (n % 256) 0 w ∙ getD-set-other first (48 + e) i a 0 v ∙ getD-set-other p e i op 0 u
 
   -- the three stores write subformula e and no other
-  pub placed : Placed p e op a n third
+  pub placed : Row-placed p e op a n third
   placed = record {
     command = getD-set-other second (96 + e) e (n % 256) 0 (λ q. omega arith)
         ∙ getD-set-other first (48 + e) e a 0 (λ q. omega arith)
@@ -44,15 +44,15 @@ module _ (p : List ℕ) (e op a n : ℕ) (long : length p ≡ 144) (small : e < 
     long = simp length-set;
   }
 
-alike-same : {p : List ℕ} {e : ℕ} → Alike p p e
+alike-same : {p : List ℕ} {e : ℕ} → Row-kept p p e
 alike-same = record { command = refl; operand = refl; sized = refl }
 
-alike-trans : {p q r : List ℕ} {e : ℕ} → Alike p q e → Alike q r e → Alike p r e
+alike-trans : {p q r : List ℕ} {e : ℕ} → Row-kept p q e → Row-kept q r e → Row-kept p r e
 alike-trans a b = record { command = b .command ∙ a .command; operand = b .operand ∙ a .operand; sized = b .sized ∙ a .sized }
 
 -- the same subformulas from other rows
 listed-same : {e n : ℕ} {xs : Operators} {ys p q : List ℕ} →
-    ((k : ℕ) → e ≤ k → k < e + n → Alike p q k) → Listed e n xs ys p → Listed e n xs ys q
+    ((k : ℕ) → e ≤ k → k < e + n → Row-kept p q k) → Rows-list e n xs ys p → Rows-list e n xs ys q
 listed-same {e} {n} {p = p} {q = q} h a = record {
   commands = values-same (opcode-at q) (opcode-at p) e n (λ k l m. h k l m .command) ∙ a .commands;
   operands = values-same (operand-at q) (operand-at p) e n (λ k l m. h k l m .operand) ∙ a .operands;
@@ -60,19 +60,19 @@ listed-same {e} {n} {p = p} {q = q} h a = record {
 }
 
 -- a column of two lists end to end
-column-both : {A : Type 0} (f : A → ℕ) (g : ℕ → ℕ) (e n m : ℕ) (xs us : List A) → map g (numbers e n) ≡ map f xs
-    → map g (numbers (e + n) m) ≡ map f us → map g (numbers e (n + m)) ≡ map f (xs ++ us)
+column-both : {A : Type 0} (f : A → ℕ) (g : ℕ → ℕ) (e n m : ℕ) (xs us : List A) → map g (range e n) ≡ map f xs
+    → map g (range (e + n) m) ≡ map f us → map g (range e (n + m)) ≡ map f (xs ++ us)
 column-both f g e n m xs us p q = values-join g e n m (map f xs) (map f us) p q ∙ sym (map-append f xs us)
 
 listed-both : {e n m : ℕ} {xs us : Operators} {ys vs rows : List ℕ} →
-    Listed e n xs ys rows → Listed (e + n) m us vs rows → Listed e (n + m) (xs ++ us) (ys ++ vs) rows
+    Rows-list e n xs ys rows → Rows-list (e + n) m us vs rows → Rows-list e (n + m) (xs ++ us) (ys ++ vs) rows
 listed-both {e} {n} {m} {xs} {us} {ys} {vs} {rows} a b = record {
-  commands = column-both command-of (opcode-at rows) e n m xs us (a .commands) (b .commands);
+  commands = column-both opcode-byte (opcode-at rows) e n m xs us (a .commands) (b .commands);
   operands = column-both operand-of (operand-at rows) e n m xs us (a .operands) (b .operands);
   lengths = values-join (length-at rows) e n m ys vs (a .lengths) (b .lengths);
 }
 
-pub wrote-none : (e : ℕ) (rows : List ℕ) → Wrote e 0 [] [] rows rows
+pub wrote-none : (e : ℕ) (rows : List ℕ) → Rows-written e 0 [] [] rows rows
 wrote-none e rows = record {
   listed = record { commands = refl; operands = refl; lengths = refl };
   before = λ k l. alike-same;
@@ -82,7 +82,7 @@ wrote-none e rows = record {
 
 -- two lists end to end, the second written after the first
 pub wrote-both : {e n m : ℕ} {xs us : Operators} {ys vs p q r : List ℕ} →
-    Wrote e n xs ys p q → Wrote (e + n) m us vs q r → Wrote e (n + m) (xs ++ us) (ys ++ vs) p r
+    Rows-written e n xs ys p q → Rows-written (e + n) m us vs q r → Rows-written e (n + m) (xs ++ us) (ys ++ vs) p r
 wrote-both a b = record {
   listed = listed-both (listed-same (λ k l m. b .before k m) (a .listed)) (b .listed);
   before = λ k l. alike-trans (a .before k l) (b .before k (omega arith));
@@ -92,13 +92,13 @@ wrote-both a b = record {
 
 -- subformula e, written after the n behind it
 pub wrote-first : {e n op argument z y : ℕ} {xs : Operators} {ys p q r : List ℕ} (x : Operator) → e + n < 48
-    → command-of x ≡ op → operand-of x ≡ argument → z ≡ y → Placed q e op argument z r → Wrote (e + 1) n xs ys p q
-    → Wrote e (1 + n) (x ∷ xs) (y ∷ ys) p r
+    → opcode-byte x ≡ op → operand-of x ≡ argument → z ≡ y → Row-placed q e op argument z r → Rows-written (e + 1) n xs ys p q
+    → Rows-written e (1 + n) (x ∷ xs) (y ∷ ys) p r
 wrote-first {e} {n} {xs = xs} {ys = ys} {q = q} {r = r} x few c o is w a =
-    let rest : Listed (e + 1) n xs ys r = listed-same (λ k l m. w .others k (omega arith) (λ u. omega arith)) (a .listed) in
+    let rest : Rows-list (e + 1) n xs ys r = listed-same (λ k l m. w .others k (omega arith) (λ u. omega arith)) (a .listed) in
     record {
       listed = record {
-        commands = values-cons (opcode-at r) e n (command-of x) (map command-of xs) (cc (w .command)) (rest .commands);
+        commands = values-cons (opcode-at r) e n (opcode-byte x) (map opcode-byte xs) (cc (w .command)) (rest .commands);
         operands = values-cons (operand-at r) e n (operand-of x) (map operand-of xs) (cc (w .operand)) (rest .operands);
         lengths = values-cons (length-at r) e n _ ys (w .sized ∙ is) (rest .lengths);
       };

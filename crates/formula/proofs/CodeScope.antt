@@ -11,7 +11,7 @@ use lib.ListN.{length, getD, set}
 use lib.Seq.{getD-set-same, getD-set-other}
 use borrow.Author.Tests.{lt-ltb, le-ltb}
 use Rattle.formula.specs.declared.Scope.{Scope}
-use Rattle.formula.specs.Promise.{inward, binders, Inside}
+use Rattle.formula.specs.Inner.{inward, binders, Operand-scope}
 
 -- such a list, whatever it has of each fixpoint
 module _ {A : Type 0} where
@@ -34,7 +34,7 @@ module _ {A : Type 0} where
 
 -- the scope of the operands of subformula e, by the kind of its opcode
 module _ (scope : Scope) (e op : ℕ) (nested : scope .guarded ≤ scope .depth) where
-  pub inside-pair : op < 8 → Inside scope e op scope
+  pub inside-pair : op < 8 → Operand-scope scope e op scope
   inside-pair h = record {
     pair = λ _. record { fixpoints = refl; named = refl };
     next = λ q. absurd (omega arith);
@@ -44,7 +44,7 @@ module _ (scope : Scope) (e op : ℕ) (nested : scope .guarded ≤ scope .depth)
   }
 
   -- every fixpoint outside a next is guarded
-  pub inside-next : op ≡ 8 → Inside scope e op (record { depth = scope .depth; guarded = scope .depth; binders = scope .binders })
+  pub inside-next : op ≡ 8 → Operand-scope scope e op (record { depth = scope .depth; guarded = scope .depth; binders = scope .binders })
   inside-next h = record {
     pair = λ q. absurd (omega arith);
     next = λ _. record {
@@ -60,7 +60,7 @@ module _ (scope : Scope) (e op : ℕ) (nested : scope .guarded ≤ scope .depth)
 
   -- a fixpoint is innermost, and not guarded yet
   pub inside-fix : 8 < op → e < 48 → scope .depth < 7 → length (scope .binders) ≡ 7 →
-      Inside scope e op (record
+      Operand-scope scope e op (record
       { depth = scope .depth + 1; guarded = scope .guarded; binders = set (scope .binders) (scope .depth) (e % 256) })
   inside-fix h small few seven = record {
     pair = λ q. absurd (omega arith);

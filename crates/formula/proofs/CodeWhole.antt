@@ -11,7 +11,7 @@ use Rattle.formula.specs.Table.{entries, table}
 use Rattle.formula.specs.Refusal.{at-byte}
 use Rattle.formula.specs.Reading.{Head as Point, Read, Reading, ended, whole, with-entries, reading, formula}
 use Rattle.formula.specs.Rows.{encoded, reading-of}
-use Rattle.formula.specs.Holds.{Holds, no-table, stored}
+use Rattle.formula.specs.Contract.{Table-for, no-table, stored}
 use Rattle.formula.specs.declared.Table.{Table}
 use Rattle.formula.specs.declared.Outcome.{Outcome}
 use Rattle.formula.specs.declared.Head.{Head}
@@ -19,7 +19,7 @@ use Rattle.formula.specs.declared.Reading as code
 use Rattle.formula.specs.declared.Parsed.{Parsed}
 use Rattle.formula.specs.declared.Refusal.{Refusal}
 use Rattle.formula.specs.declared.Outcome.the-variants.{Accepted, Refused}
-use Rattle.formula.specs.Promise.{Agrees, Answered}
+use Rattle.formula.specs.Inner.{Agrees, Read-from}
 use Rattle.formula.proofs.WellFormed.{table-size}
 use Rattle.formula.proofs.EncodedLaws.{wrote-encoded, stored-reading, stored-holds}
 use Rattle.formula.proofs.CodeFormula.{clash}
@@ -70,24 +70,24 @@ module _ {s : List ℕ} {h : Head} {p : Parsed}
   a = command (length (drop (h .at) s)) (simp length-drop (omega arith))
 
   refused-by : {r : code.Reading} {why : Refusal} → whole first ≡ Reading.refused why →
-      (r .outcome ≡ Refused why) × (r .table ≡ no-table) → Answered s (h .at) r
+      (r .outcome ≡ Refused why) × (r .table ≡ no-table) → Read-from s (h .at) r
   refused-by {r} {why} w o = rw (reading-from-is, w) (answer r (Refused why) no-table (o .0) (o .1))
 
   pub refused-reading : {r : code.Reading} {why : Refusal} → p .outcome ≡ Refused why →
-      (r .outcome ≡ Refused why) × (r .table ≡ no-table) → Answered s (h .at) r
+      (r .outcome ≡ Refused why) × (r .table ≡ no-table) → Read-from s (h .at) r
   refused-reading q o = refused-by (whole-refused a q) o
 
   pub extra-reading : {r : code.Reading} → p .outcome ≡ Accepted → p .head .at < length s →
-      (r .outcome ≡ Refused (at-byte 9 (p .head .at))) × (r .table ≡ no-table) → Answered s (h .at) r
+      (r .outcome ≡ Refused (at-byte 9 (p .head .at))) × (r .table ≡ no-table) → Read-from s (h .at) r
   extra-reading q l o = refused-by (whole-extra a q l) o
 
   pub accepted-reading : p .outcome ≡ Accepted → length s ≤ p .head .at →
-      Answered s (h .at) (record { outcome = Accepted; table = record { count = p .head .count; rows = p .rows } })
+      Read-from s (h .at) (record { outcome = Accepted; table = record { count = p .head .count; rows = p .rows } })
   accepted-reading q l = whole-accepted a q l ∙ ap stored (sym (reading-from-is s (h .at)))
 
 -- reading from byte 0, clause by clause
-pub clauses-of : (s : List ℕ) (r : code.Reading) → Answered s 0 r →
-    (reading-of r ≡ reading s) × Holds (r .outcome) (r .table) × (r ≡ stored (reading s))
+pub clauses-of : (s : List ℕ) (r : code.Reading) → Read-from s 0 r →
+    (reading-of r ≡ reading s) × Table-for (r .outcome) (r .table) × (r ≡ stored (reading s))
 clauses-of s r a =
     let all : r ≡ stored (reading s) = a ∙ ap stored (reading-from-start s) in
     (rw all (stored-reading s), rw all (stored-holds s), all)

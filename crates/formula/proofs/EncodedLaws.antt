@@ -10,7 +10,7 @@ use native.Mathlib.Omega.{arith}
 use native.Mathlib.Decide.{decLt}
 use lib.ListN.{length, getD, replicate, length-append, length-replicate, getD-replicate, List·getD-append, List·getD-eq-default}
 use lib.Seq.{getD-append-add, ext-getD}
-use Rattle.base.specs.Lists.{numbers}
+use Rattle.base.specs.Lists.{range}
 use Rattle.base.proofs.ListLaws.{getD-map}
 use Rattle.base.proofs.NumberLaws.{values-at, values-length}
 use Rattle.formula.specs.Formula.{Leaf, Formula, size}
@@ -18,10 +18,10 @@ use Rattle.formula.specs.Table.{Operator, Table as Operators, Entries, e
 use Rattle.formula.specs.Reading.{opcode, Reading, parse, with-entries, reading}
 use Rattle.formula.specs.Rows.{operator-of, opcode-at, operand-at, length-at, end-at, operator-at, operators-of}
 use Rattle.formula.specs.Rows.{lengths-of, entries-of}
-use Rattle.formula.specs.Rows.{command-of, operand-of, column, encoded, reading-of}
-use Rattle.formula.specs.Holds.{Holds, stored}
-use Rattle.formula.specs.Promise.{Alike, Wrote}
-use Rattle.formula.specs.Stands.{nothing}
+use Rattle.formula.specs.Rows.{opcode-byte, operand-of, column, encoded, reading-of}
+use Rattle.formula.specs.Contract.{Table-for, stored}
+use Rattle.formula.specs.Inner.{Row-kept, Rows-written}
+use Rattle.formula.specs.Occurrence.{nothing}
 use Rattle.formula.specs.declared.Reading as code
 use Rattle.formula.proofs.Limits.{parse-limited}
 use Rattle.formula.proofs.WellFormed.{Pair, Operands, table-size, length-lengths, end-by-length}
@@ -41,7 +41,7 @@ second-at p q n i l = ap (λ (m : ℕ). getD (p ++ q) (m + i) 0) (sym l) ∙ get
 
 module _ (x : Entries) where
   abbrev commands : List ℕ
-  commands = map command-of (x .operators)
+  commands = map opcode-byte (x .operators)
 
   abbrev operands : List ℕ
   operands = map operand-of (x .operators)
@@ -70,7 +70,7 @@ module _ (x : Entries) where
       ∙ column-at (x .lengths) e l
 
 -- rows with the same bytes of every subformula
-rows-same : (p q : List ℕ) → length p ≡ 144 → length q ≡ 144 → ((e : ℕ) → e < 48 → Alike q p e) → p ≡ q
+rows-same : (p q : List ℕ) → length p ≡ 144 → length q ≡ 144 → ((e : ℕ) → e < 48 → Row-kept q p e) → p ≡ q
 rows-same p q l m h = ext-getD 0 p q (l ∙ sym m) (λ i k. by i k (decLt i 48) (decLt i 96))
   where
     -- byte i is byte i - n of the column that begins at n
@@ -83,7 +83,7 @@ rows-same p q l m h = ext-getD 0 p q (l ∙ sym m) (λ i k. by i k (decLt i 48) 
     by i k (no a) (no b) = from 96 i (omega arith) (h (i - 96) (omega arith) .sized)
 
 -- a column that has the bytes of a list, and zeros behind it
-listed-column : (g : ℕ → ℕ) (bytes : List ℕ) (n e : ℕ) → map g (numbers 0 n) ≡ bytes → (n ≤ e → g e ≡ 0) → g e ≡ getD bytes e 0
+listed-column : (g : ℕ → ℕ) (bytes : List ℕ) (n e : ℕ) → map g (range 0 n) ≡ bytes → (n ≤ e → g e ≡ 0) → g e ≡ getD bytes e 0
 listed-column g bytes n e is zeros = by (decLt e n)
   where
     by : Dec (e < n) → g e ≡ getD bytes e 0
@@ -91,12 +91,12 @@ listed-column g bytes n e is zeros = by (decLt e n)
     by (no l) = zeros (omega arith) ∙ sym (List·getD-eq-default bytes 0 (omega (arith, values-length g 0 n, ap length is)))
 
 -- what was written into empty rows
-pub wrote-encoded : {n : ℕ} {xs : Operators} {ys rows : List ℕ} → Wrote 0 n xs ys (replicate {A = ℕ} 144 0) rows
+pub wrote-encoded : {n : ℕ} {xs : Operators} {ys rows : List ℕ} → Rows-written 0 n xs ys (replicate {A = ℕ} 144 0) rows
     → rows ≡ encoded (record { operators = xs; lengths = ys })
 wrote-encoded {n} {xs} {ys} {rows} w =
     let x : Entries = record { operators = xs; lengths = ys } in
     rows-same rows (encoded x) (w .long ∙ length-replicate {A = ℕ} 144 0) (length-encoded x) (λ e l.
-    let none : n ≤ e → Alike (replicate {A = ℕ} 144 0) rows e = λ m. w .behind e (omega arith) l in
+    let none : n ≤ e → Row-kept (replicate {A = ℕ} 144 0) rows e = λ m. w .behind e (omega arith) l in
     record {
       command =
           listed-column (opcode-at rows) (commands x) n e (w .listed .commands) (λ m. none m .command ∙ empty e (omega arith))
@@ -120,7 +120,7 @@ module _ (operator : ℕ → Operator) (end : ℕ → ℕ) (count e right : ℕ)
       let last : right ≡ end (e + 1) = ends (omega (arith, h .first, h .order, h .inside)) in
       cc
 
-  decodes : (o : Operator) → Operands operator end count e o → operator-of (opcode (command-of o)) (operand-of o) right e ≡ o
+  decodes : (o : Operator) → Operands operator end count e o → operator-of (opcode (opcode-byte o)) (operand-of o) right e ≡ o
   decodes (Operator.leaf (Leaf.constant true)) h = refl
   decodes (Operator.leaf (Leaf.constant false)) h = refl
   decodes (Operator.leaf (Leaf.signal true j)) h = refl
@@ -156,16 +156,16 @@ module _ (bytes : List ℕ) (f : Formula) (accepted : parse bytes ≡ Reading.ac
       rw (
         encoded-command (entries f) e (omega (arith, few)),
         encoded-operand (entries f) e (omega (arith, few)),
-        getD-map command-of (table f) e nothing 0 l,
+        getD-map opcode-byte (table f) e nothing 0 l,
         getD-map operand-of (table f) e nothing 0 l,
       )
       (decodes (operator-in (table f)) (end-in (ends-from 0 f)) (size f) e (end-at rows (e + 1)) (shaped .inside)
       (λ m. end-back (e + 1) (omega (arith, table-size f))) (operator-in (table f) e) (shaped .operands))
 
   -- a list of values by its elements
-  back : {A : Type 0} (g : ℕ → A) (d : A) (xs : List A) → length xs ≡ n → ((e : ℕ) → e < n → g e ≡ getD xs e d) → map g (numbers 0 n) ≡ xs
+  back : {A : Type 0} (g : ℕ → A) (d : A) (xs : List A) → length xs ≡ n → ((e : ℕ) → e < n → g e ≡ getD xs e d) → map g (range 0 n) ≡ xs
   back g d xs l h =
-      ext-getD d (map g (numbers 0 n)) xs (values-length g 0 n ∙ sym l) (λ e k.
+      ext-getD d (map g (range 0 n)) xs (values-length g 0 n ∙ sym l) (λ e k.
       let i : e < n = omega (arith, values-length g 0 n) in
       values-at g 0 n e d i ∙ ap g {x = 0 + e} {y = e} (omega arith) ∙ h e i)
 
@@ -188,11 +188,11 @@ stored-reading bytes = by (parse bytes) refl
     by (Reading.accepted f) q = ap Reading.accepted (encoded-entries bytes f q)
 
 -- and has a table where it must
-pub stored-holds : (bytes : List ℕ) → Holds (stored (reading bytes) .outcome) (stored (reading bytes) .table)
+pub stored-holds : (bytes : List ℕ) → Table-for (stored (reading bytes) .outcome) (stored (reading bytes) .table)
 unfolding reading table
 stored-holds bytes = by (parse bytes) refl
   where
-    by : (x : Reading Formula) → parse bytes ≡ x → Holds (stored (with-entries x) .outcome) (stored (with-entries x) .table)
+    by : (x : Reading Formula) → parse bytes ≡ x → Table-for (stored (with-entries x) .outcome) (stored (with-entries x) .table)
     by (Reading.refused why) q = refl
     by (Reading.accepted f) q =
         record { some = omega (arith, table-size f, parse-limited bytes f q .some); few = few bytes f q }

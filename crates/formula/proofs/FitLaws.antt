@@ -12,7 +12,7 @@ use Rattle.formula.specs.declared.Table.{Table}
 use Rattle.formula.specs.declared.Reading as code
 use Rattle.formula.specs.declared.Outcome.the-variants.{Accepted}
 use Rattle.formula.proofs.WellFormed.{Operands, Shaped}
-use Rattle.formula.proofs.RowLaws.{Held, reading-held, held-shaped, held-few}
+use Rattle.formula.proofs.RowLaws.{Holds-formula, reading-held, held-shaped, held-few}
 
 pub fits-more : {n : ℕ} (m : ℕ) → n ≤ m → (o : Operator) → Fits n o → Fits m o
 fits-more m l (Operator.leaf (Leaf.constant b)) f = tt
@@ -37,7 +37,7 @@ module _ (operator : ℕ → Operator) (end : ℕ → ℕ) (count : ℕ) where
 pub placed : (rows : List ℕ) (n e : ℕ) → n ≤ 48 → e < n → Fits n (operator-at rows e) → Placed rows e
 placed rows n e l h f = record { place = omega arith; fits = fits-more 48 l (operator-at rows e) f }
 
-module _ {bytes : List ℕ} {t : Table} (h : Held bytes t) where
+module _ {bytes : List ℕ} {t : Table} (h : Holds-formula bytes t) where
   pub held-fits : (e : ℕ) → e < t .count → Fits (t .count) (operator-at (t .rows) e)
   held-fits e l = shaped-fits (operator-at (t .rows)) (end-at (t .rows)) (t .count) (held-shaped h e l)
 

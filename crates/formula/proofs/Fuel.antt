@@ -75,16 +75,16 @@ module _ (total : ℕ) where
         refuse = λ s h x y code c r. stopped-byte (omega (arith, r .sum)) c;
       }
 
-  abbrev Kept : ℕ → ℕ → Read Formula → Read Formula → Type 0
-  Kept n m = Alike (Stopped total) same (Near (Same total) n m 1)
+  abbrev Same-kept : ℕ → ℕ → Read Formula → Read Formula → Type 0
+  Same-kept n m = Alike (Stopped total) same (Near (Same total) n m 1)
 
-  kept-equal : {n m : ℕ} {x y : Read Formula} → Kept n m x y → x ≡ y
+  kept-equal : {n m : ℕ} {x y : Read Formula} → Same-kept n m x y → x ≡ y
   kept-equal (Alike.refused {why} p) = ap Read.refused (sym (moved-nowhere why))
   kept-equal (Alike.got {a} {h} r) = ap (λ (l : List ℕ). Read.got a (over h l)) (r .alike .same)
 
   -- reading beside itself, with two bounds on the nesting
   kept : (d e : ℕ) (scope : Scope) (h : Head) (l : List ℕ) → Near (Same total) d e 1 h l
-      → Kept d e (formula d scope h) (formula e scope (over h l))
+      → Same-kept d e (formula d scope h) (formula e scope (over h l))
   kept = formula-alike (Stopped total) same (λ i. refl) (Same total) looks-same
 
   ended-stopped : (f : Formula) (h : Head) (x : List ℕ) {why : Refusal} → h .at + length x ≡ total → ended f h x ≡ Reading.refused why
@@ -94,7 +94,7 @@ module _ (total : ℕ) where
       let w : at-byte 9 (h .at) ≡ why = cc in
       subst (Stopped total) w (other 9 (omega arith) (omega arith) (λ q. omega arith) (omega arith))
 
-  whole-stopped : {n m : ℕ} {x y : Read Formula} {why : Refusal} → Kept n m x y → whole x ≡ Reading.refused why → Stopped total why
+  whole-stopped : {n m : ℕ} {x y : Read Formula} {why : Refusal} → Same-kept n m x y → whole x ≡ Reading.refused why → Stopped total why
   whole-stopped {why = why} (Alike.refused {why = w} s) e =
       let a : w ≡ why = cc in
       subst (Stopped total) a s
@@ -126,7 +126,7 @@ formula-unfolds scope h = by (h .left)
         kept-equal total
         (questions-alike (Stopped total) same (λ i. refl) (Same total) (looks-same total) (length x) (length x) (formula (length x))
         formula-at
-        (λ scope k l r. subst (Kept total (length x) (length x) (formula (length x) scope k))
+        (λ scope k l r. subst (Same-kept total (length x) (length x) (formula (length x) scope k))
         (formula-fuel (length x) (length l) scope (over k l) (r .second) (omega arith))
         (kept total (length x) (length x) scope k l r))
         scope g (b ∷ x) (near (suc (length x)) (suc (length x)) g (omega arith) (omega arith)))

@@ -7,7 +7,7 @@ use Prim.Native.Nat.{ℕ}
 use lib.ListN.{length, length-map}
 use Rattle.formula.specs.Formula.{Formula}
 use Rattle.formula.specs.Reading.{Head, Scope, Reading, parse}
-use Rattle.formula.specs.Stands.{Guarded}
+use Rattle.formula.specs.Occurrence.{Guarded}
 use Rattle.formula.proofs.Closed.{Closed}
 use Rattle.formula.proofs.Derivation.{Reads, parse-reads}
 

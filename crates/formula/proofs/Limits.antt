@@ -8,11 +8,11 @@ use Prim.Native.Nat.{ℕ, _+_, _≤_, _<_}
 use native.Mathlib.Omega.{arith}
 use lib.Dec.{T, ltb→lt}
 use lib.ListN.{length, getD}
-use Rattle.base.specs.Lists.{keep}
+use Rattle.base.specs.Lists.{filter}
 use Rattle.formula.specs.Formula.{Leaf, Formula, size}
 use Rattle.formula.specs.Table.{Operator, Table, table-from, table, is-or, is-next, is-fix}
 use Rattle.formula.specs.Reading.{Opcode, Head, Scope, within, counted, Reading, parse}
-use Rattle.formula.specs.Stands.{Ranged}
+use Rattle.formula.specs.Occurrence.{Ranged}
 use Rattle.formula.proofs.Commands.{Sort, sort, or-command, next-command, fix-command, one-if, counted-is, behind}
 use Rattle.formula.proofs.Derivation.{Byte, Begins, Reads, parse-reads}
 
@@ -56,15 +56,15 @@ size-some (Formula.next a) = omega arith
 size-some (Formula.fix g a) = omega arith
 
 -- what the question about the limits leaves room for
-record Fits (s : Sort) (h : Head) : Type 0 where
+record Leaves-room (s : Sort) (h : Head) : Type 0 where
   ors : h .ors ≤ 12 → h .ors + one-if (s .or) ≤ 12
   nexts : h .nexts ≤ 12 → h .nexts + one-if (s .next) ≤ 12
   fixpoints : h .fixpoints ≤ 7 → h .fixpoints + one-if (s .fix) ≤ 7
 
-light : (h : Head) → Fits (sort Opcode.unknown) h
+light : (h : Head) → Leaves-room (sort Opcode.unknown) h
 light h = record { ors = λ i. omega arith; nexts = λ i. omega arith; fixpoints = λ i. omega arith }
 
-within-fits : (op : Opcode) (h : Head) → T (within op h) → Fits (sort op) h
+within-fits : (op : Opcode) (h : Head) → T (within op h) → Leaves-room (sort op) h
 within-fits Opcode.unknown h w = light h
 within-fits (Opcode.constant b) h w = light h
 within-fits (Opcode.signal b) h w = light h
@@ -161,7 +161,7 @@ reads-ranged f (Reads.next {a = x} b p) = reads-ranged x p
 reads-ranged f (Reads.fix {a = x} b p) = reads-ranged x p
 
 -- the limits
-pub record Limited (f : Formula) : Type 0 where
+pub record Within-limits (f : Formula) : Type 0 where
   pub some : 0 < size f
   pub commands : size f ≤ 48
   pub ors : ors f ≤ 12
@@ -169,7 +169,7 @@ pub record Limited (f : Formula) : Type 0 where
   pub fixpoints : fixpoints f ≤ 7
   pub signals : Ranged f
 
-pub parse-limited : (bytes : List ℕ) (f : Formula) → parse bytes ≡ Reading.accepted f → Limited f
+pub parse-limited : (bytes : List ℕ) (f : Formula) → parse bytes ≡ Reading.accepted f → Within-limits f
 parse-limited bytes f e =
     let (k, r, l) = parse-reads bytes f e in
     record {
@@ -190,13 +190,13 @@ opcode-of (Operator.next g) = Opcode.next
 opcode-of (Operator.fix g b) = Opcode.fix g
 
 abbrev pub how-many : (Operator → Bool) → Table → ℕ
-how-many q t = length (keep q t)
+how-many q t = length (filter q t)
 
 module _ (q : Operator → Bool) (test : Opcode → Bool) (same : (o : Operator) → q o ≡ test (opcode-of o)) where
   one-more : (o : Operator) (t : Table) → how-many q (o ∷ t) ≡ one-if (test (opcode-of o)) + how-many q t
   one-more o t = rw (← same o) (by (q o))
     where
-      by : (b : Bool) → length (cond b (o ∷ keep q t) (keep q t)) ≡ one-if b + how-many q t
+      by : (b : Bool) → length (cond b (o ∷ filter q t) (filter q t)) ≡ one-if b + how-many q t
       by true = omega arith
       by false = omega arith
 

@@ -6,8 +6,8 @@ use Prim.Native.Nat.{ℕ, _+_, _≤_, _<_}
 use native.Mathlib.Omega.{arith}
 use lib.ListN.{length, getD, length-map}
 use lib.Seq.{ext-getD}
-use Rattle.base.specs.Lists.{numbers}
-use Rattle.base.proofs.ListLaws.{length-numbers}
+use Rattle.base.specs.Lists.{range}
+use Rattle.base.proofs.ListLaws.{length-range}
 use Rattle.base.proofs.NumberLaws.{values-at, values-length}
 use Rattle.formula.specs.Formula.{Formula, size}
 use Rattle.formula.specs.Table.{Entries, entries, table, ends-from, lengths}
@@ -18,7 +18,7 @@ use Rattle.formula.specs.declared.Table.{Table}
 use Rattle.formula.specs.declared.Outcome.the-variants.{Accepted, Refused}
 use Rattle.formula.specs.declared.Refusal.{Refusal}
 use Rattle.formula.specs.declared.Reading as code
-use Rattle.formula.specs.Stands.{Ranged, Guarded, nothing}
+use Rattle.formula.specs.Occurrence.{Ranged, Guarded, nothing}
 use Rattle.formula.proofs.Limits.{parse-limited}
 use Rattle.formula.proofs.Guarded.{parse-guarded}
 use Rattle.formula.proofs.WellFormed.{Shaped, table-size, length-ends, length-lengths, end-by-length, each-shaped}
@@ -27,7 +27,7 @@ use Rattle.formula.proofs.WellFormed.{operator-in, end-in}
 -- rows that decode to a formula's table and ends
 module _ (rows : List ℕ) (n : ℕ) (f : Formula) (operators : operators-of rows 0 n ≡ table f) (ends : ends-of rows 0 n ≡ ends-from 0 f) where
   pub rows-count : n ≡ size f
-  rows-count = sym (length-map (numbers 0 n) (operator-at rows) ∙ length-numbers 0 n) ∙ ap length operators ∙ table-size f
+  rows-count = sym (length-map (range 0 n) (operator-at rows) ∙ length-range 0 n) ∙ ap length operators ∙ table-size f
 
   pub rows-shaped : Guarded [] f → Ranged f → (e : ℕ) → e < n → Shaped (operator-at rows) (end-at rows) n e
   rows-shaped g r e i =
@@ -36,7 +36,7 @@ module _ (rows : List ℕ) (n : ℕ) (f : Formula) (operators : operators-of row
       (λ e l. at (operator-at rows) nothing e (omega (arith, rows-count)) ∙ ap (λ t. operator-in t e) operators)
       (λ e l. at (end-at rows) 0 e (omega (arith, rows-count)) ∙ ap (λ t. end-in t e) ends) g r e (omega (arith, rows-count)))
     where
-      at : {A : Type 0} (g : ℕ → A) (d : A) (e : ℕ) → e < n → g e ≡ getD (map g (numbers 0 n)) e d
+      at : {A : Type 0} (g : ℕ → A) (d : A) (e : ℕ) → e < n → g e ≡ getD (map g (range 0 n)) e d
       at g d e l = sym (values-at g 0 n e d l ∙ ap g (omega arith))
 
 -- the ends of rows that have a formula's lengths
@@ -51,18 +51,20 @@ ends-read rows n f same =
     values-at (end-at rows) 0 n e 0 l ∙ ap (end-at rows) q ∙ omega (arith, end-by-length 0 f e (omega arith)))
 
 -- a table in memory that holds the formula that the bytes are
-pub record Held (bytes : List ℕ) (t : Table) : Type 0 where
+pub record Holds-formula (bytes : List ℕ) (t : Table) : Type 0 where
   pub formula : Formula
   pub parsed : parse bytes ≡ Reading.accepted formula
   pub operators : operators-of (t .rows) 0 (t .count) ≡ table formula
   pub ends : ends-of (t .rows) 0 (t .count) ≡ ends-from 0 formula
 
 -- what a caller of reading has after an accepted outcome
-pub reading-held : (bytes : List ℕ) (r : code.Reading) → reading-of r ≡ reading bytes → r .outcome ≡ Accepted → Held bytes (r .table)
+pub reading-held : (bytes : List ℕ) (r : code.Reading) → reading-of r ≡ reading bytes → r .outcome ≡ Accepted
+    → Holds-formula bytes (r .table)
 unfolding reading table
 reading-held bytes r e a = by (parse bytes) refl (sym e ∙ ap (λ o. reading-by o (r .table)) a)
   where
-    by : (x : Reading Formula) → parse bytes ≡ x → with-entries x ≡ Reading.accepted (entries-of (r .table)) → Held bytes (r .table)
+    by : (x : Reading Formula) → parse bytes ≡ x → with-entries x ≡ Reading.accepted (entries-of (r .table))
+        → Holds-formula bytes (r .table)
     by (Reading.refused why) q e = absurd (let z : _≡_ {A = ℕ} 0 1 = cc in omega arith)
     by (Reading.accepted f) q e =
         let same : entries f ≡ entries-of (r .table) = cc in
@@ -83,7 +85,7 @@ reading-refused bytes r {why} e a = by (parse bytes) (sym e ∙ ap (λ o. readin
     by (Reading.refused w) q = cc
     by (Reading.accepted f) q = absurd (let z : _≡_ {A = ℕ} 0 1 = cc in omega arith)
 
-module _ {bytes : List ℕ} {t : Table} (h : Held bytes t) where
+module _ {bytes : List ℕ} {t : Table} (h : Holds-formula bytes t) where
   pub held-count : t .count ≡ size (h .formula)
   held-count = rows-count (t .rows) (t .count) (h .formula) (h .operators) (h .ends)
 

@@ -1,6 +1,6 @@
 -- The table of a closed, guarded formula is well formed. Numbers are given in prefix order, so the subformulas of an operator are those
 -- from its own number up to its end: operands come later and end no later, a variable's binder comes before it and ends behind it, and
--- between the two stands a next. First every number is found to be a subformula of the tree that stands there (`Stands`, `located`);
+-- between the two stands a next. First every number is found to be a subformula of the tree that stands there (`Occurs`, `located`);
 -- what a table looks like at a number (`Shaped`) is then read off the subformula's top. Assumes nothing.
 use mathlib.Core.Path.{_≡_, refl, ap, _∙_}
 use mathlib.Core.Bool.{Bool, true, false}
@@ -15,23 +15,23 @@ use Rattle.base.proofs.ListLaws as base
 use Rattle.formula.specs.Formula.{Leaf, Formula, size}
 use Rattle.formula.specs.Table.{Operator, Table, table-from, table, ends-from, lengths}
 use Rattle.formula.specs.Reading.{Scope, Reading, parse}
-use Rattle.formula.specs.Stands as specs
-use Rattle.formula.specs.Stands.{Sits, nothing, Guarded, Ranged}
+use Rattle.formula.specs.Occurrence as specs
+use Rattle.formula.specs.Occurrence.{Listed-from, nothing, Guarded, Ranged}
 use Rattle.formula.proofs.Closed.{length-table}
 use Rattle.formula.proofs.Limits.{size-some, parse-limited}
 use Rattle.formula.proofs.Guarded.{parse-guarded}
 
 module _ {A : Type 0} {d : A} {s : ℕ → A} {e : ℕ} where
-  pub sits-first : {c : A} {part : List A} → Sits d s e (c ∷ part) → s e ≡ c
+  pub sits-first : {c : A} {part : List A} → Listed-from d s e (c ∷ part) → s e ≡ c
   sits-first h = rw add-zero at (h .at 0 (omega arith))
 
-  sits-rest : {c : A} {part : List A} → Sits d s e (c ∷ part) → Sits d s (e + 1) part
+  sits-rest : {c : A} {part : List A} → Listed-from d s e (c ∷ part) → Listed-from d s (e + 1) part
   sits-rest h = record { at = λ i l. let q : e + 1 + i ≡ e + suc i = omega arith in rw q (h .at (suc i) (omega arith)) }
 
-  sits-left : (a b : List A) → Sits d s e (a ++ b) → Sits d s e a
+  sits-left : (a b : List A) → Listed-from d s e (a ++ b) → Listed-from d s e a
   sits-left a b h = record { at = λ i l. h .at i (omega (arith, length-append a b)) ∙ List·getD-append a b d i l }
 
-  sits-right : (n : ℕ) (a b : List A) → length a ≡ n → Sits d s e (a ++ b) → Sits d s (e + n) b
+  sits-right : (n : ℕ) (a b : List A) → length a ≡ n → Listed-from d s e (a ++ b) → Listed-from d s (e + n) b
   sits-right n a b q h =
       record {
         at = λ i l.
@@ -116,18 +116,18 @@ module _ (operator : ℕ → Operator) (end : ℕ → ℕ) (count : ℕ) where
   abbrev Binds : (m lo hi : ℕ) → (guarded : Bool) → Type 0
   Binds = specs.Binds operator end count
 
-  abbrev Stands : (e : ℕ) → Scope → (binders : List ℕ) → Formula → Type 0
-  Stands = specs.Stands operator end count
+  abbrev Occurs : (e : ℕ) → Scope → (binders : List ℕ) → Formula → Type 0
+  Occurs = specs.Occurs operator end count
 
-  ends-first : (e : ℕ) (f : Formula) → Sits 0 end e (ends-from e f) → end e ≡ e + size f
+  ends-first : (e : ℕ) (f : Formula) → Listed-from 0 end e (ends-from e f) → end e ≡ e + size f
   ends-first e (Formula.leaf l) h = sits-first h
   ends-first e (Formula.variable d) h = sits-first h
   ends-first e (Formula.pair o a b) h = sits-first h
   ends-first e (Formula.next a) h = sits-first h
   ends-first e (Formula.fix g a) h = sits-first h
 
-  pub stands-end : {e : ℕ} {scope : Scope} {binders : List ℕ} {f : Formula} → Stands e scope binders f → end e ≡ e + size f
-  stands-end {e} {f = f} h = ends-first e f (h .bounds)
+  pub occurs-end : {e : ℕ} {scope : Scope} {binders : List ℕ} {f : Formula} → Occurs e scope binders f → end e ≡ e + size f
+  occurs-end {e} {f = f} h = ends-first e f (h .bounds)
 
   binds-in : {m lo hi : ℕ} {g : Bool} (from to : ℕ) → lo ≤ from → to ≤ hi → Binds m lo hi g → Binds m from to g
   binds-in from to i j b =
@@ -148,8 +148,8 @@ module _ (operator : ℕ → Operator) (end : ℕ → ℕ) (count : ℕ) where
 
   -- the operands of what stands at e stand at their numbers
   module _ {e : ℕ} {scope : Scope} {binders : List ℕ} where
-    pub stands-left : {o : Bool} {a b : Formula} → Stands e scope binders (Formula.pair o a b) → Stands (e + 1) scope binders a
-    stands-left {a = a} {b = b} h =
+    pub occurs-left : {o : Bool} {a b : Formula} → Occurs e scope binders (Formula.pair o a b) → Occurs (e + 1) scope binders a
+    occurs-left {a = a} {b = b} h =
         record {
           operators = sits-left (table-from (e + 1) binders a) _ (sits-rest (h .operators));
           bounds = sits-left (ends-from (e + 1) a) _ (sits-rest (h .bounds));
@@ -160,8 +160,8 @@ module _ (operator : ℕ → Operator) (end : ℕ → ℕ) (count : ℕ) where
           enclosed = λ d i. binds-in (e + 1) (e + 1 + size a) (omega arith) (omega arith) (h .enclosed d i);
         }
 
-    pub stands-right : {o : Bool} {a b : Formula} → Stands e scope binders (Formula.pair o a b) → Stands (e + 1 + size a) scope binders b
-    stands-right {a = a} {b = b} h =
+    pub occurs-right : {o : Bool} {a b : Formula} → Occurs e scope binders (Formula.pair o a b) → Occurs (e + 1 + size a) scope binders b
+    occurs-right {a = a} {b = b} h =
         record {
           operators = sits-right (size a) (table-from (e + 1) binders a) _ (length-table (e + 1) binders a) (sits-rest (h .operators));
           bounds = sits-right (size a) (ends-from (e + 1) a) _ (length-ends (e + 1) a) (sits-rest (h .bounds));
@@ -172,8 +172,8 @@ module _ (operator : ℕ → Operator) (end : ℕ → ℕ) (count : ℕ) where
           enclosed = λ d i. binds-in (e + 1 + size a) (e + 1 + size a + size b) (omega arith) (omega arith) (h .enclosed d i);
         }
 
-    pub stands-next : {a : Formula} → Stands e scope binders (Formula.next a) → Stands (e + 1) (map (λ _. true) scope) binders a
-    stands-next {a = a} h =
+    pub occurs-next : {a : Formula} → Occurs e scope binders (Formula.next a) → Occurs (e + 1) (map (λ _. true) scope) binders a
+    occurs-next {a = a} h =
         record {
           operators = sits-rest (h .operators);
           bounds = sits-rest (h .bounds);
@@ -192,14 +192,14 @@ module _ (operator : ℕ → Operator) (end : ℕ → ℕ) (count : ℕ) where
                       number = e;
                       behind = b .before;
                       before = omega arith;
-                      around = omega (arith, stands-end h);
+                      around = omega (arith, occurs-end h);
                       next = rw (sits-first (h .operators)) tt;
                     };
               };
         }
 
-    pub stands-body : {g : Bool} {a : Formula} → Stands e scope binders (Formula.fix g a) → Stands (e + 1) (false ∷ scope) (e ∷ binders) a
-    stands-body {a = a} h =
+    pub occurs-body : {g : Bool} {a : Formula} → Occurs e scope binders (Formula.fix g a) → Occurs (e + 1) (false ∷ scope) (e ∷ binders) a
+    occurs-body {a = a} h =
         record {
           operators = sits-rest (h .operators);
           bounds = sits-rest (h .bounds);
@@ -214,7 +214,7 @@ module _ (operator : ℕ → Operator) (end : ℕ → ℕ) (count : ℕ) where
         inner zero i =
             record {
               before = omega arith;
-              around = omega (arith, stands-end h);
+              around = omega (arith, occurs-end h);
               fixpoint = rw (sits-first (h .operators)) tt;
               guard = λ g. absurd g;
             }
@@ -225,12 +225,12 @@ module _ (operator : ℕ → Operator) (end : ℕ → ℕ) (count : ℕ) where
     pub scope : Scope
     pub binders : List ℕ
     pub subformula : Formula
-    pub stands : Stands e scope binders subformula
+    pub stands : Occurs e scope binders subformula
 
   abbrev Each : ℕ → ℕ → Type 0
   Each lo hi = (x : ℕ) → lo ≤ x → x < hi → Located x
 
-  each-first : {e n : ℕ} {scope : Scope} {binders : List ℕ} {f : Formula} → Stands e scope binders f → Each (e + 1) n → Each e n
+  each-first : {e n : ℕ} {scope : Scope} {binders : List ℕ} {f : Formula} → Occurs e scope binders f → Each (e + 1) n → Each e n
   each-first {e} {n} {scope} {binders} {f} h more x i j = by (decLt e x)
     where
       by : Dec (e < x) → Located x
@@ -252,23 +252,23 @@ module _ (operator : ℕ → Operator) (end : ℕ → ℕ) (count : ℕ) where
   none : (lo hi : ℕ) → hi ≤ lo → Each lo hi
   none lo hi l x i j = absurd (omega arith)
 
-  each : {e : ℕ} {scope : Scope} {binders : List ℕ} (f : Formula) → Stands e scope binders f → Each e (e + size f)
+  each : {e : ℕ} {scope : Scope} {binders : List ℕ} (f : Formula) → Occurs e scope binders f → Each e (e + size f)
   each {e} (Formula.leaf l) h = each-first h (none (e + 1) (e + 1) (omega arith))
   each {e} (Formula.variable d) h = each-first h (none (e + 1) (e + 1) (omega arith))
   each {e} (Formula.pair o a b) h =
-      each-to (e + (1 + (size a + size b))) (omega arith) (each-first h (each-join (each a (stands-left h)) (each b (stands-right h))))
-  each {e} (Formula.next a) h = each-to (e + (1 + size a)) (omega arith) (each-first h (each a (stands-next h)))
-  each {e} (Formula.fix g a) h = each-to (e + (1 + size a)) (omega arith) (each-first h (each a (stands-body h)))
+      each-to (e + (1 + (size a + size b))) (omega arith) (each-first h (each-join (each a (occurs-left h)) (each b (occurs-right h))))
+  each {e} (Formula.next a) h = each-to (e + (1 + size a)) (omega arith) (each-first h (each a (occurs-next h)))
+  each {e} (Formula.fix g a) h = each-to (e + (1 + size a)) (omega arith) (each-first h (each a (occurs-body h)))
 
   -- every number from e up to the end of what stands there
-  pub located : {e : ℕ} {scope : Scope} {binders : List ℕ} {f : Formula} → Stands e scope binders f → (x : ℕ) → e ≤ x → x < end e
+  pub located : {e : ℕ} {scope : Scope} {binders : List ℕ} {f : Formula} → Occurs e scope binders f → (x : ℕ) → e ≤ x → x < end e
       → Located x
-  located {e} {f = f} h = each-to (end e) (stands-end h) (each f h)
+  located {e} {f = f} h = each-to (end e) (occurs-end h) (each f h)
 
-  pub stands-nested : {e : ℕ} {scope : Scope} {binders : List ℕ} {f : Formula} → Stands e scope binders f → (x : ℕ) → e ≤ x → x < end e
+  pub occurs-nested : {e : ℕ} {scope : Scope} {binders : List ℕ} {f : Formula} → Occurs e scope binders f → (x : ℕ) → e ≤ x → x < end e
       → end x ≤ end e
-  stands-nested {e} {f = f} h x i j =
-      let last : end e ≡ e + size f = stands-end h in
+  occurs-nested {e} {f = f} h x i j =
+      let last : end e ≡ e + size f = occurs-end h in
       let k : x - e < length (ends-from e f) = omega (arith, length-ends e f) in
       let at : end (e + (x - e)) ≡ getD (ends-from e f) (x - e) 0 = h .bounds .at (x - e) k in
       let small = base.each-at (λ _ y. y ≤ e + size f) e (ends-from e f) 0 (ends-inside (e + size f) e f (omega arith)) (x - e) k in
@@ -303,7 +303,7 @@ module _ (operator : ℕ → Operator) (end : ℕ → ℕ) (count : ℕ) where
     pub inside : end e ≤ count
     pub operands : Operands e (operator e)
 
-  operands-at : {e : ℕ} {scope : Scope} {binders : List ℕ} (f : Formula) → Stands e scope binders f → Operands e (operator e)
+  operands-at : {e : ℕ} {scope : Scope} {binders : List ℕ} (f : Formula) → Occurs e scope binders f → Operands e (operator e)
   operands-at (Formula.leaf (Leaf.constant b)) h = rw (sits-first (h .operators)) tt
   operands-at (Formula.leaf (Leaf.signal present s)) h = rw (sits-first (h .operators)) (h .ranged)
   operands-at (Formula.variable d) h =
@@ -315,28 +315,28 @@ module _ (operator : ℕ → Operator) (end : ℕ → ℕ) (count : ℕ) where
       (record {
         first = refl;
         order = omega (arith, size-some a);
-        inside = omega (arith, size-some b, stands-end h);
-        second = stands-end (stands-left h);
-        last = omega (arith, stands-end (stands-right h), stands-end h);
+        inside = omega (arith, size-some b, occurs-end h);
+        second = occurs-end (occurs-left h);
+        last = omega (arith, occurs-end (occurs-right h), occurs-end h);
       })
   operands-at (Formula.next a) h =
       rw (sits-first (h .operators))
       (record {
         first = refl;
-        inside = omega (arith, size-some a, stands-end h);
-        last = omega (arith, stands-end (stands-next h), stands-end h);
+        inside = omega (arith, size-some a, occurs-end h);
+        last = omega (arith, occurs-end (occurs-next h), occurs-end h);
       })
   operands-at (Formula.fix g a) h =
       rw (sits-first (h .operators))
       (record {
         first = refl;
-        inside = omega (arith, size-some a, stands-end h);
-        last = omega (arith, stands-end (stands-body h), stands-end h);
+        inside = omega (arith, size-some a, occurs-end h);
+        last = omega (arith, occurs-end (occurs-body h), occurs-end h);
       })
 
-  pub stands-shaped : {e : ℕ} {scope : Scope} {binders : List ℕ} {f : Formula} → Stands e scope binders f → Shaped e
-  stands-shaped {f = f} h =
-      record { some = omega (arith, stands-end h, size-some f); inside = omega (arith, stands-end h, h .fits); operands = operands-at f h }
+  pub occurs-shaped : {e : ℕ} {scope : Scope} {binders : List ℕ} {f : Formula} → Occurs e scope binders f → Shaped e
+  occurs-shaped {f = f} h =
+      record { some = omega (arith, occurs-end h, size-some f); inside = omega (arith, occurs-end h, h .fits); operands = operands-at f h }
 
 pub table-size : (f : Formula) → length (table f) ≡ size f
 unfolding table
@@ -345,9 +345,9 @@ table-size f = length-table 0 [] f
 -- Operators and ends that are a formula's: the formula stands at 0, so every number is a subformula, and shaped as such.
 module _ (operator : ℕ → Operator) (end : ℕ → ℕ) (f : Formula) (operators : (e : ℕ) → e < size f → operator e ≡ operator-in (table f) e)
     (ends : (e : ℕ) → e < size f → end e ≡ end-in (ends-from 0 f) e) (guarded : Guarded [] f) (ranged : Ranged f) where
-  pub stands-whole : Stands operator end (size f) 0 [] [] f
+  pub occurs-whole : Occurs operator end (size f) 0 [] [] f
   unfolding table
-  stands-whole =
+  occurs-whole =
       record {
         operators = record { at = λ i l. let q : 0 + i ≡ i = omega arith in rw q (operators i (omega (arith, table-size f))) };
         bounds = record { at = λ i l. let q : 0 + i ≡ i = omega arith in rw q (ends i (omega (arith, length-ends 0 f))) };
@@ -360,10 +360,10 @@ module _ (operator : ℕ → Operator) (end : ℕ → ℕ) (f : Formula) (operat
 
   pub each-located : (e : ℕ) → e < size f → Located operator end (size f) e
   each-located e i =
-      located operator end (size f) stands-whole e (omega arith) (omega (arith, stands-end operator end (size f) stands-whole))
+      located operator end (size f) occurs-whole e (omega arith) (omega (arith, occurs-end operator end (size f) occurs-whole))
 
   pub each-shaped : (e : ℕ) → e < size f → Shaped operator end (size f) e
-  each-shaped e i = stands-shaped operator end (size f) (each-located e i .stands)
+  each-shaped e i = occurs-shaped operator end (size f) (each-located e i .stands)
 
 -- the table of an accepted formula
 pub parse-shaped : (bytes : List ℕ) (f : Formula) → parse bytes ≡ Reading.accepted f

@@ -2,8 +2,8 @@ pub mod Formula
 pub mod Table
 pub mod Refusal
 pub mod Reading
-pub mod Stands
+pub mod Occurrence
 pub mod Rows
 pub mod Access
-pub mod Holds
-pub mod Promise
+pub mod Contract
+pub mod Inner

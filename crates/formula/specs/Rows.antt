@@ -4,7 +4,7 @@ use mathlib.Core.Bool.{cond}
 use mathlib.Core.List.{List, _++_, map}
 use Prim.Native.Nat.{ℕ, _+_}
 use lib.ListN.{getD}
-use Rattle.base.specs.Lists.{numbers}
+use Rattle.base.specs.Lists.{range}
 use Rattle.formula.specs.Formula.{Leaf}
 use Rattle.formula.specs.Table.{Operator, Table as Operators, Entries}
 use Rattle.formula.specs.Reading.{Opcode, opcode, Reading}
@@ -46,28 +46,28 @@ operator-at rows e = operator-of (opcode (opcode-at rows e)) (operand-at rows e)
 
 -- the n subformulas from e on
 abbrev pub operators-of : List ℕ → ℕ → ℕ → Operators
-operators-of rows e n = map (operator-at rows) (numbers e n)
+operators-of rows e n = map (operator-at rows) (range e n)
 
 -- their lengths
 abbrev pub lengths-of : List ℕ → ℕ → ℕ → List ℕ
-lengths-of rows e n = map (length-at rows) (numbers e n)
+lengths-of rows e n = map (length-at rows) (range e n)
 
 -- their ends
 abbrev pub ends-of : List ℕ → ℕ → ℕ → List ℕ
-ends-of rows e n = map (end-at rows) (numbers e n)
+ends-of rows e n = map (end-at rows) (range e n)
 
 -- all that a table holds
 abbrev pub entries-of : Table → Entries
 entries-of t = record { operators = operators-of (t .rows) 0 (t .count); lengths = lengths-of (t .rows) 0 (t .count) }
 
 -- the byte of an operator's opcode: MEANING 1.1
-abbrev pub command-of : Operator → ℕ
-command-of (Operator.leaf (Leaf.constant b)) = cond b 1 2
-command-of (Operator.leaf (Leaf.signal present j)) = cond present 3 4
-command-of (Operator.variable m) = 5
-command-of (Operator.pair o l r) = cond o 6 7
-command-of (Operator.next g) = 8
-command-of (Operator.fix g b) = cond g 10 9
+abbrev pub opcode-byte : Operator → ℕ
+opcode-byte (Operator.leaf (Leaf.constant b)) = cond b 1 2
+opcode-byte (Operator.leaf (Leaf.signal present j)) = cond present 3 4
+opcode-byte (Operator.variable m) = 5
+opcode-byte (Operator.pair o l r) = cond o 6 7
+opcode-byte (Operator.next g) = 8
+opcode-byte (Operator.fix g b) = cond g 10 9
 
 -- what its operand byte stands for; 0 where it has none
 abbrev pub operand-of : Operator → ℕ
@@ -80,11 +80,11 @@ operand-of (Operator.fix g b) = 0
 
 -- 48 bytes: the given ones, and zeros behind them
 unfoldable pub column : List ℕ → List ℕ
-column bytes = map (λ e. getD bytes e 0) (numbers 0 48)
+column bytes = map (λ e. getD bytes e 0) (range 0 48)
 
 -- the rows that hold the subformulas of a formula
 unfoldable pub encoded : Entries → List ℕ
-encoded x = column (map command-of (x .operators)) ++ (column (map operand-of (x .operators)) ++ column (x .lengths))
+encoded x = column (map opcode-byte (x .operators)) ++ (column (map operand-of (x .operators)) ++ column (x .lengths))
 
 -- the definition's outcome for each of the code's: the refusal as it is, or the subformulas
 abbrev pub reading-by : Outcome → Table → Reading Entries

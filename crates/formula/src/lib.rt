@@ -7,12 +7,13 @@ ghost use Rattle.formula.specs.Refusal.{code-of, place-of};
 ghost use Rattle.formula.specs.Reading.{opcode, reading, within as allowed};
 ghost use Rattle.formula.specs.Table as definitions;
 ghost use Rattle.formula.specs.Table.{is-or, is-next, is-fix};
-ghost use Rattle.formula.specs.Rows.{operator-of, opcode-at, operator-at, end-at, command-of, reading-of};
+ghost use Rattle.formula.specs.Rows.{operator-of, opcode-at, operator-at, end-at, opcode-byte, reading-of};
 ghost use Rattle.formula.specs.Access.{decoded, Placed};
-ghost use Rattle.formula.specs.Holds.{Holds, no-table, stored};
-ghost use Rattle.formula.specs.Promise.{point, behind, Limits, Room, Counted, Opening, Ready, Operand-ready, Leaf-ready};
-ghost use Rattle.formula.specs.Promise.{Inside-ready, Inside, Placed as Row-placed, Unpaired, Behind, Finished, Completed};
-ghost use Rattle.formula.specs.Promise.{Argues, Leaves, Command, Answered};
+ghost use Rattle.formula.specs.Contract.{Table-for, no-table, stored};
+ghost use Rattle.formula.specs.Inner.{point, behind, Limits, Room-for, Operator-counted, Opening, Scope-ready, Operand-ready};
+ghost use Rattle.formula.specs.Inner.{Leaf-ready};
+ghost use Rattle.formula.specs.Inner.{Inside-ready, Operand-scope, Row-placed, Unpaired, Read-behind, Finished, Completed};
+ghost use Rattle.formula.specs.Inner.{Argues, Leaves, Command, Read-from};
 
 // The opcodes: MEANING 1.1.
 const TRUE: u8 = 1;
@@ -157,8 +158,8 @@ fn passed(s: &[u8], h: Head) -> Head
 
 // The operator op is counted.
 fn counted(op: u8, h: Head) -> Head
-    requires { ⌜ Room op h ⌝ }
-    ensures { λ r. ⌜ Counted op h r ⌝ }
+    requires { ⌜ Room-for op h ⌝ }
+    ensures { λ r. ⌜ Operator-counted op h r ⌝ }
 {
     Head {
         at: h.at,
@@ -227,7 +228,7 @@ fn argument_at(s: &[u8], h: Head, op: u8, scope: Scope) -> Taken
 // The scope of the operands of subformula me.
 fn inside(scope: Scope, me: Subformula, op: u8) -> Scope
     requires { ⌜ Inside-ready scope (me .0) op ⌝ }
-    ensures { λ r. ⌜ Inside scope (me .0) op r ⌝ }
+    ensures { λ r. ⌜ Operand-scope scope (me .0) op r ⌝ }
 {
     let e = me.0;
     let depth = scope.depth;
@@ -255,7 +256,7 @@ fn stopped(why: Refusal, h: Head, rows: [u8; 144]) -> Parsed
 
 // Subformula me, read up to h, is written.
 fn finished(h: Head, rows: [u8; 144], me: Subformula, op: u8, operand: u8) -> Parsed
-    requires { ⌜ Behind (me .0) h ⌝ }
+    requires { ⌜ Read-behind (me .0) h ⌝ }
     ensures { λ r. ⌜ Finished h rows (me .0) op operand r ⌝ }
 {
     let length = h.count - me.0;
@@ -283,7 +284,7 @@ fn leaf(s: &[u8], h: Head, rows: [u8; 144], me: Subformula, op: u8, scope: Scope
 
 // Subformula me, an operator whose last operand is p.
 fn complete(p: Parsed, me: Subformula, op: u8) -> Parsed
-    requires { ⌜ (p .outcome ≡ Outcome.Accepted → Behind (me .0) (p .head)) ⌝ }
+    requires { ⌜ (p .outcome ≡ Outcome.Accepted → Read-behind (me .0) (p .head)) ⌝ }
     ensures { λ r. ⌜ Completed p (me .0) op r ⌝ }
 {
     let outcome = p.outcome;
@@ -297,7 +298,7 @@ fn complete(p: Parsed, me: Subformula, op: u8) -> Parsed
 
 // Reads an operator with all its operands.
 fn command(s: &[u8], h: Head, rows: [u8; 144], scope: Scope) -> Parsed
-    requires { ⌜ Ready h scope ⌝ }
+    requires { ⌜ Scope-ready h scope ⌝ }
     ensures { λ r. ⌜ Command (now (s .entry)) h rows scope r ⌝ }
 {
     let opened = opcode_at(s, h);
@@ -338,7 +339,7 @@ fn refused(why: Refusal) -> Reading
 
 // Reads a whole formula that begins at a byte.
 fn read_at(s: &[u8], at: usize) -> Reading
-    ensures { λ r. ⌜ Answered (now (s .entry)) at r ⌝ }
+    ensures { λ r. ⌜ Read-from (now (s .entry)) at r ⌝ }
 {
     let start = Head {
         at: at,
@@ -388,7 +389,7 @@ fn new<'a>(src: &'a [u8]) -> Reader<'a>
 
 // Reads the formula that begins where the reader stands.
 fn read_from<'a>(r: Reader<'a>) -> Reading
-    ensures { λ q. ⌜ Answered (now (r .entry .src)) (r .entry .at) q ⌝ }
+    ensures { λ q. ⌜ Read-from (now (r .entry .src)) (r .entry .at) q ⌝ }
 {
     read_at(r.src, r.at)
 }
@@ -396,7 +397,7 @@ fn read_from<'a>(r: Reader<'a>) -> Reading
 // Reads a whole formula.
 pub fn read(s: &[u8]) -> Reading
     ensures outcome { λ r. ⌜ reading-of r ≡ reading (now (s .entry)) ⌝ }
-    ensures table { λ r. ⌜ Holds (r .outcome) (r .table) ⌝ }
+    ensures table { λ r. ⌜ Table-for (r .outcome) (r .table) ⌝ }
     ensures determined { λ r. ⌜ r ≡ stored (reading (now (s .entry))) ⌝ }
 {
     read_from(new(s))
@@ -533,7 +534,7 @@ pub fn operator_at(rows: &[u8; 144], s: Subformula) -> Operator
 
 // The byte of its opcode.
 pub fn opcode_byte(operator: Operator) -> u8
-    ensures { λ r. ⌜ r ≡ command-of (decoded operator) ⌝ }
+    ensures { λ r. ⌜ r ≡ opcode-byte (decoded operator) ⌝ }
 {
     match operator {
         Operator::Constant(holds) => if holds { TRUE } else { FALSE },

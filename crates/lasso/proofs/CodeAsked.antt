@@ -6,7 +6,7 @@ use mathlib.Core.List.{List, [], _++_, map}
 use Prim.Native.Nat.{ℕ, _+_, _≤_, _<_}
 use native.Mathlib.Omega.{arith}
 use lib.ListN.{length, drop, getD}
-use Rattle.base.specs.Lists.{numbers}
+use Rattle.base.specs.Lists.{range}
 use Rattle.base.proofs.NumberLaws.{values-at}
 use Rattle.base.proofs.AskLaws.{first-refusal, passed}
 use Rattle.formula.specs.Formula.{Formula, size}
@@ -17,25 +17,25 @@ use Rattle.formula.specs.declared.Table.{Table}
 use Rattle.formula.specs.declared.Refusal.{Refusal}
 use Rattle.formula.specs.declared.Outcome.the-variants.{Accepted, Refused as Unaccepted}
 use Rattle.formula.specs.declared.Reading as read
-use Rattle.formula.specs.Stands.{nothing}
+use Rattle.formula.specs.Occurrence.{nothing}
 use Rattle.formula.proofs.Limits.{parse-limited}
 use Rattle.formula.proofs.Guarded.{parse-guarded}
-use Rattle.formula.proofs.WellFormed.{stands-whole}
-use Rattle.formula.proofs.RowLaws.{Held as Read, held-count, reading-held, reading-refused}
+use Rattle.formula.proofs.WellFormed.{occurs-whole}
+use Rattle.formula.proofs.RowLaws.{Holds-formula as Read, held-count, reading-held, reading-refused}
 use Rattle.lasso.specs.Lasso.{Lasso, labelling, meets}
 use Rattle.lasso.specs.Truth.{Truth, asked, after-reading, truth, written}
-use Rattle.lasso.specs.Answer.{answer}
-use Rattle.lasso.specs.Promise.{Written, Held, Answered, Judged}
+use Rattle.lasso.specs.Contract.{answer}
+use Rattle.lasso.specs.Inner.{Formula-in-rows, Formula-at, Truth-found, Judged}
 use Rattle.lasso.specs.declared.Truth as code
-use Rattle.lasso.specs.declared.Truth.the-variants.{Told, Refused, Unread}
+use Rattle.lasso.specs.declared.Truth.the-variants.{Holds, Refused, Unread}
 use Rattle.lasso.proofs.Consistent.{length-labelling}
-use Rattle.lasso.proofs.TruthLaws.{From16, told-of, truth-asked}
+use Rattle.lasso.proofs.TruthLaws.{From16, truth-of, truth-asked}
 
 module _ (rows : List ℕ) (c : Lasso) (w : List ℕ) where
   abbrev n : ℕ
   n = length (c .letters)
 
-  from-16 : (f : Formula) → From16 c (length w) (λ o. o ≡ told-of c f) (asked c (length w) f)
+  from-16 : (f : Formula) → From16 c (length w) (λ o. o ≡ truth-of c f) (asked c (length w) f)
   from-16 f = truth-asked c (length w) f
 
   refused : (k : ℕ) → ((f : Formula) → asked c (length w) f ≡ Truth.refused k) → Judged rows c (Refused k) w w
@@ -50,23 +50,23 @@ module _ (rows : List ℕ) (c : Lasso) (w : List ℕ) where
   pub no-room : c .stem < n → n ≤ 8192 → length w < n → Judged rows c (Refused 18) w w
   no-room h k l = refused 18 (λ f. first-refusal (passed (passed (from-16 f) h) k) (λ q. omega arith))
 
-  all-well : (f : Formula) → c .stem < n → n ≤ 8192 → n ≤ length w → asked c (length w) f ≡ told-of c f
+  all-well : (f : Formula) → c .stem < n → n ≤ 8192 → n ≤ length w → asked c (length w) f ≡ truth-of c f
   all-well f h k l = passed (passed (passed (from-16 f) h) k) l
 
-  pub judged : (b : Bool) (v : List ℕ) → c .stem < n → n ≤ 8192 → n ≤ length w → Answered rows c b w v → Judged rows c (Told b) w v
+  pub judged : (b : Bool) (v : List ℕ) → c .stem < n → n ≤ 8192 → n ≤ length w → Truth-found rows c b w v → Judged rows c (Holds b) w v
   judged b v h k l a = record {
-    answer = λ f t. ap Told (a .truth f t) ∙ sym (ap answer (all-well f h k l));
+    answer = λ f t. ap Holds (a .truth f t) ∙ sym (ap answer (all-well f h k l));
     words = λ f t.
         a .words f t ∙ ap (λ (m : ℕ). labelling c f ++ drop m w) (sym (length-labelling c f))
         ∙ sym (ap (λ (t : Truth). written t w) (all-well f h k l));
   }
 
 -- the rows that reading hands back have the formula at 0
-held-written : (bytes : List ℕ) (t : Table) (h : Read bytes t) → Written (t .rows) 0 [] [] (h .formula)
+held-written : (bytes : List ℕ) (t : Table) (h : Read bytes t) → Formula-in-rows (t .rows) 0 [] [] (h .formula)
 held-written bytes t h =
     let f = h .formula in
     let limits = parse-limited bytes f (h .parsed) in
-    let s = stands-whole (operator-at (t .rows)) (end-at (t .rows)) f
+    let s = occurs-whole (operator-at (t .rows)) (end-at (t .rows)) f
     (λ e l. row (operator-at (t .rows)) nothing e l ∙ ap (λ (x : List Operator). getD x e nothing) (h .operators))
     (λ e l. row (end-at (t .rows)) 0 e l ∙ ap (λ (x : List ℕ). getD x e 0) (h .ends)) (parse-guarded bytes f (h .parsed))
     (limits .signals) in
@@ -80,10 +80,10 @@ held-written bytes t h =
       enclosed = λ d l. absurd (omega arith);
     }
   where
-    row : {A : Type 0} (g : ℕ → A) (d : A) (e : ℕ) → e < size (h .formula) → g e ≡ getD (map g (numbers 0 (t .count))) e d
+    row : {A : Type 0} (g : ℕ → A) (d : A) (e : ℕ) → e < size (h .formula) → g e ≡ getD (map g (range 0 (t .count))) e d
     row g d e l = sym (values-at g 0 (t .count) e d (omega (arith, held-count h)) ∙ ap g {x = 0 + e} {y = e} (omega arith))
 
-pub read-held : (bytes : List ℕ) (r : read.Reading) → reading-of r ≡ reading bytes → r .outcome ≡ Accepted → Held (r .table .rows) 0
+pub read-held : (bytes : List ℕ) (r : read.Reading) → reading-of r ≡ reading bytes → r .outcome ≡ Accepted → Formula-at (r .table .rows) 0
 read-held bytes r q o =
     let h = reading-held bytes r q o in
     record { scope = []; binders = []; subformula = h .formula; written = held-written bytes (r .table) h }

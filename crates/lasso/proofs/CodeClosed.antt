@@ -10,7 +10,7 @@ use native.Mathlib.Decide.{decLt}
 use lib.ListN.{length, getD, length-append, List·getD-append}
 use lib.Seq.{getD-append-add}
 use borrow.Author.Tests.{ltb-false}
-use Rattle.base.specs.Lists.{repeat}
+use Rattle.base.specs.Lists.{iterate}
 use Rattle.base.proofs.NumberLaws.{values-same}
 use Rattle.formula.specs.Formula.{Formula, size}
 use Rattle.formula.specs.Rows.{operator-at, end-at}
@@ -19,7 +19,8 @@ use Rattle.formula.specs.Reading.{Scope}
 use Rattle.formula.proofs.Closed.{Closed}
 use Rattle.formula.proofs.Limits.{size-some}
 use Rattle.formula.proofs.WellFormed.{sits-first}
-use Rattle.lasso.specs.Promise.{Written, Held, outside-of, Alone, Shut, column, columns, Kept, Known, Evaluated, Closing}
+use Rattle.lasso.specs.Inner.{Formula-in-rows, Formula-at, outside-of, Alone, Shut, column, columns, Columns-kept, Closed-known}
+use Rattle.lasso.specs.Inner.{Evaluated, Closed-labelled}
 use Rattle.lasso.proofs.Fixpoint.{body}
 use Rattle.lasso.proofs.CodeWritten.{written-end, written-left, written-right, written-next, written-body, held-some}
 use Rattle.lasso.proofs.CodeColumns.{kept-refl, columns-below, columns-above}
@@ -40,7 +41,7 @@ module _ (rows bs : List ℕ) (e₀ : ℕ) (outer : (d : ℕ) → d < length bs 
           ap (λ (i : ℕ). getD (xs ++ bs) i 0) j ∙ getD-append-add xs bs (d - length xs) 0 in
           absurd (omega (arith, outer (d - length xs) (omega (arith, length-append xs bs))))
 
-  closes : (f : Formula) (e : ℕ) (s : Scope) (xs : List ℕ) → Written rows e s (xs ++ bs) f → Free e (size f) → Closed (length xs) f
+  closes : (f : Formula) (e : ℕ) (s : Scope) (xs : List ℕ) → Formula-in-rows rows e s (xs ++ bs) f → Free e (size f) → Closed (length xs) f
   closes (Formula.leaf l) e s xs h free = tt
   closes (Formula.variable d) e s xs h free =
       near xs d (omega (arith, h .guarded .0, h .scoped))
@@ -56,9 +57,9 @@ module _ (rows bs : List ℕ) (e₀ : ℕ) (outer : (d : ℕ) → d < length bs 
       closes a (e + 1) (false ∷ s) (e ∷ xs) (written-body rows h)
       (λ k l m. free k (omega arith) (omega arith))
 
-repeat-same : (k : ℕ) (f g : Positions → Positions) → ((s : Positions) → f s ≡ g s) → (s : Positions) → repeat k f s ≡ repeat k g s
-repeat-same zero f g h s = refl
-repeat-same (suc k) f g h s = ap (repeat k f) (h s) ∙ repeat-same k f g h (g s)
+iterate-same : (k : ℕ) (f g : Positions → Positions) → ((s : Positions) → f s ≡ g s) → (s : Positions) → iterate k f s ≡ iterate k g s
+iterate-same zero f g h s = refl
+iterate-same (suc k) f g h s = ap (iterate k f) (h s) ∙ iterate-same k f g h (g s)
 
 module _ (c : Lasso) (ρ σ : List Positions) where
   same-holds : (f : Formula) (xs : List Positions) → Closed (length xs) f → holds c f (xs ++ ρ) ≡ holds c f (xs ++ σ)
@@ -69,7 +70,8 @@ module _ (c : Lasso) (ρ σ : List Positions) where
       ∙ ap (combine o (holds c a (xs ++ σ))) (same-holds b xs (h .1))
   same-holds (Formula.next a) xs h = ap (before (c .stem)) (same-holds a xs h)
   same-holds (Formula.fix g a) xs h =
-      repeat-same (length (c .letters)) (body c a (xs ++ ρ)) (body c a (xs ++ σ)) (λ s. same-holds a (s ∷ xs) h) (map (λ _. g) (c .letters))
+      iterate-same (length (c .letters)) (body c a (xs ++ ρ)) (body c a (xs ++ σ)) (λ s. same-holds a (s ∷ xs) h)
+      (map (λ _. g) (c .letters))
 
   cons : {a b : Positions} {s t : List Positions} → a ≡ b → s ≡ t → _≡_ {A = List Positions} (a ∷ s) (b ∷ t)
   cons p q = cc
@@ -87,7 +89,8 @@ module _ (c : Lasso) (ρ σ : List Positions) where
       cons q (same-sets a (holds c (Formula.fix g a) (xs ++ ρ) ∷ xs) h ∙ ap (λ (s : Positions). sets c a (s ∷ (xs ++ σ))) q)
 
 -- the same of a subformula that the rows have: all sets of the fixpoints around it give the same sets
-pub alone-sets : (rows : List ℕ) (c : Lasso) {e : ℕ} → Alone rows e → {s : Scope} {bs : List ℕ} {f : Formula} → Written rows e s bs f
+pub alone-sets : (rows : List ℕ) (c : Lasso) {e : ℕ} → Alone rows e → {s : Scope} {bs : List ℕ} {f : Formula}
+    → Formula-in-rows rows e s bs f
     → (ρ σ : List Positions) → sets c f ρ ≡ sets c f σ
 alone-sets rows c {e} alone {s} {bs} {f} h ρ σ =
     same-sets c ρ σ f []
@@ -96,7 +99,7 @@ alone-sets rows c {e} alone {s} {bs} {f} h ρ σ =
 -- closed subformulas stay labelled where the columns of what stands in them are kept
 pub known-same : (rows : List ℕ) (c : Lasso) (e hi : ℕ) (w v : List ℕ)
     → ((k : ℕ) → Shut rows e k → column (length (c .letters)) v k ≡ column (length (c .letters)) w k)
-    → Known rows c (e + 1) hi w → Known rows c (e + 1) hi v
+    → Closed-known rows c (e + 1) hi w → Closed-known rows c (e + 1) hi v
 known-same rows c e hi w v same known = record {
   shown = λ k l m alone f s bs h.
       let last : end-at rows k ≡ k + size f = written-end rows h in
@@ -106,8 +109,8 @@ known-same rows c e hi w v same known = record {
 }
 
 -- and where all columns from their first on, up to where they end, are
-pub known-kept : (rows : List ℕ) (c : Lasso) (lo hi from to : ℕ) (w v : List ℕ) → Kept (length (c .letters)) from to w v
-    → ((k : ℕ) → lo ≤ k → k < hi → (to ≤ k) ⊎ (end-at rows k ≤ from)) → Known rows c lo hi w → Known rows c lo hi v
+pub known-kept : (rows : List ℕ) (c : Lasso) (lo hi from to : ℕ) (w v : List ℕ) → Columns-kept (length (c .letters)) from to w v
+    → ((k : ℕ) → lo ≤ k → k < hi → (to ≤ k) ⊎ (end-at rows k ≤ from)) → Closed-known rows c lo hi w → Closed-known rows c lo hi v
 known-kept rows c lo hi from to w v kept where-it-is known = record {
   shown = λ k l m alone f s bs h.
       let last : end-at rows k ≡ k + size f = written-end rows h in
@@ -119,27 +122,28 @@ known-kept rows c lo hi from to w v kept where-it-is known = record {
 }
 
 -- those of a part of the numbers, and of two parts
-pub known-part : {rows : List ℕ} {c : Lasso} {lo hi : ℕ} {w : List ℕ} (from to : ℕ) → lo ≤ from → to ≤ hi → Known rows c lo hi w
-    → Known rows c from to w
+pub known-part : {rows : List ℕ} {c : Lasso} {lo hi : ℕ} {w : List ℕ} (from to : ℕ) → lo ≤ from → to ≤ hi → Closed-known rows c lo hi w
+    → Closed-known rows c from to w
 known-part from to p q known = record { shown = λ k l m. known .shown k (omega arith) (omega arith) }
 
-pub known-join : {rows : List ℕ} {c : Lasso} {lo hi : ℕ} {w : List ℕ} (mid : ℕ) → Known rows c lo mid w → Known rows c mid hi w
-    → Known rows c lo hi w
+pub known-join : {rows : List ℕ} {c : Lasso} {lo hi : ℕ} {w : List ℕ} (mid : ℕ) → Closed-known rows c lo mid w
+    → Closed-known rows c mid hi w
+    → Closed-known rows c lo hi w
 known-join {rows} {c} {lo} {hi} {w} mid a b = record { shown = λ k l m. by k l m (decLt k mid) }
   where
-    by : (k : ℕ) → lo ≤ k → k < hi → Dec (k < mid) → Alone rows k → (f : Formula) (s : Scope) (bs : List ℕ) → Written rows k s bs f
+    by : (k : ℕ) → lo ≤ k → k < hi → Dec (k < mid) → Alone rows k → (f : Formula) (s : Scope) (bs : List ℕ) → Formula-in-rows rows k s bs f
         → columns (length (c .letters)) w k (size f) ≡ sets c f []
     by k l m (yes q) = a .shown k l q
     by k l m (no q) = b .shown k (omega arith) m
 
 -- one number more in front, of a subformula that is labelled if it is closed
 pub known-first : {rows : List ℕ} {c : Lasso} {e hi : ℕ} {w : List ℕ}
-    → (Alone rows e → (f : Formula) (s : Scope) (bs : List ℕ) → Written rows e s bs f
+    → (Alone rows e → (f : Formula) (s : Scope) (bs : List ℕ) → Formula-in-rows rows e s bs f
     → columns (length (c .letters)) w e (size f) ≡ sets c f [])
-    → Known rows c (e + 1) hi w → Known rows c e hi w
+    → Closed-known rows c (e + 1) hi w → Closed-known rows c e hi w
 known-first {rows} {c} {e} {hi} {w} own rest = record { shown = λ k l m. by k l m (decLt e k) }
   where
-    by : (k : ℕ) → e ≤ k → k < hi → Dec (e < k) → Alone rows k → (f : Formula) (s : Scope) (bs : List ℕ) → Written rows k s bs f
+    by : (k : ℕ) → e ≤ k → k < hi → Dec (e < k) → Alone rows k → (f : Formula) (s : Scope) (bs : List ℕ) → Formula-in-rows rows k s bs f
         → columns (length (c .letters)) w k (size f) ≡ sets c f []
     by k l m (yes q) = rest .shown k (omega arith) m
     by k l m (no q) = let same : k ≡ e = omega arith in rw same own
@@ -172,14 +176,14 @@ module _ (rows : List ℕ) (c : Lasso) (e : ℕ) (w : List ℕ) where
     }
 
     -- a closed one is then labelled too, and those behind it still are
-    pub closing-done : Held rows e → Alone rows e → Closing rows c e w v
+    pub closing-done : Formula-at rows e → Alone rows e → Closed-labelled rows c e w v
     closing-done held alone = record {
       kept = ev .kept;
       known = λ hi far known.
           let part = known-part (e + 1) (end-at rows e) (omega arith) far known in
           let behind = known-part (end-at rows e) hi (omega (arith, held-some rows e held)) (omega arith) known in
-          let inside : Known rows c (e + 1) (end-at rows e) v = ev .known part in
-          let after : Known rows c (end-at rows e) hi v =
+          let inside : Closed-known rows c (e + 1) (end-at rows e) v = ev .known part in
+          let after : Closed-known rows c (end-at rows e) hi v =
           known-kept rows c (end-at rows e) hi e (end-at rows e) w v (ev .kept) (λ k l m. inl l) behind in
           known-first
           (λ a f s bs h. ev .done part f s bs h .shown ∙ alone-sets rows c alone h (map (column n w) bs) [])
@@ -187,7 +191,7 @@ module _ (rows : List ℕ) (c : Lasso) (e : ℕ) (w : List ℕ) where
     }
 
   -- one that is not closed is left for later
-  pub closing-none : (Alone rows e → ⊥) → Closing rows c e w w
+  pub closing-none : (Alone rows e → ⊥) → Closed-labelled rows c e w w
   closing-none apart = record {
     kept = kept-refl n e (end-at rows e) w;
     known = λ hi far known. known-first (λ alone. absurd (apart alone)) known;

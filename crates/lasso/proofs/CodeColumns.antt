@@ -13,8 +13,8 @@ use Rattle.base.specs.Bits.{bit}
 use Rattle.base.proofs.ListLaws.{getD-map}
 use Rattle.base.proofs.NumberLaws.{values-same}
 use Rattle.lasso.specs.Lasso.{Positions}
-use Rattle.lasso.specs.Promise.{after, Swept, column, columns, Kept}
-use Rattle.lasso.proofs.Monotone.{Sized}
+use Rattle.lasso.specs.Inner.{after, Swept, column, columns, Columns-kept}
+use Rattle.lasso.proofs.Monotone.{Sets-sized}
 use Rattle.lasso.proofs.CodeSweep.{other-bit}
 
 pub after-below : (n stem i : ℕ) → i < n → stem < n → after n stem i < n
@@ -39,15 +39,16 @@ module _ (n : ℕ) where
         (λ i q. let k : i < n = omega (arith, column-length) in column-at i k ∙ f i k)
 
   -- the sets that words have for some subformulas
-  pub columns-sized : (w : List ℕ) → n ≤ length w → (es : List ℕ) → Sized n (map (column n w) es)
+  pub columns-sized : (w : List ℕ) → n ≤ length w → (es : List ℕ) → Sets-sized n (map (column n w) es)
   columns-sized w h [] = tt
   columns-sized w h (e ∷ es) = (column-length e w h, columns-sized w h es)
 
-  pub kept-refl : (lo hi : ℕ) (w : List ℕ) → Kept n lo hi w w
+  pub kept-refl : (lo hi : ℕ) (w : List ℕ) → Columns-kept n lo hi w w
   kept-refl lo hi w = record { long = refl; below = λ k h. refl; above = λ k h. refl; rest = refl }
 
   module _ {lo hi lo₁ hi₁ lo₂ hi₂ : ℕ} {w v x : List ℕ} where
-    pub kept-then : Kept n lo₁ hi₁ w v → Kept n lo₂ hi₂ v x → lo ≤ lo₁ → lo ≤ lo₂ → hi₁ ≤ hi → hi₂ ≤ hi → Kept n lo hi w x
+    pub kept-then : Columns-kept n lo₁ hi₁ w v → Columns-kept n lo₂ hi₂ v x → lo ≤ lo₁ → lo ≤ lo₂ → hi₁ ≤ hi → hi₂ ≤ hi
+        → Columns-kept n lo hi w x
     kept-then p q a b c d = record {
       long = q .long ∙ p .long;
       below = λ k h. q .below k (omega arith) ∙ p .below k (omega arith);
@@ -55,10 +56,10 @@ module _ (n : ℕ) where
       rest = q .rest ∙ p .rest;
     }
 
-  pub kept-both : {lo hi : ℕ} {w v x : List ℕ} → Kept n lo hi w v → Kept n lo hi v x → Kept n lo hi w x
+  pub kept-both : {lo hi : ℕ} {w v x : List ℕ} → Columns-kept n lo hi w v → Columns-kept n lo hi v x → Columns-kept n lo hi w x
   kept-both p q = kept-then p q (omega arith) (omega arith) (omega arith) (omega arith)
 
-  pub kept-wide : {lo hi lo₁ hi₁ : ℕ} {w v : List ℕ} → Kept n lo₁ hi₁ w v → lo ≤ lo₁ → hi₁ ≤ hi → Kept n lo hi w v
+  pub kept-wide : {lo hi lo₁ hi₁ : ℕ} {w v : List ℕ} → Columns-kept n lo₁ hi₁ w v → lo ≤ lo₁ → hi₁ ≤ hi → Columns-kept n lo hi w v
   kept-wide p a b = record {
     long = p .long;
     below = λ k h. p .below k (omega arith);
@@ -66,7 +67,7 @@ module _ (n : ℕ) where
     rest = p .rest;
   }
 
-  module _ {lo hi : ℕ} {w v : List ℕ} (kept : Kept n lo hi w v) where
+  module _ {lo hi : ℕ} {w v : List ℕ} (kept : Columns-kept n lo hi w v) where
     -- the sets of enclosing fixpoints are kept
     pub outer-kept : (bs : List ℕ) → ((d : ℕ) → d < length bs → getD bs d 0 < lo) → map (column n v) bs ≡ map (column n w) bs
     outer-kept [] f = refl
@@ -88,7 +89,7 @@ module _ (n : ℕ) where
         column-is k v (omega arith) (column n w k) (column-length k w words) (λ i l. same i l ∙ sym (column-at k w words i l))
 
     pub kept-bits : (lo hi : ℕ) → ((i : ℕ) → n ≤ i → getD v i 0 ≡ getD w i 0)
-        → ((k : ℕ) → ((lo ≤ k) × (k < hi) → ⊥) → (i : ℕ) → i < n → bit (getD v i 0) k ≡ bit (getD w i 0) k) → Kept n lo hi w v
+        → ((k : ℕ) → ((lo ≤ k) × (k < hi) → ⊥) → (i : ℕ) → i < n → bit (getD v i 0) k ≡ bit (getD w i 0) k) → Columns-kept n lo hi w v
     kept-bits lo hi rest same = record {
       long = long;
       below = λ k l. same-column k (same k (λ q. omega (arith, q .0)));
@@ -99,7 +100,7 @@ module _ (n : ℕ) where
 
   -- a sweep, by columns
   module _ (e : ℕ) (f : ℕ → Bool) (w v : List ℕ) (s : Swept n e f w v) (h : n ≤ length w) where
-    pub swept-kept : Kept n e (e + 1) w v
+    pub swept-kept : Columns-kept n e (e + 1) w v
     swept-kept =
         kept-bits w v h (s .long) e (e + 1) (s .rest)
         (λ k out i l. other-bit (λ k. eqb k e) f w n v s k (ne-eqb k e (λ q. out (omega arith, omega arith))) i)

@@ -18,17 +18,18 @@ use Rattle.formula.specs.Formula.{Formula, size}
 use Rattle.formula.specs.Table.{Operator, table-from}
 use Rattle.formula.specs.Reading.{Scope}
 use Rattle.formula.specs.Rows.{operator-at, end-at}
-use Rattle.formula.specs.Stands.{nothing}
+use Rattle.formula.specs.Occurrence.{nothing}
 use Rattle.formula.proofs.Closed.{Closed, length-table}
 use Rattle.formula.proofs.Guarded.{guarded-closed}
 use Rattle.formula.proofs.Limits.{size-some}
-use Rattle.formula.proofs.WellFormed.{Operands, located, stands-shaped, stands-nested}
+use Rattle.formula.proofs.WellFormed.{Operands, located, occurs-shaped, occurs-nested}
 use Rattle.lasso.specs.Lasso.{Lasso, Positions, holds, sets}
-use Rattle.lasso.specs.Promise.{said, Written, Room, Shut, Open, Movable, column, columns, Known, Filled, Names, Moves}
-use Rattle.lasso.specs.Promise.{Under, Keeps, goal}
-use Rattle.lasso.proofs.Monotone.{Within, within-refl, within-at, monotone-sets}
+use Rattle.lasso.specs.Inner.{said, Formula-in-rows, Words-room, Shut, Open, Movable, column, columns, Closed-known, Bits-filled}
+use Rattle.lasso.specs.Inner.{Names, Moves}
+use Rattle.lasso.specs.Inner.{Under, Sets-kept, goal}
+use Rattle.lasso.proofs.Monotone.{Sets-within, within-refl, within-at, monotone-sets}
 use Rattle.lasso.proofs.Fixpoint.{length-approximant, fixed}
-use Rattle.lasso.proofs.Consistent.{says, true-at, Stands, Around, Right, right-from, length-sets, successor}
+use Rattle.lasso.proofs.Consistent.{says, true-at, Consistent-at, Sets-around, Right, right-from, length-sets, successor}
 use Rattle.lasso.proofs.CodeWritten.{written-end, written-left, written-right, written-next, written-body}
 use Rattle.lasso.proofs.CodeColumns.{column-length, column-at, columns-sized}
 use Rattle.lasso.proofs.CodeClosed.{alone-sets}
@@ -55,55 +56,56 @@ operands-names rows k hi (Operator.fix g l) o h m = omega (arith, o .inside)
 
 -- the sets of enclosing fixpoints, whose numbers are before e, among sets that begin with the columns of these numbers
 outer-around : (ss : List Positions) (column-of : ℕ → Positions) (e : ℕ) → ((k : ℕ) → k < e → getD ss k [] ≡ column-of k)
-    → (bs : List ℕ) → ((d : ℕ) → d < length bs → getD bs d 0 < e) → Around ss bs (map column-of bs)
-outer-around ss column-of e at [] h = Around.none
+    → (bs : List ℕ) → ((d : ℕ) → d < length bs → getD bs d 0 < e) → Sets-around ss bs (map column-of bs)
+outer-around ss column-of e at [] h = Sets-around.none
 outer-around ss column-of e at (b ∷ bs) h =
-    Around.put (at b (h 0 (omega arith))) (outer-around ss column-of e at bs (λ d l. h (suc d) (omega arith)))
+    Sets-around.put (at b (h 0 (omega arith))) (outer-around ss column-of e at bs (λ d l. h (suc d) (omega arith)))
 
 module _ (rows : List ℕ) (c : Lasso) (ss : List Positions) where
   -- a subformula at k, with its sets among ss
-  record Found (k : ℕ) : Type 0 where
+  record Subformula-found (k : ℕ) : Type 0 where
     pub scope : Scope
     pub binders : List ℕ
     pub subformula : Formula
     pub around : List Positions
-    pub written : Written rows k scope binders subformula
-    pub sits : Each (Stands ss) k (sets c subformula around)
+    pub written : Formula-in-rows rows k scope binders subformula
+    pub sits : Each (Consistent-at ss) k (sets c subformula around)
 
   -- at e, or behind it; before a number, or from it on
-  or-behind : (e k : ℕ) → e ≤ k → Found e → (e + 1 ≤ k → Found k) → Found k
+  or-behind : (e k : ℕ) → e ≤ k → Subformula-found e → (e + 1 ≤ k → Subformula-found k) → Subformula-found k
   or-behind e k l here more = by (decLt e k)
     where
-      by : Dec (e < k) → Found k
+      by : Dec (e < k) → Subformula-found k
       by (yes q) = more (omega arith)
       by (no q) = let same : k ≡ e = omega arith in rw same here
 
-  either-side : (mid k : ℕ) → (k < mid → Found k) → (mid ≤ k → Found k) → Found k
+  either-side : (mid k : ℕ) → (k < mid → Subformula-found k) → (mid ≤ k → Subformula-found k) → Subformula-found k
   either-side mid k left right = by (decLt k mid)
     where
-      by : Dec (k < mid) → Found k
+      by : Dec (k < mid) → Subformula-found k
       by (yes q) = left q
       by (no q) = right (omega arith)
 
-  abbrev Inside : Formula → ℕ → Type 0
-  Inside f e = (k : ℕ) → e ≤ k → k < e + size f → Found k
+  abbrev Goal-inside : Formula → ℕ → Type 0
+  Goal-inside f e = (k : ℕ) → e ≤ k → k < e + size f → Subformula-found k
 
-  module _ (e : ℕ) (s : Scope) (bs : List ℕ) (ρ : List Positions) (f : Formula) (h : Written rows e s bs f)
-      (at : Each (Stands ss) e (sets c f ρ)) where
-    first : Found e
+  module _ (e : ℕ) (s : Scope) (bs : List ℕ) (ρ : List Positions) (f : Formula) (h : Formula-in-rows rows e s bs f)
+      (at : Each (Consistent-at ss) e (sets c f ρ)) where
+    first : Subformula-found e
     first = record { scope = s; binders = bs; subformula = f; around = ρ; written = h; sits = at }
 
-  found : (f : Formula) (e : ℕ) (s : Scope) (bs : List ℕ) (ρ : List Positions) → Written rows e s bs f → Each (Stands ss) e (sets c f ρ)
-      → Inside f e
+  found : (f : Formula) (e : ℕ) (s : Scope) (bs : List ℕ) (ρ : List Positions) → Formula-in-rows rows e s bs f
+      → Each (Consistent-at ss) e (sets c f ρ)
+      → Goal-inside f e
   found (Formula.leaf x) e s bs ρ h at k l m = or-behind e k l (first e s bs ρ (Formula.leaf x) h at) (λ q. absurd (omega arith))
   found (Formula.variable d) e s bs ρ h at k l m = or-behind e k l (first e s bs ρ (Formula.variable d) h at) (λ q. absurd (omega arith))
   found (Formula.pair o a b) e s bs ρ h at k l m =
       or-behind e k l (first e s bs ρ (Formula.pair o a b) h at)
       (λ q. either-side (e + 1 + size a) k
       (found a (e + 1) s bs ρ (written-left rows h)
-      (each-left (Stands ss) (e + 1) (sets c a ρ) (sets c b ρ) (at .1)) k q)
+      (each-left (Consistent-at ss) (e + 1) (sets c a ρ) (sets c b ρ) (at .1)) k q)
       (λ r. found b (e + 1 + size a) s bs ρ (written-right rows h)
-      (each-right (Stands ss) (e + 1) (e + 1 + size a) (sets c a ρ) (sets c b ρ) (ap (e + 1 +_) (length-sets c a ρ)) (at .1)) k r
+      (each-right (Consistent-at ss) (e + 1) (e + 1 + size a) (sets c a ρ) (sets c b ρ) (ap (e + 1 +_) (length-sets c a ρ)) (at .1)) k r
       (omega arith)))
   found (Formula.next a) e s bs ρ h at k l m =
       or-behind e k l (first e s bs ρ (Formula.next a) h at)
@@ -113,8 +115,8 @@ module _ (rows : List ℕ) (c : Lasso) (ss : List Positions) where
       (λ q. found a (e + 1) (false ∷ s) (e ∷ bs) (holds c (Formula.fix g a) ρ ∷ ρ) (written-body rows h) (at .1) k q (omega arith))
 
 -- the formula f stands at e, inside fixpoints that have their columns of the words w for sets
-module _ (rows : List ℕ) (c : Lasso) (w : List ℕ) (room : Room (length (c .letters)) (c .stem) (length w)) {e : ℕ} {s : Scope}
-    {bs : List ℕ} {f : Formula} (h : Written rows e s bs f) where
+module _ (rows : List ℕ) (c : Lasso) (w : List ℕ) (room : Words-room (length (c .letters)) (c .stem) (length w)) {e : ℕ} {s : Scope}
+    {bs : List ℕ} {f : Formula} (h : Formula-in-rows rows e s bs f) where
   abbrev n : ℕ
   n = length (c .letters)
 
@@ -138,8 +140,8 @@ module _ (rows : List ℕ) (c : Lasso) (w : List ℕ) (room : Room (length (c .l
   goal-from j =
       ap (λ (m : ℕ). getD ss (m + j) []) (sym (values-length (column n w) 0 e)) ∙ getD-append-add (columns n w 0 e) (sets c f ρ) j []
 
-  goal-sits : Each (Stands ss) e (sets c f ρ)
-  goal-sits = each-of (Stands ss) e (sets c f ρ) [] (λ j l. goal-from j)
+  goal-sits : Each (Consistent-at ss) e (sets c f ρ)
+  goal-sits = each-of (Consistent-at ss) e (sets c f ρ) [] (λ j l. goal-from j)
 
   pub closed : Closed (length ρ) f
   closed =
@@ -149,7 +151,7 @@ module _ (rows : List ℕ) (c : Lasso) (w : List ℕ) (room : Room (length (c .l
   -- each operator keeps the goal
   right-at : (k : ℕ) → e ≤ k → k < hi → Right c ss k (operator-at rows k)
   right-at k l m =
-      let around : Around ss bs ρ = outer-around ss (column n w) e goal-below bs (λ d q. h .enclosed d q .before) in
+      let around : Sets-around ss bs ρ = outer-around ss (column n w) e goal-below bs (λ d q. h .enclosed d q .before) in
       let rights : Each (Right c ss) e (table-from e bs f) =
       right-from c (omega (arith, room .cycle)) ss f e bs ρ closed (columns-sized n w (room .words) bs) around goal-sits in
       let few : k - e < length (table-from e bs f) = omega (arith, length-table e bs f) in
@@ -162,10 +164,10 @@ module _ (rows : List ℕ) (c : Lasso) (w : List ℕ) (room : Room (length (c .l
   names-at k l m =
       let last : end-at rows e ≡ hi = written-end rows h in
       let x = located (operator-at rows) (end-at rows) 48 h k l (omega arith) in
-      operands-names rows k hi (operator-at rows k) (stands-shaped (operator-at rows) (end-at rows) 48 (x .stands) .operands) m
-      (omega (arith, stands-nested (operator-at rows) (end-at rows) 48 h k l (omega arith)))
+      operands-names rows k hi (operator-at rows k) (occurs-shaped (operator-at rows) (end-at rows) 48 (x .stands) .operands) m
+      (omega (arith, occurs-nested (operator-at rows) (end-at rows) 48 h k l (omega arith)))
 
-  pub goal-keeps : (list : List ℕ) (count : ℕ) → Movable rows e list count → Keeps rows c list count hi ss
+  pub goal-keeps : (list : List ℕ) (count : ℕ) → Movable rows e list count → Sets-kept rows c list count hi ss
   goal-keeps list count m =
       let last : end-at rows e ≡ hi = written-end rows h in
       record {
@@ -176,7 +178,7 @@ module _ (rows : List ℕ) (c : Lasso) (w : List ℕ) (room : Room (length (c .l
       }
 
   -- where a closed subformula inside e is labelled, its columns are the goal's
-  closed-column : Known rows c (e + 1) (end-at rows e) w → (k : ℕ) → Shut rows e k → k < hi → getD ss k [] ≡ column n w k
+  closed-column : Closed-known rows c (e + 1) (end-at rows e) w → (k : ℕ) → Shut rows e k → k < hi → getD ss k [] ≡ column n w k
   closed-column known k shut l =
       let m = shut .number in
       let last : end-at rows e ≡ hi = written-end rows h in
@@ -189,7 +191,7 @@ module _ (rows : List ℕ) (c : Lasso) (w : List ℕ) (room : Room (length (c .l
       ∙ alone-sets rows c (shut .alone) (x .written) [] (x .around) in
       let at : k ≡ m + (k - m) = omega (arith, shut .before) in
       ap (λ (j : ℕ). getD ss j []) at
-      ∙ each-at (Stands ss) m (sets c g (x .around)) [] (x .sits) (k - m) (omega (arith, length-sets c g (x .around)))
+      ∙ each-at (Consistent-at ss) m (sets c g (x .around)) [] (x .sits) (k - m) (omega (arith, length-sets c g (x .around)))
       ∙ ap (λ (l : List Positions). getD l (k - m) []) (sym shown)
       ∙ values-at (column n w) m (size g) (k - m) [] few
       ∙ ap (column n w) (sym at)
@@ -202,7 +204,8 @@ module _ (rows : List ℕ) (c : Lasso) (w : List ℕ) (room : Room (length (c .l
       (sym (column-at n k v long i l) ∙ ap (λ (x : Positions). getD x i false) q)
 
   -- the start: every column that the rounds move has g at each position
-  pub goal-start : (g : Bool) (mask : ℕ) (v : List ℕ) → Open rows e mask → Filled n mask g w v → Known rows c (e + 1) (end-at rows e) w
+  pub goal-start : (g : Bool) (mask : ℕ) (v : List ℕ) → Open rows e mask → Bits-filled n mask g w v
+      → Closed-known rows c (e + 1) (end-at rows e) w
       → Under n g ss hi v
   goal-start g mask v o filled known = record { at = λ k l i m. by k l i m (bit mask k) refl }
     where
@@ -223,12 +226,12 @@ module _ (rows : List ℕ) (c : Lasso) (w : List ℕ) (room : Room (length (c .l
 -- the sets of a body move with the fixpoint's
 sets-move : (c : Lasso) (g : Bool) (a : Formula) (ρ : List Positions) (s t : Positions) → Toward g s t → (j i : ℕ)
     → Moves g (getD (getD (sets c a (s ∷ ρ)) j []) i false) (getD (getD (sets c a (t ∷ ρ)) j []) i false)
-sets-move c false a ρ s t h j i = inside-at (within-at (monotone-sets c a (Within.put h (within-refl ρ))) j) i
-sets-move c true a ρ s t h j i = inside-at (within-at (monotone-sets c a (Within.put h (within-refl ρ))) j) i
+sets-move c false a ρ s t h j i = inside-at (within-at (monotone-sets c a (Sets-within.put h (within-refl ρ))) j) i
+sets-move c true a ρ s t h j i = inside-at (within-at (monotone-sets c a (Sets-within.put h (within-refl ρ))) j) i
 
 -- the same of a fixpoint
-module _ (rows : List ℕ) (c : Lasso) (w : List ℕ) (room : Room (length (c .letters)) (c .stem) (length w)) {g : Bool} {e : ℕ}
-    {s : Scope} {bs : List ℕ} {a : Formula} (h : Written rows e s bs (Formula.fix g a)) where
+module _ (rows : List ℕ) (c : Lasso) (w : List ℕ) (room : Words-room (length (c .letters)) (c .stem) (length w)) {g : Bool} {e : ℕ}
+    {s : Scope} {bs : List ℕ} {a : Formula} (h : Formula-in-rows rows e s bs (Formula.fix g a)) where
   abbrev n₁ : ℕ
   n₁ = length (c .letters)
 

@@ -18,8 +18,9 @@ use Rattle.formula.specs.Rows.{operator-at, end-at}
 use Rattle.formula.proofs.Limits.{size-some}
 use Rattle.formula.proofs.WellFormed.{sits-first}
 use Rattle.lasso.specs.Lasso.{Lasso, Positions, leaf-at, joined, before, holds, inner, sets}
-use Rattle.lasso.specs.Promise.{after, local-at, Swept, Written, Held, Room, column, columns, Kept, Labelled, Known}
-use Rattle.lasso.specs.Promise.{Evaluated}
+use Rattle.lasso.specs.Inner.{after, local-at, Swept, Formula-in-rows, Formula-at, Words-room, column, columns, Columns-kept}
+use Rattle.lasso.specs.Inner.{Labelled, Closed-known}
+use Rattle.lasso.specs.Inner.{Evaluated}
 use Rattle.lasso.proofs.Monotone.{length-combine, length-before}
 use Rattle.lasso.proofs.Consistent.{getD-combine, getD-before}
 use Rattle.lasso.proofs.CodeOperators.{Among, by-leaf}
@@ -46,12 +47,12 @@ module _ (c : Lasso) where
     abbrev ρ : List Positions
     ρ = map (column n w) bs
 
-    swept-labelled : (f : Formula) (op : Operator) (k : ℕ) (y v : List ℕ) → size f ≡ 1 + k → Kept n e (e + size f) w y
+    swept-labelled : (f : Formula) (op : Operator) (k : ℕ) (y v : List ℕ) → size f ≡ 1 + k → Columns-kept n e (e + size f) w y
         → columns n y (e + 1) k ≡ inner c f ρ → Swept n e (local-at c op y) y v → length (holds c f ρ) ≡ n
         → ((i : ℕ) → i < n → local-at c op y i ≡ getD (holds c f ρ) i false) → Labelled c f e bs w v
     swept-labelled f op k y v more kept shown t all is =
         let longer : n ≤ length y = omega (arith, kept .long) in
-        let own : Kept n e (e + 1) y v = swept-kept n e (local-at c op y) y v t longer in
+        let own : Columns-kept n e (e + 1) y v = swept-kept n e (local-at c op y) y v t longer in
         record {
           shown = ap (columns n v e) more
               ∙ values-cons (column n v) e k (holds c f ρ) (inner c f ρ) (swept-is n e (local-at c op y) y v t longer (holds c f ρ) all is)
@@ -116,14 +117,15 @@ module _ (c : Lasso) where
         ∙ sym (getD-combine o (holds c a ρ) (holds c b ρ) both i))
 
 -- whatever formula the rows have at e, by its operator
-module _ (rows : List ℕ) (c : Lasso) (e : ℕ) (w : List ℕ) (room : Room (length (c .letters)) (c .stem) (length w)) (held : Held rows e)
+module _ (rows : List ℕ) (c : Lasso) (e : ℕ) (w : List ℕ) (room : Words-room (length (c .letters)) (c .stem) (length w))
+    (held : Formula-at rows e)
   where
     abbrev m : ℕ
     m = length (c .letters)
 
     -- closed subformulas inside e stay labelled where an operand k of it is labelled
     pub operand-known : (k : ℕ) (x y : List ℕ) → e < k → k < end-at rows e → ((j : ℕ) → e + 1 ≤ j → j < k → end-at rows j ≤ k)
-        → Evaluated rows c k k x y → Known rows c (e + 1) (end-at rows e) x → Known rows c (e + 1) (end-at rows e) y
+        → Evaluated rows c k k x y → Closed-known rows c (e + 1) (end-at rows e) x → Closed-known rows c (e + 1) (end-at rows e) y
     operand-known k x y behind inside earlier ev known =
         let far : end-at rows k ≤ end-at rows e = nested rows e held k (omega arith) inside in
         let some : k < end-at rows k = held-some rows k (held-inside rows e held k (omega arith) inside) in
@@ -135,13 +137,14 @@ module _ (rows : List ℕ) (c : Lasso) (e : ℕ) (w : List ℕ) (room : Room (le
         (known-part (end-at rows k) (end-at rows e) (omega arith) (omega arith) known)))
 
     -- and where e's own column is
-    pub own-known : (f : ℕ → Bool) (x y : List ℕ) → m ≤ length x → Swept m e f x y → Known rows c (e + 1) (end-at rows e) x
-        → Known rows c (e + 1) (end-at rows e) y
+    pub own-known : (f : ℕ → Bool) (x y : List ℕ) → m ≤ length x → Swept m e f x y → Closed-known rows c (e + 1) (end-at rows e) x
+        → Closed-known rows c (e + 1) (end-at rows e) y
     own-known f x y long t known =
         known-kept rows c (e + 1) (end-at rows e) e (e + 1) x y (swept-kept m e f x y t long) (λ j l h. inl l) known
 
     -- the operands are labelled, and then e by a sweep that makes the words y into v: what its operator asks of each formula is left
-    module _ (y v : List ℕ) (kept : Kept m (e + 1) (end-at rows e) w y) (t : Swept m e (local-at c (operator-at rows e) y) y v) where
+    module _ (y v : List ℕ) (kept : Columns-kept m (e + 1) (end-at rows e) w y)
+        (t : Swept m e (local-at c (operator-at rows e) y) y v) where
       long : m ≤ length y
       long = omega (arith, room .words, kept .long)
 
@@ -150,9 +153,9 @@ module _ (rows : List ℕ) (c : Lasso) (e : ℕ) (w : List ℕ) (room : Room (le
       swept-by op q = subst (λ (o : Operator). Swept m e (local-at c o y) y v) q t
 
       swept-evaluated : (op : Operator) → operator-at rows e ≡ op
-          → (Known rows c (e + 1) (end-at rows e) w → Known rows c (e + 1) (end-at rows e) y)
-          → (Known rows c (e + 1) (end-at rows e) w → (s : Scope) (bs : List ℕ)
-          → Cases (λ (f : Formula). Written rows e s bs f → Labelled c f e bs w v) op)
+          → (Closed-known rows c (e + 1) (end-at rows e) w → Closed-known rows c (e + 1) (end-at rows e) y)
+          → (Closed-known rows c (e + 1) (end-at rows e) w → (s : Scope) (bs : List ℕ)
+          → Cases (λ (f : Formula). Formula-in-rows rows e s bs f → Labelled c f e bs w v) op)
           → Evaluated rows c (e + 1) e w v
       swept-evaluated op q known done = record {
         kept = kept-then m kept (swept-kept m e (local-at c (operator-at rows e) y) y v t long) (omega arith) (omega arith) (omega arith)
@@ -162,7 +165,7 @@ module _ (rows : List ℕ) (c : Lasso) (e : ℕ) (w : List ℕ) (room : Room (le
       }
 
     module _ (v : List ℕ) (t : Swept m e (local-at c (operator-at rows e) w) w v) where
-      unmoved : Kept m (e + 1) (end-at rows e) w w
+      unmoved : Columns-kept m (e + 1) (end-at rows e) w w
       unmoved = kept-refl m (e + 1) (end-at rows e) w
 
       leaf-evaluated : (l : Atom) → operator-at rows e ≡ Operator.leaf l → Evaluated rows c (e + 1) e w v
@@ -186,7 +189,7 @@ module _ (rows : List ℕ) (c : Lasso) (e : ℕ) (w : List ℕ) (room : Room (le
     next-evaluated l q y v ev t =
         let p = next-operand rows e held q in
         let far : end-at rows l ≤ end-at rows e = nested rows e held l (omega (arith, p .first)) (p .inside) in
-        let kept : Kept m (e + 1) (end-at rows e) w y = kept-wide m (ev .kept) (omega (arith, p .first)) far in
+        let kept : Columns-kept m (e + 1) (end-at rows e) w y = kept-wide m (ev .kept) (omega (arith, p .first)) far in
         swept-evaluated y v kept t (Operator.next l) q
         (operand-known l w y (omega (arith, p .first)) (p .inside) (λ j l h. absurd (omega (arith, p .first))) ev)
         (λ known s bs a h.
@@ -201,11 +204,11 @@ module _ (rows : List ℕ) (c : Lasso) (e : ℕ) (w : List ℕ) (room : Room (le
       earlier : (j : ℕ) → e + 1 ≤ j → j < r → end-at rows j ≤ r
       earlier j k h =
           let p = pair-operands rows e held q in
-          let first : Held rows l = held-inside rows e held l (omega (arith, p .first)) (omega (arith, p .order, p .inside)) in
+          let first : Formula-at rows l = held-inside rows e held l (omega (arith, p .first)) (omega (arith, p .order, p .inside)) in
           omega (arith, nested rows l first j (omega (arith, p .first)) (omega (arith, p .second)), p .second)
 
       -- the second operand's number
-      right-is : {s : Scope} {bs : List ℕ} (a b : Formula) → Written rows e s bs (Formula.pair o a b) → r ≡ e + 1 + size a
+      right-is : {s : Scope} {bs : List ℕ} (a b : Formula) → Formula-in-rows rows e s bs (Formula.pair o a b) → r ≡ e + 1 + size a
       right-is a b h =
           let same : Operator.pair o l r ≡ Operator.pair o (e + 1) (e + 1 + size a) = sym q ∙ sits-first (h .operators) in
           cc
@@ -217,9 +220,9 @@ module _ (rows : List ℕ) (c : Lasso) (e : ℕ) (w : List ℕ) (room : Room (le
           let inside : l < end-at rows e = omega (arith, p .order, p .inside) in
           let near : end-at rows l ≤ end-at rows e = nested rows e held l (omega (arith, p .first)) inside in
           let far : end-at rows r ≤ end-at rows e = omega (arith, p .last) in
-          let kept : Kept m (e + 1) (end-at rows e) w y =
+          let kept : Columns-kept m (e + 1) (end-at rows e) w y =
           kept-then m (ea .kept) (eb .kept) (omega (arith, p .first)) (omega (arith, p .first, p .order)) near far in
-          let once : Known rows c (e + 1) (end-at rows e) w → Known rows c (e + 1) (end-at rows e) x =
+          let once : Closed-known rows c (e + 1) (end-at rows e) w → Closed-known rows c (e + 1) (end-at rows e) x =
           operand-known l w x (omega (arith, p .first)) inside (λ j k h. absurd (omega (arith, p .first))) ea in
           swept-evaluated y v kept t (Operator.pair o l r) q
           (λ known. operand-known r x y (omega (arith, p .first, p .order)) (p .inside) earlier eb (once known))

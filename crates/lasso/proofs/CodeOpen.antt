@@ -14,15 +14,15 @@ use Rattle.base.specs.Bits.{bit}
 use Rattle.base.proofs.BitLaws.{bit-same, bit-other, set-on}
 use Rattle.formula.specs.Rows.{end-at}
 use Rattle.lasso.proofs.CodeWritten.{held-some, held-placed, held-inside, nested}
-use Rattle.lasso.specs.Promise.{Held, Alone, Shut, Open, Listed, Few, Movable}
+use Rattle.lasso.specs.Inner.{Formula-at, Alone, Shut, Open, Bits-listed, Few, Movable}
 
 -- a subformula inside e ends behind its own number
-pub inside-some : (rows : List ℕ) (e : ℕ) → Held rows e → (k : ℕ) → e ≤ k → k < end-at rows e → k < end-at rows k
+pub inside-some : (rows : List ℕ) (e : ℕ) → Formula-at rows e → (k : ℕ) → e ≤ k → k < end-at rows e → k < end-at rows k
 inside-some rows e h k l m = held-some rows k (held-inside rows e h k l m)
 
 module _ (rows : List ℕ) (e : ℕ) where
   -- the numbers before k are gone through
-  pub record Opening (k mask : ℕ) : Type 0 where
+  pub record Opens (k mask : ℕ) : Type 0 where
     pub behind : e < k
     pub few : k ≤ end-at rows e
     pub inside : (j : ℕ) → bit mask j ≡ true → (e ≤ j) × (j < k)
@@ -30,7 +30,7 @@ module _ (rows : List ℕ) (e : ℕ) where
     pub others : (j : ℕ) → e ≤ j → j < k → bit mask j ≡ false → Shut rows e j
     pub ended : (j : ℕ) → e < j → j < k → Alone rows j → end-at rows j ≤ k
 
-  pub opening-first : (mask : ℕ) → Held rows e → mask ≡ 2 ^ e → Opening (e + 1) mask
+  pub opening-first : (mask : ℕ) → Formula-at rows e → mask ≡ 2 ^ e → Opens (e + 1) mask
   opening-first mask held is = rw is (record {
     behind = omega arith;
     few = omega (arith, held-some rows e held);
@@ -48,12 +48,12 @@ module _ (rows : List ℕ) (e : ℕ) where
           by true r = let same : j ≡ e = eqb-true j e r in rw same p
           by false r = absurd (true≢false (sym q ∙ bit-other e j (eqb-false j e r)))
 
-  module _ (k mask : ℕ) (held : Held rows e) (so-far : Opening k mask) (more : k < end-at rows e) where
-    here : Held rows k
+  module _ (k mask : ℕ) (held : Formula-at rows e) (so-far : Opens k mask) (more : k < end-at rows e) where
+    here : Formula-at rows k
     here = held-inside rows e held k (omega (arith, so-far .behind)) more
 
     -- a closed subformula is passed over
-    pub opening-past : Alone rows k → (m : ℕ) → m ≡ end-at rows k → Opening m mask
+    pub opening-past : Alone rows k → (m : ℕ) → m ≡ end-at rows k → Opens m mask
     opening-past alone m is = record {
       behind = omega (arith, so-far .behind, held-some rows k here);
       few = omega (arith, nested rows e held k (omega (arith, so-far .behind)) more);
@@ -72,7 +72,7 @@ module _ (rows : List ℕ) (e : ℕ) where
         past j l h a (no p) = omega (arith, nested rows k here j (omega arith) (omega arith))
 
     -- any other is taken
-    pub opening-more : (Alone rows k → ⊥) → (p : ℕ) → p ≡ 2 ^ k → Opening (k + 1) (bitOr mask p)
+    pub opening-more : (Alone rows k → ⊥) → (p : ℕ) → p ≡ 2 ^ k → Opens (k + 1) (bitOr mask p)
     opening-more free p is = rw is (record {
       behind = omega (arith, so-far .behind);
       few = omega arith;
@@ -120,7 +120,7 @@ module _ (rows : List ℕ) (e : ℕ) where
             let same : j ≡ k = omega arith in
             absurd (free (rw same at a))
 
-  pub opening-end : (k mask : ℕ) → end-at rows e ≤ k → Opening k mask → Open rows e mask
+  pub opening-end : (k mask : ℕ) → end-at rows e ≤ k → Opens k mask → Open rows e mask
   opening-end k mask last so-far = record {
     inside = λ j q. let r = so-far .inside j q in (r .0, omega (arith, r .1, so-far .few));
     apart = so-far .apart;
@@ -128,14 +128,14 @@ module _ (rows : List ℕ) (e : ℕ) where
   }
 
   -- a list of such numbers
-  pub movable : (mask : ℕ) (list : List ℕ) (count : ℕ) → Open rows e mask → Listed mask list count → Movable rows e list count
+  pub movable : (mask : ℕ) (list : List ℕ) (count : ℕ) → Open rows e mask → Bits-listed mask list count → Movable rows e list count
   movable mask list count o listed = record {
     counted = listed .counted;
     inside = λ j l. o .inside _ (listed .all j l);
     apart = λ j l. o .apart _ (listed .all j l);
   }
 
-  pub movable-few : (list : List ℕ) (count : ℕ) → Held rows e → Movable rows e list count → Few rows list count
+  pub movable-few : (list : List ℕ) (count : ℕ) → Formula-at rows e → Movable rows e list count → Few rows list count
   movable-few list count held m = record {
     counted = m .counted;
     placed = λ j l.

@@ -11,7 +11,7 @@ use Rattle.formula.specs.Access.{decoded}
 use Rattle.formula.specs.declared.Operator.{Operator}
 use Rattle.formula.specs.declared.Operator.the-variants.{Constant, Signal, Variable, Pair, Next, Fixpoint}
 use Rattle.formula.proofs.Operator.{the-type}
-use Rattle.lasso.specs.Promise.{outside-of}
+use Rattle.lasso.specs.Inner.{outside-of}
 
 -- one of some variants, by their numbers: a constant 0, a signal 1, a variable 2, a pair 3, a next 4, a fixpoint 5
 abbrev pub Among : List ℕ → Operator → Type 0

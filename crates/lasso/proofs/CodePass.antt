@@ -16,7 +16,7 @@ use Rattle.base.proofs.BitLaws.{bit-or, bit-xor, changed}
 use Rattle.formula.specs.Table.{Operator}
 use Rattle.formula.specs.Rows.{operator-at}
 use Rattle.lasso.specs.Lasso.{Lasso, leaf-at, joined}
-use Rattle.lasso.specs.Promise.{after, said, local, Names, Moves, Turned, Passed}
+use Rattle.lasso.specs.Inner.{after, said, local, Names, Moves, Turned, Pass-made}
 use Rattle.lasso.proofs.CodeSweep.{by-word}
 use Rattle.lasso.proofs.CodeColumns.{after-below}
 use Rattle.lasso.proofs.Moves.{moves-refl, moves-trans, moves-joined, moves-on, moves-both}
@@ -75,7 +75,7 @@ module _ (rows : List ℕ) (c : Lasso) (list : List ℕ) (count : ℕ) (g : Bool
   abbrev n : ℕ
   n = length (c .letters)
 
-  pub passed-none : Passed rows c list count g w w
+  pub passed-none : Pass-made rows c list count g w w
   passed-none = record {
     long = refl;
     rest = λ i h. refl;
@@ -84,7 +84,8 @@ module _ (rows : List ℕ) (c : Lasso) (list : List ℕ) (count : ℕ) (g : Bool
     within = λ hi ss keep h. h;
   }
 
-  pub passed-then : (v x : List ℕ) → Passed rows c list count g w v → Passed rows c list count g v x → Passed rows c list count g w x
+  pub passed-then : (v x : List ℕ) → Pass-made rows c list count g w v → Pass-made rows c list count g v x
+      → Pass-made rows c list count g w x
   passed-then v x p q = record {
     long = q .long ∙ p .long;
     rest = λ i h. q .rest i h ∙ p .rest i h;
@@ -94,8 +95,9 @@ module _ (rows : List ℕ) (c : Lasso) (list : List ℕ) (count : ℕ) (g : Bool
     within = λ hi ss keep h. q .within hi ss keep (p .within hi ss keep h);
   }
 
-  pub passed-more : (v : List ℕ) (i j x : ℕ) → c .stem < n → n ≤ length w → Passed rows c list count g w v → i < n → j ≡ after n (c .stem) i
-      → Turned rows list count (getD (c .letters) i 0) (getD v j 0) g (getD v i 0) x → Passed rows c list count g w (set v i x)
+  pub passed-more : (v : List ℕ) (i j x : ℕ) → c .stem < n → n ≤ length w → Pass-made rows c list count g w v → i < n
+      → j ≡ after n (c .stem) i
+      → Turned rows list count (getD (c .letters) i 0) (getD v j 0) g (getD v i 0) x → Pass-made rows c list count g w (set v i x)
   passed-more v i j x cycle long p l at t =
       let fits : i < length v = omega (arith, p .long) in
       record {

@@ -8,9 +8,9 @@ use Prim.Native.Nat.{ℕ, suc, _+_, _-_, _≤_, _<_}
 use native.Mathlib.Omega.{arith}
 use lib.ListN.{length, getD, length-map}
 use Rattle.base.specs.Bits.{bit}
-use Rattle.base.specs.Lists.{repeat}
+use Rattle.base.specs.Lists.{iterate}
 use Rattle.base.specs.Sets.{Toward}
-use Rattle.base.proofs.ListLaws.{getD-map, repeat-stays}
+use Rattle.base.proofs.ListLaws.{getD-map, iterate-stays}
 use Rattle.base.proofs.NumberLaws.{values-cons}
 use Rattle.base.proofs.Inside.{toward-trans, toward-both}
 use Rattle.formula.specs.Formula.{Formula, size}
@@ -19,9 +19,11 @@ use Rattle.formula.specs.Reading.{Scope}
 use Rattle.formula.specs.Rows.{operator-at, end-at}
 use Rattle.formula.proofs.WellFormed.{sits-first}
 use Rattle.lasso.specs.Lasso.{Lasso, Positions, holds, sets}
-use Rattle.lasso.specs.Promise.{local-at, Swept, Written, Held, Room, Fixes, Shut, Open, Listed, Movable, column}
-use Rattle.lasso.specs.Promise.{columns, Kept, Labelled, Known, Filled, Moves, Under, Passed, goal, Going, Begun, Evaluated}
-use Rattle.lasso.specs.Promise.{Outcome, Rounded}
+use Rattle.lasso.specs.Inner.{local-at, Swept, Formula-in-rows, Formula-at, Words-room, Fixes, Shut, Open, Bits-listed, Movable}
+use Rattle.lasso.specs.Inner.{column}
+use Rattle.lasso.specs.Inner.{columns, Columns-kept, Labelled, Closed-known, Bits-filled, Moves, Under, Pass-made, goal, Going, Begun}
+use Rattle.lasso.specs.Inner.{Evaluated}
+use Rattle.lasso.specs.Inner.{Outcome, Rounded}
 use Rattle.lasso.proofs.Fixpoint.{body, rounds-mono}
 use Rattle.lasso.proofs.CodeWritten.{written-end, written-body, by-operator, held-some, nested, fix-operand}
 use Rattle.lasso.proofs.CodeColumns.{column-length, column-at, column-is, columns-sized, kept-refl, kept-wide, kept-then, kept-both}
@@ -44,8 +46,8 @@ module _ (rows : List ℕ) (c : Lasso) (g : Bool) (e : ℕ) where
 
   -- a pass over columns that e's rounds move
   module _ (list : List ℕ) (count : ℕ) (w v : List ℕ) (words : n ≤ length w) (m : Movable rows e list count)
-      (p : Passed rows c list count g w v) where
-    pub passed-kept : Kept n e (end-at rows e) w v
+      (p : Pass-made rows c list count g w v) where
+    pub passed-kept : Columns-kept n e (end-at rows e) w v
     passed-kept =
         kept-bits n w v words (p .long) e (end-at rows e) (p .rest)
         (λ k out i l. p .kept i k (λ j q same. out (rw same (m .inside j q))))
@@ -65,18 +67,18 @@ module _ (rows : List ℕ) (c : Lasso) (g : Bool) (e : ℕ) where
         (subst (Moves g (bit (getD w i 0) k)) (sym (column-at n k v longer i few)) (p .onward i k)))
 
   -- the columns of a mask are made the start
-  module _ (mask : ℕ) (w v : List ℕ) (words : n ≤ length w) (o : Open rows e mask) (f : Filled n mask g w v) where
+  module _ (mask : ℕ) (w v : List ℕ) (words : n ≤ length w) (o : Open rows e mask) (f : Bits-filled n mask g w v) where
     filled-out : (k : ℕ) → (bit mask k ≡ true → ⊥) → (i : ℕ) → i < n → bit (getD v i 0) k ≡ bit (getD w i 0) k
     filled-out k out i l = other-bit (λ k. bit mask k) (λ _. g) w n v f k (else-false (bit mask k) out) i
 
-    filled-kept : Kept n e (end-at rows e) w v
+    filled-kept : Columns-kept n e (end-at rows e) w v
     filled-kept =
         kept-bits n w v words (f .long) e (end-at rows e) (f .rest) (λ k out. filled-out k (λ q. out (o .inside k q)))
 
     filled-shut : (k : ℕ) → Shut rows e k → column n v k ≡ column n w k
     filled-shut k shut = same-column n w v words (f .long) k (filled-out k (λ q. o .apart k q shut))
 
-    filled-start : Held rows e → column n v e ≡ map (λ _. g) (c .letters)
+    filled-start : Formula-at rows e → column n v e ≡ map (λ _. g) (c .letters)
     filled-start held =
         column-is n e v (omega (arith, f .long)) (map (λ _. g) (c .letters)) (length-map (c .letters) (λ _. g))
         (λ i l.
@@ -92,14 +94,15 @@ module _ (rows : List ℕ) (c : Lasso) (g : Bool) (e : ℕ) where
             absurd (omega (arith, s .behind, s .before))
 
   -- from both, the rounds are begun
-  pub begun : (mask : ℕ) (list : List ℕ) (count : ℕ) (w x v : List ℕ) → Room n (c .stem) (length w) → Held rows e → Open rows e mask
-      → Listed mask list count → Filled n mask g w x → Passed rows c list count g x v → Begun rows c g e list count w v
+  pub begun : (mask : ℕ) (list : List ℕ) (count : ℕ) (w x v : List ℕ) → Words-room n (c .stem) (length w) → Formula-at rows e
+      → Open rows e mask
+      → Bits-listed mask list count → Bits-filled n mask g w x → Pass-made rows c list count g x v → Begun rows c g e list count w v
   begun mask list count w x v room held o l f p =
       let m : Movable rows e list count = movable rows e mask list count o l in
       let longer : n ≤ length x = omega (arith, f .long, room .words) in
       let kx = filled-kept mask w x (room .words) o f in
       let kv = passed-kept list count x v longer m p in
-      let kept : Kept n e (end-at rows e) w v = kept-both n kx kv in
+      let kept : Columns-kept n e (end-at rows e) w v = kept-both n kx kv in
       record {
         movable = m;
         kept = kept;
@@ -109,12 +112,12 @@ module _ (rows : List ℕ) (c : Lasso) (g : Bool) (e : ℕ) where
             let last : end-at rows e ≡ e + size F = written-end rows h in
             let start : column n x e ≡ map (λ _. g) (c .letters) = filled-start mask w x (room .words) o f held in
             record {
-              kept = subst (λ (k : ℕ). Kept n e k w v) last kept;
+              kept = subst (λ (k : ℕ). Columns-kept n e k w v) last kept;
               known = known-same rows c e (end-at rows e) x v (passed-shut list count x v longer m p)
                   (known-same rows c e (end-at rows e) w x (filled-shut mask w x (room .words) o f) known);
               under = p .within (e + size F) (goal c w e bs F) (goal-keeps rows c w room h list count m)
                   (goal-start rows c w room h g mask x o f known);
-              reaches = subst (λ (t : Positions). Toward g (repeat n (body c a outer) t) (repeat n (body c a outer) (column n v e))) start
+              reaches = subst (λ (t : Positions). Toward g (iterate n (body c a outer) t) (iterate n (body c a outer) (column n v e))) start
                   (rounds-mono c (omega (arith, room .cycle)) a outer (closed rows c w room h) (columns-sized n w (room .words) bs) g n
                   (column n x e) (column n v e) (passed-onward list count x v longer m p e));
             };
@@ -156,21 +159,21 @@ module _ (rows : List ℕ) (c : Lasso) (g : Bool) (e : ℕ) where
   }
 
   -- The body is labelled in a round: the words w become x.
-  module _ (held : Held rows e) (is : Fixes rows g e) (w x : List ℕ) (room : Room n (c .stem) (length w))
+  module _ (held : Formula-at rows e) (is : Fixes rows g e) (w x : List ℕ) (room : Words-room n (c .stem) (length w))
       (ev : Evaluated rows c (e + 1) (e + 1) w x) where
     inside : e + 1 < end-at rows e
     inside = let p = fix-operand rows e held is in omega (arith, p .first, p .inside)
 
-    body-kept : Kept n (e + 1) (end-at rows e) w x
+    body-kept : Columns-kept n (e + 1) (end-at rows e) w x
     body-kept = kept-wide n (ev .kept) (omega arith) (nested rows e held (e + 1) (omega arith) inside)
 
-    body-known : Known rows c (e + 1) (end-at rows e) w → Known rows c (e + 1) (end-at rows e) x
+    body-known : Closed-known rows c (e + 1) (end-at rows e) w → Closed-known rows c (e + 1) (end-at rows e) x
     body-known = operand-known rows c e w room held (e + 1) w x (omega arith) inside (λ j l h. absurd (omega arith)) ev
 
     longer : n ≤ length x
     longer = omega (arith, room .words, body-kept .long)
 
-    module _ {a : Formula} {s : Scope} {bs : List ℕ} (h : Written rows e s bs (Formula.fix g a)) {first : List ℕ} {left : ℕ}
+    module _ {a : Formula} {s : Scope} {bs : List ℕ} (h : Formula-in-rows rows e s bs (Formula.fix g a)) {first : List ℕ} {left : ℕ}
         (go : Going rows c g e first bs a left w) where
       abbrev f : Formula
       f = Formula.fix g a
@@ -182,7 +185,7 @@ module _ (rows : List ℕ) (c : Lasso) (g : Bool) (e : ℕ) where
       abbrev E : Positions
       E = column n w e
 
-      first-room : Room n (c .stem) (length first)
+      first-room : Words-room n (c .stem) (length first)
       first-room = record { cycle = room .cycle; words = omega (arith, room .words, go .kept .long) }
 
       labelled : Labelled c a (e + 1) (e ∷ bs) w x
@@ -215,7 +218,7 @@ module _ (rows : List ℕ) (c : Lasso) (g : Bool) (e : ℕ) where
             (λ i l. sym (column-at n (e + 1) x longer i l))
             ∙ first-shown c a (e + 1) x (E ∷ outer) round-shown
 
-        copy-kept : Kept n e (e + 1) x y
+        copy-kept : Columns-kept n e (e + 1) x y
         copy-kept = swept-kept n e (local-at c (operator-at rows e) x) x y t longer
 
         round-under : Under n g (goal c first e bs f) (e + size f) y
@@ -224,26 +227,26 @@ module _ (rows : List ℕ) (c : Lasso) (g : Bool) (e : ℕ) where
             (λ k l. copy-kept .below k l ∙ body-kept .below k (omega arith) ∙ go .kept .below k l) copied
             (columns-above n copy-kept (e + 1) (size a) (omega arith) ∙ round-shown)
 
-        round-known : Known rows c (e + 1) (end-at rows e) y
+        round-known : Closed-known rows c (e + 1) (end-at rows e) y
         round-known = own-known rows c e w room held (local-at c (operator-at rows e) x) x y longer t (body-known (go .known))
 
         -- and a pass moves on from there: the words y become z
         going-on : (more : ℕ) → left ≡ 1 + more → (list : List ℕ) (count : ℕ) (z : List ℕ) → Movable rows e list count
-            → Passed rows c list count g y z → Going rows c g e first bs a more z
+            → Pass-made rows c list count g y z → Going rows c g e first bs a more z
         going-on more one list count z m p =
             let last : end-at rows e ≡ e + size f = written-end rows h in
             let long : n ≤ length y = omega (arith, longer, copy-kept .long) in
             let round = body c a outer in
-            let ky : Kept n e (end-at rows e) w y =
+            let ky : Columns-kept n e (end-at rows e) w y =
             kept-then n body-kept copy-kept (omega arith) (omega arith) (omega arith) (omega (arith, inside)) in
-            let kz : Kept n e (end-at rows e) w z = kept-both n ky (passed-kept list count y z long m p) in
-            let taken : repeat left round E ≡ repeat more round (column n y e) =
-            ap (λ (k : ℕ). repeat k round E) {x = left} {y = suc more} (omega arith) ∙ ap (repeat more round) (sym copied) in
+            let kz : Columns-kept n e (end-at rows e) w z = kept-both n ky (passed-kept list count y z long m p) in
+            let taken : iterate left round E ≡ iterate more round (column n y e) =
+            ap (λ (k : ℕ). iterate k round E) {x = left} {y = suc more} (omega arith) ∙ ap (iterate more round) (sym copied) in
             record {
               kept = kept-then n (go .kept) kz (omega arith) (omega arith) (omega arith) (omega arith);
               known = known-same rows c e (end-at rows e) y z (passed-shut list count y z long m p) round-known;
               under = p .within (e + size f) (goal c first e bs f) (goal-keeps rows c first first-room h list count m) round-under;
-              reaches = toward-trans g (holds c f outer) (repeat more round (column n y e)) (repeat more round (column n z e))
+              reaches = toward-trans g (holds c f outer) (iterate more round (column n y e)) (iterate more round (column n z e))
                   (subst (Toward g (holds c f outer)) taken (go .reaches))
                   (rounds-mono c (omega (arith, room .cycle)) a outer (closed rows c first first-room h)
                   (columns-sized n first (first-room .words) bs) g more (column n y e) (column n z e)
@@ -255,20 +258,20 @@ module _ (rows : List ℕ) (c : Lasso) (g : Bool) (e : ℕ) where
             let stays : body c a outer E ≡ E = sym copied ∙ ap (λ (u : List ℕ). column n u e) same
             ∙ labelled .kept .below e (omega arith) in
             settled (toward-both g E (holds c f outer) near
-            (subst (Toward g (holds c f outer)) (repeat-stays left (body c a outer) E stays) (go .reaches)))
+            (subst (Toward g (holds c f outer)) (iterate-stays left (body c a outer) E stays) (go .reaches)))
 
       none-left : left ≡ 0 → Labelled c f e bs first x
       none-left none =
           settled (toward-both g E (holds c f outer) near
-          (subst (λ (k : ℕ). Toward g (holds c f outer) (repeat k (body c a outer) E)) none (go .reaches)))
+          (subst (λ (k : ℕ). Toward g (holds c f outer) (iterate k (body c a outer) E)) none (go .reaches)))
 
     module _ (y : List ℕ) (t : Swept n e (local-at c (operator-at rows e) x) x y) where
-      round-kept : Kept n e (end-at rows e) w y
+      round-kept : Columns-kept n e (end-at rows e) w y
       round-kept =
           kept-then n body-kept (swept-kept n e (local-at c (operator-at rows e) x) x y t longer)
           (omega arith) (omega arith) (omega arith) (omega (arith, inside))
 
-      pub rounded-more : (list : List ℕ) (count : ℕ) (z : List ℕ) → Movable rows e list count → Passed rows c list count g y z
+      pub rounded-more : (list : List ℕ) (count : ℕ) (z : List ℕ) → Movable rows e list count → Pass-made rows c list count g y z
           → Rounded rows c g e 1 w z true
       rounded-more list count z m p = record {
         kept = kept-both n round-kept (passed-kept list count y z (omega (arith, room .words, round-kept .long)) m p);
@@ -288,11 +291,11 @@ module _ (rows : List ℕ) (c : Lasso) (g : Bool) (e : ℕ) where
 
   -- The fixpoint is labelled: its rounds are begun, the words w becoming x, and taken, x becoming u; and if the set moved to the end,
   -- the body is labelled once more.
-  module _ (held : Held rows e) (is : Fixes rows g e) (list : List ℕ) (count : ℕ) (w x u : List ℕ)
-      (room : Room n (c .stem) (length w)) (begins : Begun rows c g e list count w x) where
+  module _ (held : Formula-at rows e) (is : Fixes rows g e) (list : List ℕ) (count : ℕ) (w x u : List ℕ)
+      (room : Words-room n (c .stem) (length w)) (begins : Begun rows c g e list count w x) where
     outcome : (b r : Bool) → b ≡ r → Rounded rows c g e n x u b → (a : Formula) (s : Scope) (bs : List ℕ)
-        → Written rows e s bs (Formula.fix g a)
-        → Known rows c (e + 1) (end-at rows e) w → Outcome rows c g e w bs a 0 u r
+        → Formula-in-rows rows e s bs (Formula.fix g a)
+        → Closed-known rows c (e + 1) (end-at rows e) w → Outcome rows c g e w bs a 0 u r
     outcome b r same q a s bs h known =
         subst (Outcome rows c g e w bs a 0 u) same
         (q .done a s bs h w 0 (subst (λ (k : ℕ). Going rows c g e w bs a k x) {x = n} {y = n + 0} (omega arith)
@@ -300,16 +303,17 @@ module _ (rows : List ℕ) (c : Lasso) (g : Bool) (e : ℕ) where
 
     -- a fact of a formula at e, which is a fixpoint; and of the rows, from the one that they have there
     by-fix : (s : Scope) (bs : List ℕ) (P : Formula → Type 0)
-        → ((a : Formula) → Written rows e s bs (Formula.fix g a) → P (Formula.fix g a)) → (f : Formula) → Written rows e s bs f → P f
+        → ((a : Formula) → Formula-in-rows rows e s bs (Formula.fix g a) → P (Formula.fix g a)) → (f : Formula)
+        → Formula-in-rows rows e s bs f → P f
     by-fix s bs = by-operator rows e s bs (Operator.fix g (is .body)) (is .is)
 
-    by-own : (A : Type 0) → ((a : Formula) → Written rows e (held .scope) (held .binders) (Formula.fix g a) → A) → A
+    by-own : (A : Type 0) → ((a : Formula) → Formula-in-rows rows e (held .scope) (held .binders) (Formula.fix g a) → A) → A
     by-own A p = by-fix (held .scope) (held .binders) (λ _. A) p (held .subformula) (held .written)
 
     pub fixpoint-settled : (b : Bool) → b ≡ false → Rounded rows c g e n x u b → Evaluated rows c (e + 1) e w u
     fixpoint-settled b still q = record {
       kept = kept-both n (begins .kept) (q .kept);
-      known = λ known. by-own (Known rows c (e + 1) (end-at rows e) u)
+      known = λ known. by-own (Closed-known rows c (e + 1) (end-at rows e) u)
           (λ a h. outcome b false still q a (held .scope) (held .binders) h known .known);
       done = λ known f s bs.
           by-fix s bs (λ f. Labelled c f e bs w u) (λ a h. outcome b false still q a s bs h known .labelled) f;
@@ -318,12 +322,12 @@ module _ (rows : List ℕ) (c : Lasso) (g : Bool) (e : ℕ) where
     pub fixpoint-last : (b : Bool) → b ≡ true → (v : List ℕ) → Rounded rows c g e n x u b → Evaluated rows c (e + 1) (e + 1) u v
         → Evaluated rows c (e + 1) e w v
     fixpoint-last b moves v q ev =
-        let k : Kept n e (end-at rows e) w u = kept-both n (begins .kept) (q .kept) in
-        let same : Room n (c .stem) (length u) = record { cycle = room .cycle; words = omega (arith, room .words, k .long) } in
+        let k : Columns-kept n e (end-at rows e) w u = kept-both n (begins .kept) (q .kept) in
+        let same : Words-room n (c .stem) (length u) = record { cycle = room .cycle; words = omega (arith, room .words, k .long) } in
         record {
           kept = kept-then n k (body-kept held is u v same ev) (omega arith) (omega arith) (omega arith) (omega arith);
           known = λ known.
-              by-own (Known rows c (e + 1) (end-at rows e) v)
+              by-own (Closed-known rows c (e + 1) (end-at rows e) v)
               (λ a h. body-known held is u v same ev (outcome b true moves q a (held .scope) (held .binders) h known .known));
           done = λ known f s bs.
               by-fix s bs (λ f. Labelled c f e bs w v)

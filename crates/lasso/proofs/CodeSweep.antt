@@ -15,7 +15,7 @@ use Rattle.formula.specs.Table.{Operator}
 use Rattle.formula.specs.Rows.{operator-at, end-at}
 use Rattle.formula.proofs.WellFormed.{Operands}
 use Rattle.lasso.specs.Lasso.{Lasso}
-use Rattle.lasso.specs.Promise.{after, local, local-at, Changed, Swept}
+use Rattle.lasso.specs.Inner.{after, local, local-at, Bits-changed, Swept}
 
 -- one word of a list is set
 module _ (i x : ℕ) (v : List ℕ) (fits : i < length v) where
@@ -29,13 +29,13 @@ module _ (i x : ℕ) (v : List ℕ) (fits : i < length v) where
       by false q = subst (P m) (sym (getD-set-other v i m x 0 (eqb-false m i q))) (others m (eqb-false m i q))
 
 module _ (chosen f : ℕ → Bool) (w : List ℕ) where
-  pub changed-none : Changed 0 chosen f w w
+  pub changed-none : Bits-changed 0 chosen f w w
   changed-none = record { long = refl; bits = λ i h. absurd (omega arith); rest = λ i h. refl }
 
-  pub changed-end : {i n : ℕ} {v : List ℕ} → i ≤ n → n ≤ i → Changed i chosen f w v → Changed n chosen f w v
-  changed-end {i} {n} {v} h k = subst (λ (j : ℕ). Changed j chosen f w v) {x = i} {y = n} (omega arith)
+  pub changed-end : {i n : ℕ} {v : List ℕ} → i ≤ n → n ≤ i → Bits-changed i chosen f w v → Bits-changed n chosen f w v
+  changed-end {i} {n} {v} h k = subst (λ (j : ℕ). Bits-changed j chosen f w v) {x = i} {y = n} (omega arith)
 
-  module _ (n : ℕ) (v : List ℕ) (s : Changed n chosen f w v) where
+  module _ (n : ℕ) (v : List ℕ) (s : Bits-changed n chosen f w v) where
     -- a bit that is not chosen is as it was
     pub other-bit : (k : ℕ) → chosen k ≡ false → (j : ℕ) → bit (getD v j 0) k ≡ bit (getD w j 0) k
     other-bit k h j = by (decLt j n)
@@ -53,7 +53,7 @@ module _ (chosen f : ℕ → Bool) (w : List ℕ) where
           ∙ ap (λ (b : Bool). cond (chosen k) b (bit (getD v n 0) k)) is
           ∙ ap (λ (y : ℕ). cond (chosen k) (f n) (bit y k)) (s .rest n (omega arith))
 
-      pub changed-put : Changed (n + 1) chosen f w (set v n x)
+      pub changed-put : Bits-changed (n + 1) chosen f w (set v n x)
       changed-put = record {
         long = length-set v n x ∙ s .long;
         bits = λ i l k.

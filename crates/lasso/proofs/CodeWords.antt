@@ -17,7 +17,8 @@ use Rattle.formula.specs.Table.{Operator}
 use Rattle.formula.specs.Rows.{operator-at, end-at}
 use Rattle.formula.proofs.Limits.{size-some}
 use Rattle.lasso.specs.Lasso.{Lasso, Positions, holds, labelling, meets}
-use Rattle.lasso.specs.Promise.{Written, Held, Room, outside-of, column, Kept, Labelled, Known, Closing, Answered}
+use Rattle.lasso.specs.Inner.{Formula-in-rows, Formula-at, Words-room, outside-of, column, Columns-kept, Labelled, Closed-known}
+use Rattle.lasso.specs.Inner.{Closed-labelled, Truth-found}
 use Rattle.lasso.proofs.Consistent.{length-labelling, labelling-bit, labelling-past}
 use Rattle.lasso.proofs.CodeWritten.{written-end, nested}
 use Rattle.lasso.proofs.CodeColumns.{column-at, kept-refl, kept-then}
@@ -26,8 +27,8 @@ use Rattle.lasso.proofs.CodeLabel.{first-shown}
 -- Closed subformulas are labelled from the last to the first: those from k on are, in the words v, which were w at first.
 pub record Labelling (rows : List ℕ) (c : Lasso) (w : List ℕ) (k : ℕ) (v : List ℕ) : Type 0 where
   pub few : k ≤ end-at rows 0
-  pub kept : Kept (length (c .letters)) 0 (end-at rows 0) w v
-  pub known : Known rows c k (end-at rows 0) v
+  pub kept : Columns-kept (length (c .letters)) 0 (end-at rows 0) w v
+  pub known : Closed-known rows c k (end-at rows 0) v
 
 module _ (rows : List ℕ) (c : Lasso) (w : List ℕ) where
   pub labelling-none : (k : ℕ) → k ≡ end-at rows 0 → Labelling rows c w k w
@@ -37,14 +38,14 @@ module _ (rows : List ℕ) (c : Lasso) (w : List ℕ) where
     known = record { shown = λ j l m. absurd (omega arith) };
   }
 
-  pub labelling-more : (k j : ℕ) (v x : List ℕ) → Held rows 0 → k ≡ j + 1 → Labelling rows c w k v → Closing rows c j v x
+  pub labelling-more : (k j : ℕ) (v x : List ℕ) → Formula-at rows 0 → k ≡ j + 1 → Labelling rows c w k v → Closed-labelled rows c j v x
       → Labelling rows c w j x
   labelling-more k j v x held next so-far t =
       let far : end-at rows j ≤ end-at rows 0 = nested rows 0 held j (omega arith) (omega (arith, so-far .few)) in
       record {
         few = omega (arith, so-far .few);
         kept = kept-then (length (c .letters)) (so-far .kept) (t .kept) (omega arith) (omega arith) (omega arith) far;
-        known = t .known (end-at rows 0) far (subst (λ (i : ℕ). Known rows c i (end-at rows 0) v) next (so-far .known));
+        known = t .known (end-at rows 0) far (subst (λ (i : ℕ). Closed-known rows c i (end-at rows 0) v) next (so-far .known));
       }
 
   pub labelling-all : (k : ℕ) (v : List ℕ) → k ≤ 0 → Labelling rows c w k v → Labelling rows c w 0 v
@@ -58,7 +59,7 @@ nothing-outside (Operator.pair o l r) = refl
 nothing-outside (Operator.next l) = refl
 nothing-outside (Operator.fix g l) = refl
 
-module _ (rows : List ℕ) (c : Lasso) (b : Bool) (w v₀ v : List ℕ) (room : Room (length (c .letters)) (c .stem) (length w))
+module _ (rows : List ℕ) (c : Lasso) (b : Bool) (w v₀ v : List ℕ) (room : Words-room (length (c .letters)) (c .stem) (length w))
     (cleared : v₀ ≡ replicate (length (c .letters)) 0 ++ drop (length (c .letters)) w) (all : Labelling rows c v₀ 0 v)
     (is : b ≡ bit (getD v 0 0) 0) where
   abbrev n : ℕ
@@ -67,14 +68,14 @@ module _ (rows : List ℕ) (c : Lasso) (b : Bool) (w v₀ v : List ℕ) (room : 
   long₀ : n ≤ length v₀
   long₀ = omega (arith, ap length cleared, length-append (replicate n 0) (drop n w), length-replicate {A = ℕ} n 0)
 
-  module _ (f : Formula) (h : Written rows 0 [] [] f) where
+  module _ (f : Formula) (h : Formula-in-rows rows 0 [] [] f) where
     labelled : Labelled c f 0 [] v₀ v
     labelled =
         let last : end-at rows 0 ≡ 0 + size f = written-end rows h in
         record {
           shown = all .known .shown 0 (omega arith) (omega (arith, last, size-some f)) (λ k l m. nothing-outside (operator-at rows k)) f
               [] [] h;
-          kept = subst (λ (k : ℕ). Kept n 0 k v₀ v) last (all .kept);
+          kept = subst (λ (k : ℕ). Columns-kept n 0 k v₀ v) last (all .kept);
         }
 
     long : n ≤ length v
@@ -126,5 +127,5 @@ module _ (rows : List ℕ) (c : Lasso) (b : Bool) (w v₀ v : List ℕ) (room : 
         ∙ ap (λ (s : Positions). getD s 0 false) (first-shown c f 0 v [] (labelled .shown))
         ∙ sym (ap (λ (t : Bool). t && getD (holds c f []) 0 false) (lt-ltb (c .stem) n (room .cycle)))
 
-  pub answered : Answered rows c b w v
+  pub answered : Truth-found rows c b w v
   answered = record { truth = truth; words = words }

@@ -12,14 +12,14 @@ use lib.ListN.{length, getD, length-append, length-map, List·getD-append, List�
 use lib.Seq.{getD-at}
 use borrow.Author.Tests.{eqb-true, eqb-false}
 use Rattle.base.specs.Bits.{bit}
-use Rattle.base.specs.Lists.{numbers}
+use Rattle.base.specs.Lists.{range}
 use Rattle.base.proofs.WordLaws.{word-bit}
-use Rattle.base.proofs.ListLaws.{Each, each-append, each-left, each-right, each-at, each-of, getD-map, length-numbers, getD-numbers}
+use Rattle.base.proofs.ListLaws.{Each, each-append, each-left, each-right, each-at, each-of, getD-map, length-range, getD-range}
 use Rattle.formula.specs.Formula.{Leaf, Formula, size}
 use Rattle.formula.specs.Table.{Operator, table-from, table}
 use Rattle.formula.proofs.Closed.{Closed, length-table}
 use Rattle.lasso.specs.Lasso.{Lasso, Positions, leaf-at, joined, combine, before, holds, sets, label, labelling}
-use Rattle.lasso.proofs.Monotone.{span, Sized, length-holds}
+use Rattle.lasso.proofs.Monotone.{span, Sets-sized, length-holds}
 use Rattle.lasso.proofs.Fixpoint.{fixed}
 
 -- whether subformula e is true at position i
@@ -68,51 +68,55 @@ length-sets c (Formula.next a) ρ = omega (arith, length-sets c a ρ)
 length-sets c (Formula.fix g a) ρ = omega (arith, length-sets c a (holds c (Formula.fix g a) ρ ∷ ρ))
 
 -- in the list ss of the sets of a whole formula, s is that of subformula e
-abbrev pub Stands : List Positions → ℕ → Positions → Type 0
-Stands ss e s = getD ss e [] ≡ s
+abbrev pub Consistent-at : List Positions → ℕ → Positions → Type 0
+Consistent-at ss e s = getD ss e [] ≡ s
 
 -- the sets of the enclosing fixpoints are those of the subformulas that bind the variables
-pub data Around (ss : List Positions) : List ℕ → List Positions → Type 0 where
-  none : Around ss [] []
-  put : {e : ℕ} {s : Positions} {bs : List ℕ} {ρ : List Positions} → Stands ss e s → Around ss bs ρ → Around ss (e ∷ bs) (s ∷ ρ)
+pub data Sets-around (ss : List Positions) : List ℕ → List Positions → Type 0 where
+  none : Sets-around ss [] []
+  put : {e : ℕ} {s : Positions} {bs : List ℕ} {ρ : List Positions} → Consistent-at ss e s → Sets-around ss bs ρ
+      → Sets-around ss (e ∷ bs) (s ∷ ρ)
 
-around-at : {ss : List Positions} {bs : List ℕ} {ρ : List Positions} → Around ss bs ρ → (d : ℕ) → d < length ρ
-    → Stands ss (getD bs d 0) (getD ρ d [])
-around-at Around.none d h = absurd (omega arith)
-around-at (Around.put q r) zero h = q
-around-at (Around.put q r) (suc d) h = around-at r d (omega arith)
+around-at : {ss : List Positions} {bs : List ℕ} {ρ : List Positions} → Sets-around ss bs ρ → (d : ℕ) → d < length ρ
+    → Consistent-at ss (getD bs d 0) (getD ρ d [])
+around-at Sets-around.none d h = absurd (omega arith)
+around-at (Sets-around.put q r) zero h = q
+around-at (Sets-around.put q r) (suc d) h = around-at r d (omega arith)
 
 -- the truth of subformula e is what its operator says
 abbrev pub Right : Lasso → List Positions → ℕ → Operator → Type 0
 Right c ss e op = (i : ℕ) → i < span c → true-at ss e i ≡ says c ss i op
 
 -- a variable has its fixpoint's set, and a fixpoint its body's
-same-truth : (ss : List Positions) (e l : ℕ) (s : Positions) → Stands ss e s → Stands ss l s → (i : ℕ) → true-at ss e i ≡ true-at ss l i
+same-truth : (ss : List Positions) (e l : ℕ) (s : Positions) → Consistent-at ss e s → Consistent-at ss l s → (i : ℕ)
+    → true-at ss e i ≡ true-at ss l i
 same-truth ss e l s q x i = ap (λ (u : Positions). getD u i false) (q ∙ sym x)
 
 module _ (c : Lasso) (ss : List Positions) where
-  right-leaf : (l : Leaf) (e : ℕ) → Stands ss e (map (leaf-at l) (c .letters)) → Right c ss e (Operator.leaf l)
+  right-leaf : (l : Leaf) (e : ℕ) → Consistent-at ss e (map (leaf-at l) (c .letters)) → Right c ss e (Operator.leaf l)
   right-leaf l e q i h = rw q (getD-map (leaf-at l) (c .letters) i 0 false h)
 
-  right-pair : (o : Bool) (e l r : ℕ) (s t : Positions) → Stands ss e (combine o s t) → Stands ss l s → Stands ss r t → length s ≡ length t
+  right-pair : (o : Bool) (e l r : ℕ) (s t : Positions) → Consistent-at ss e (combine o s t) → Consistent-at ss l s → Consistent-at ss r t
+      → length s ≡ length t
       → Right c ss e (Operator.pair o l r)
   right-pair o e l r s t q x y k i h = rw (q, x, y) (getD-combine o s t k i)
 
-  right-next : (e l : ℕ) (s : Positions) → Stands ss e (before (c .stem) s) → Stands ss l s → length s ≡ span c
+  right-next : (e l : ℕ) (s : Positions) → Consistent-at ss e (before (c .stem) s) → Consistent-at ss l s → length s ≡ span c
       → Right c ss e (Operator.next l)
   right-next e l s q x k i h = rw (q, x, ← k) (getD-before (c .stem) s i (omega arith))
 
 module _ (c : Lasso) (some : 0 < span c) where
   -- the rows of a subformula f that stands at e in ss
-  pub right-from : (ss : List Positions) (f : Formula) (e : ℕ) (bs : List ℕ) (ρ : List Positions) → Closed (length ρ) f → Sized (span c) ρ
-      → Around ss bs ρ → Each (Stands ss) e (sets c f ρ) → Each (Right c ss) e (table-from e bs f)
+  pub right-from : (ss : List Positions) (f : Formula) (e : ℕ) (bs : List ℕ) (ρ : List Positions) → Closed (length ρ) f
+      → Sets-sized (span c) ρ
+      → Sets-around ss bs ρ → Each (Consistent-at ss) e (sets c f ρ) → Each (Right c ss) e (table-from e bs f)
   right-from ss (Formula.leaf l) e bs ρ k z out h = (right-leaf c ss l e (h .0), tt)
   right-from ss (Formula.variable d) e bs ρ k z out h =
       (λ i q. same-truth ss e (getD bs d 0) (getD ρ d []) (h .0) (around-at out d k) i, tt)
   right-from ss (Formula.pair o a b) e bs ρ k z out h =
       let second = e + 1 + size a in
-      let x = each-left (Stands ss) (e + 1) (sets c a ρ) (sets c b ρ) (h .1) in
-      let y = each-right (Stands ss) (e + 1) second (sets c a ρ) (sets c b ρ) (ap (e + 1 +_) (length-sets c a ρ)) (h .1) in
+      let x = each-left (Consistent-at ss) (e + 1) (sets c a ρ) (sets c b ρ) (h .1) in
+      let y = each-right (Consistent-at ss) (e + 1) second (sets c a ρ) (sets c b ρ) (ap (e + 1 +_) (length-sets c a ρ)) (h .1) in
       let l = length-holds c some a ρ (k .0) z ∙ sym (length-holds c some b ρ (k .1) z) in (
         right-pair c ss o e (e + 1) second (holds c a ρ) (holds c b ρ) (h .0) (x .0) (y .0) l,
         each-append (Right c ss) (e + 1) second (table-from (e + 1) bs a) (table-from second bs b)
@@ -126,12 +130,12 @@ module _ (c : Lasso) (some : 0 < span c) where
   right-from ss (Formula.fix g a) e bs ρ k z out h =
       let s = holds c (Formula.fix g a) ρ in (
         λ i q. same-truth ss e (e + 1) s (h .0) (h .1 .0 ∙ fixed c some a ρ k z g) i,
-        right-from ss a (e + 1) (e ∷ bs) (s ∷ ρ) k (length-holds c some (Formula.fix g a) ρ k z, z) (Around.put (h .0) out) (h .1),
+        right-from ss a (e + 1) (e ∷ bs) (s ∷ ρ) k (length-holds c some (Formula.fix g a) ρ k z, z) (Sets-around.put (h .0) out) (h .1),
       )
 
 -- every set stands where it is
-pub stand : (ss : List Positions) → Each (Stands ss) 0 ss
-stand ss = each-of (Stands ss) 0 ss [] (λ j q. ap (λ (n : ℕ). getD ss n []) {x = 0 + j} {y = j} (omega arith))
+pub stand : (ss : List Positions) → Each (Consistent-at ss) 0 ss
+stand ss = each-of (Consistent-at ss) 0 ss [] (λ j q. ap (λ (n : ℕ). getD ss n []) {x = 0 + j} {y = j} (omega arith))
 
 -- Theorem: at every position the truth of each subformula of a closed formula is what its operator in the table says.
 pub consistent : (c : Lasso) (f : Formula) → Closed 0 f → (e : ℕ) → e < size f → (d : Operator) (i : ℕ) → i < span c
@@ -140,19 +144,19 @@ unfolding table
 consistent c f k e h d i l =
     let ss = sets c f [] in
     ap (λ (j : ℕ). true-at ss j i) {x = e} {y = 0 + e} (omega arith)
-    ∙ each-at (Right c ss) 0 (table-from 0 [] f) d (right-from c (omega arith) ss f 0 [] [] k tt Around.none (stand ss)) e
+    ∙ each-at (Right c ss) 0 (table-from 0 [] f) d (right-from c (omega arith) ss f 0 [] [] k tt Sets-around.none (stand ss)) e
     (omega (arith, length-table 0 [] f)) i l
 
 module _ (c : Lasso) (f : Formula) where
   pub length-labelling : length (labelling c f) ≡ span c
   unfolding labelling
-  length-labelling = length-map (numbers 0 (span c)) (label (sets c f [])) ∙ length-numbers 0 (span c)
+  length-labelling = length-map (range 0 (span c)) (label (sets c f [])) ∙ length-range 0 (span c)
 
   label-at : (i : ℕ) → i < span c → getD (labelling c f) i 0 ≡ label (sets c f []) i
   unfolding labelling
   label-at i h =
-      getD-map (label (sets c f [])) (numbers 0 (span c)) i 0 0 (omega (arith, length-numbers 0 (span c)))
-      ∙ ap (label (sets c f [])) (getD-numbers 0 (span c) i 0 h ∙ omega arith)
+      getD-map (label (sets c f [])) (range 0 (span c)) i 0 0 (omega (arith, length-range 0 (span c)))
+      ∙ ap (label (sets c f [])) (getD-range 0 (span c) i 0 h ∙ omega arith)
 
   -- Theorem: bit e of word i says whether subformula e is true at position i.
   pub labelling-bit : (i : ℕ) → i < span c → (e : ℕ) → bit (getD (labelling c f) i 0) e ≡ true-at (sets c f []) e i

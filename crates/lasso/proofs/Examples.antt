@@ -23,10 +23,10 @@ always = 0x09 ∷ 0x07 ∷ 0x03 ∷ 0x00 ∷ 0x08 ∷ 0x05 ∷ 0x00 ∷ []
 
 abbrev pub table : List Example
 table =
-    is eventually (0 ∷ 1 ∷ []) 1 (Truth.told true (27 ∷ 31 ∷ []))
-    ∷ is eventually (0 ∷ []) 0 (Truth.told false (0 ∷ []))
-    ∷ is eventually (0 ∷ 0 ∷ 1 ∷ []) 2 (Truth.told true (27 ∷ 27 ∷ 31 ∷ []))
-    ∷ is always (1 ∷ []) 0 (Truth.told false (4 ∷ []))
+    is eventually (0 ∷ 1 ∷ []) 1 (Truth.holds true (27 ∷ 31 ∷ []))
+    ∷ is eventually (0 ∷ []) 0 (Truth.holds false (0 ∷ []))
+    ∷ is eventually (0 ∷ 0 ∷ 1 ∷ []) 2 (Truth.holds true (27 ∷ 27 ∷ 31 ∷ []))
+    ∷ is always (1 ∷ []) 0 (Truth.holds false (4 ∷ []))
     ∷ is eventually [] 0 (Truth.refused 16)
     ∷ []
 

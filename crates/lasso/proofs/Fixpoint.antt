@@ -9,14 +9,14 @@ use mathlib.Core.List.{List, _∷_, map}
 use Prim.Native.Nat.{ℕ, suc, _+_, _<_}
 use native.Mathlib.Omega.{arith}
 use lib.ListN.{length, length-map}
-use Rattle.base.specs.Lists.{repeat}
+use Rattle.base.specs.Lists.{iterate}
 use Rattle.base.specs.Sets.{Inside, Toward}
-use Rattle.base.proofs.ListLaws.{repeat-add, repeat-stays, repeat-keeps}
-use Rattle.base.proofs.Inside.{inside-repeat, toward-mono, toward-start, waiting-le, rests, passes-none}
+use Rattle.base.proofs.ListLaws.{iterate-add, iterate-stays, iterate-keeps}
+use Rattle.base.proofs.Inside.{inside-iterate, toward-mono, toward-start, waiting-le, rests, passes-none}
 use Rattle.formula.specs.Formula.{Formula}
 use Rattle.formula.proofs.Closed.{Closed}
 use Rattle.lasso.specs.Lasso.{Lasso, Positions, holds}
-use Rattle.lasso.proofs.Monotone.{span, Within, within-refl, monotone, Sized, length-holds}
+use Rattle.lasso.proofs.Monotone.{span, Sets-within, within-refl, monotone, Sets-sized, length-holds}
 
 -- what one round makes of a set
 abbrev pub body : Lasso → Formula → List Positions → Positions → Positions
@@ -24,26 +24,26 @@ body c a ρ s = holds c a (s ∷ ρ)
 
 -- the set after k rounds; the fixpoint's set is the one after n
 abbrev pub approximant : Lasso → (g : Bool) → Formula → List Positions → (k : ℕ) → Positions
-approximant c g a ρ k = repeat k (body c a ρ) (map (λ _. g) (c .letters))
+approximant c g a ρ k = iterate k (body c a ρ) (map (λ _. g) (c .letters))
 
 -- A fixpoint with the body a, inside fixpoints that have the sets ρ.
 module _ (c : Lasso) (some : 0 < span c) (a : Formula) (ρ : List Positions)
-    (closed : Closed (suc (length ρ)) a) (sized : Sized (span c) ρ) where
+    (closed : Closed (suc (length ρ)) a) (sized : Sets-sized (span c) ρ) where
   -- the body keeps the order, and so does any number of rounds
   pub body-mono : (g : Bool) (s t : Positions) → Toward g s t → Toward g (body c a ρ s) (body c a ρ t)
-  body-mono g = toward-mono g (body c a ρ) (λ s t h. monotone c a (Within.put h (within-refl ρ)))
+  body-mono g = toward-mono g (body c a ρ) (λ s t h. monotone c a (Sets-within.put h (within-refl ρ)))
 
-  pub rounds-mono : (g : Bool) (k : ℕ) (s t : Positions) → Toward g s t → Toward g (repeat k (body c a ρ) s) (repeat k (body c a ρ) t)
+  pub rounds-mono : (g : Bool) (k : ℕ) (s t : Positions) → Toward g s t → Toward g (iterate k (body c a ρ) s) (iterate k (body c a ρ) t)
   rounds-mono g k =
-      toward-mono g (repeat k (body c a ρ))
-      (λ s t h. inside-repeat k (body c a ρ) (body c a ρ) (λ s t h. monotone c a (Within.put h (within-refl ρ))) h)
+      toward-mono g (iterate k (body c a ρ))
+      (λ s t h. inside-iterate k (body c a ρ) (body c a ρ) (λ s t h. monotone c a (Sets-within.put h (within-refl ρ))) h)
 
   length-body : (s : Positions) → length s ≡ span c → length (body c a ρ s) ≡ span c
   length-body s l = length-holds c some a (s ∷ ρ) closed (l, sized)
 
   pub length-approximant : (g : Bool) (k : ℕ) → length (approximant c g a ρ k) ≡ span c
   length-approximant g k =
-      repeat-keeps (λ (s : Positions). length s ≡ span c) k (body c a ρ) length-body (map (λ _. g) (c .letters))
+      iterate-keeps (λ (s : Positions). length s ≡ span c) k (body c a ρ) length-body (map (λ _. g) (c .letters))
       (length-map (c .letters) (λ _. g))
 
   -- Theorem: the body keeps the fixpoint's set.
@@ -56,7 +56,7 @@ module _ (c : Lasso) (some : 0 < span c) (a : Formula) (ρ : List Positions)
   -- Theorem: further rounds change nothing.
   pub settled : (g : Bool) (k : ℕ) → approximant c g a ρ (span c + k) ≡ holds c (Formula.fix g a) ρ
   settled g k =
-      repeat-add (span c) k (body c a ρ) (map (λ _. g) (c .letters)) ∙ repeat-stays k (body c a ρ) (holds c (Formula.fix g a) ρ) (fixed g)
+      iterate-add (span c) k (body c a ρ) (map (λ _. g) (c .letters)) ∙ iterate-stays k (body c a ρ) (holds c (Formula.fix g a) ρ) (fixed g)
 
   -- Theorem: no round passes a set that the body moves no further.
   pub bounded : (g : Bool) (k : ℕ) (t : Positions) → length t ≡ span c → Toward g (holds c a (t ∷ ρ)) t → Toward g (approximant c g a ρ k) t

@@ -7,9 +7,9 @@ use mathlib.Core.List.{List, [], _∷_, _++_, map}
 use Prim.Native.Nat.{ℕ, zero, suc, _<_}
 use native.Mathlib.Omega.{arith}
 use lib.ListN.{length, getD, length-append, length-map}
-use Rattle.base.proofs.ListLaws.{repeat-keeps}
+use Rattle.base.proofs.ListLaws.{iterate-keeps}
 use Rattle.base.specs.Sets.{Below, Inside}
-use Rattle.base.proofs.Inside.{below-least, below-greatest, inside-at, inside-refl, inside-append, inside-tail, inside-repeat}
+use Rattle.base.proofs.Inside.{below-least, below-greatest, inside-at, inside-refl, inside-append, inside-tail, inside-iterate}
 use Rattle.formula.specs.Formula.{Formula}
 use Rattle.formula.proofs.Closed.{Closed}
 use Rattle.lasso.specs.Lasso.{Lasso, Positions, leaf-at, joined, combine, before, holds, sets}
@@ -45,50 +45,50 @@ inside-before : (stem : ℕ) {s t : Positions} → Inside s t → Inside (before
 inside-before stem h = inside-append (inside-tail h) (Inside.put (inside-at h stem) Inside.none)
 
 -- the sets of the enclosing fixpoints, each inside the other list's
-pub data Within : List Positions → List Positions → Type 0 where
-  none : Within [] []
-  put : {s t : Positions} {ρ σ : List Positions} → Inside s t → Within ρ σ → Within (s ∷ ρ) (t ∷ σ)
+pub data Sets-within : List Positions → List Positions → Type 0 where
+  none : Sets-within [] []
+  put : {s t : Positions} {ρ σ : List Positions} → Inside s t → Sets-within ρ σ → Sets-within (s ∷ ρ) (t ∷ σ)
 
-pub within-at : {ρ σ : List Positions} → Within ρ σ → (d : ℕ) → Inside (getD ρ d []) (getD σ d [])
-within-at Within.none d = Inside.none
-within-at (Within.put h r) zero = h
-within-at (Within.put h r) (suc d) = within-at r d
+pub within-at : {ρ σ : List Positions} → Sets-within ρ σ → (d : ℕ) → Inside (getD ρ d []) (getD σ d [])
+within-at Sets-within.none d = Inside.none
+within-at (Sets-within.put h r) zero = h
+within-at (Sets-within.put h r) (suc d) = within-at r d
 
-pub within-refl : (ρ : List Positions) → Within ρ ρ
-within-refl [] = Within.none
-within-refl (s ∷ ρ) = Within.put (inside-refl s) (within-refl ρ)
+pub within-refl : (ρ : List Positions) → Sets-within ρ ρ
+within-refl [] = Sets-within.none
+within-refl (s ∷ ρ) = Sets-within.put (inside-refl s) (within-refl ρ)
 
 -- Theorem: truth is monotone in the sets of the enclosing fixpoints.
-pub monotone : (c : Lasso) (f : Formula) {ρ σ : List Positions} → Within ρ σ → Inside (holds c f ρ) (holds c f σ)
+pub monotone : (c : Lasso) (f : Formula) {ρ σ : List Positions} → Sets-within ρ σ → Inside (holds c f ρ) (holds c f σ)
 monotone c (Formula.leaf l) r = inside-refl (map (leaf-at l) (c .letters))
 monotone c (Formula.variable d) r = within-at r d
 monotone c (Formula.pair o a b) r = inside-combine o (monotone c a r) (monotone c b r)
 monotone c (Formula.next a) r = inside-before (c .stem) (monotone c a r)
 monotone c (Formula.fix g a) {ρ} {σ} r =
-    inside-repeat (span c) (λ s. holds c a (s ∷ ρ)) (λ s. holds c a (s ∷ σ)) (λ s t h. monotone c a (Within.put h r))
+    inside-iterate (span c) (λ s. holds c a (s ∷ ρ)) (λ s. holds c a (s ∷ σ)) (λ s t h. monotone c a (Sets-within.put h r))
     (inside-refl (map (λ _. g) (c .letters)))
 
-within-append : {ρ σ τ υ : List Positions} → Within ρ σ → Within τ υ → Within (ρ ++ τ) (σ ++ υ)
-within-append Within.none k = k
-within-append (Within.put h r) k = Within.put h (within-append r k)
+within-append : {ρ σ τ υ : List Positions} → Sets-within ρ σ → Sets-within τ υ → Sets-within (ρ ++ τ) (σ ++ υ)
+within-append Sets-within.none k = k
+within-append (Sets-within.put h r) k = Sets-within.put h (within-append r k)
 
 -- and so are the sets of all subformulas
-pub monotone-sets : (c : Lasso) (f : Formula) {ρ σ : List Positions} → Within ρ σ → Within (sets c f ρ) (sets c f σ)
-monotone-sets c (Formula.leaf l) r = Within.put (monotone c (Formula.leaf l) r) Within.none
-monotone-sets c (Formula.variable d) r = Within.put (monotone c (Formula.variable d) r) Within.none
+pub monotone-sets : (c : Lasso) (f : Formula) {ρ σ : List Positions} → Sets-within ρ σ → Sets-within (sets c f ρ) (sets c f σ)
+monotone-sets c (Formula.leaf l) r = Sets-within.put (monotone c (Formula.leaf l) r) Sets-within.none
+monotone-sets c (Formula.variable d) r = Sets-within.put (monotone c (Formula.variable d) r) Sets-within.none
 monotone-sets c (Formula.pair o a b) r =
-    Within.put (monotone c (Formula.pair o a b) r) (within-append (monotone-sets c a r) (monotone-sets c b r))
-monotone-sets c (Formula.next a) r = Within.put (monotone c (Formula.next a) r) (monotone-sets c a r)
+    Sets-within.put (monotone c (Formula.pair o a b) r) (within-append (monotone-sets c a r) (monotone-sets c b r))
+monotone-sets c (Formula.next a) r = Sets-within.put (monotone c (Formula.next a) r) (monotone-sets c a r)
 monotone-sets c (Formula.fix g a) r =
     let h = monotone c (Formula.fix g a) r in
-    Within.put h (monotone-sets c a (Within.put h r))
+    Sets-within.put h (monotone-sets c a (Sets-within.put h r))
 
 -- each set has n elements
-abbrev pub Sized : ℕ → List Positions → Type 0
-Sized n [] = Unit {0}
-Sized n (s ∷ ρ) = (length s ≡ n) × Sized n ρ
+abbrev pub Sets-sized : ℕ → List Positions → Type 0
+Sets-sized n [] = Unit {0}
+Sets-sized n (s ∷ ρ) = (length s ≡ n) × Sets-sized n ρ
 
-sized-at : (n : ℕ) (ρ : List Positions) → Sized n ρ → (d : ℕ) → d < length ρ → length (getD ρ d []) ≡ n
+sized-at : (n : ℕ) (ρ : List Positions) → Sets-sized n ρ → (d : ℕ) → d < length ρ → length (getD ρ d []) ≡ n
 sized-at n [] z d h = absurd (omega arith)
 sized-at n (s ∷ ρ) z zero h = z .0
 sized-at n (s ∷ ρ) z (suc d) h = sized-at n ρ (z .1) d (omega arith)
@@ -104,7 +104,7 @@ length-before stem (a ∷ s) h = omega (arith, length-append s (getD (a ∷ s) s
 
 -- Theorem: on a lasso that has a letter, a set has an element for each letter if the sets given have, one for each fixpoint that the
 -- formula's variables can name. (On a lasso without letters a next would have one element too many.)
-pub length-holds : (c : Lasso) → 0 < span c → (f : Formula) (ρ : List Positions) → Closed (length ρ) f → Sized (span c) ρ
+pub length-holds : (c : Lasso) → 0 < span c → (f : Formula) (ρ : List Positions) → Closed (length ρ) f → Sets-sized (span c) ρ
     → length (holds c f ρ) ≡ span c
 length-holds c some (Formula.leaf l) ρ k z = length-map (c .letters) (leaf-at l)
 length-holds c some (Formula.variable d) ρ k z = sized-at (span c) ρ z d k
@@ -115,5 +115,5 @@ length-holds c some (Formula.next a) ρ k z =
     let x = length-holds c some a ρ k z in
     length-before (c .stem) (holds c a ρ) (omega arith) ∙ x
 length-holds c some (Formula.fix g a) ρ k z =
-    repeat-keeps (λ (s : Positions). length s ≡ span c) (span c) (λ s. holds c a (s ∷ ρ))
+    iterate-keeps (λ (s : Positions). length s ≡ span c) (span c) (λ s. holds c a (s ∷ ρ))
     (λ s l. length-holds c some a (s ∷ ρ) k (l, z)) (map (λ _. g) (c .letters)) (length-map (c .letters) (λ _. g))

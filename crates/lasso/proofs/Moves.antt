@@ -8,7 +8,7 @@ use lib.ListN.{length, getD}
 use Rattle.base.specs.Sets.{Below, Toward}
 use Rattle.base.proofs.Inside.{below-true, below-of, below-least, below-greatest, inside-of}
 use Rattle.lasso.specs.Lasso.{Positions, joined}
-use Rattle.lasso.specs.Promise.{Moves}
+use Rattle.lasso.specs.Inner.{Moves}
 use Rattle.lasso.proofs.Monotone.{below-joined}
 
 pub moves-refl : (g a : Bool) → Moves g a a

@@ -16,13 +16,13 @@ From16 c room After =
     After))
 
 -- the answer past them
-abbrev pub told-of : Lasso → Formula → Truth
-told-of c f = Truth.told (meets c f) (labelling c f)
+abbrev pub truth-of : Lasso → Formula → Truth
+truth-of c f = Truth.holds (meets c f) (labelling c f)
 
-pub truth-asked : (c : Lasso) (room : ℕ) (f : Formula) → From16 c room (λ o. o ≡ told-of c f) (asked c room f)
+pub truth-asked : (c : Lasso) (room : ℕ) (f : Formula) → From16 c room (λ o. o ≡ truth-of c f) (asked c room f)
 unfolding labelling meets
 truth-asked c room f =
     asked-lt (c .stem) (length (c .letters)) _
     (asked-le (length (c .letters)) 8192 _
-    (asked-le (length (c .letters)) room (told-of c f)
+    (asked-le (length (c .letters)) room (truth-of c f)
     refl))

@@ -4,7 +4,7 @@ use mathlib.Core.List.{List, [], _∷_, _++_, map}
 use Prim.Native.Nat.{ℕ}
 use lib.Dec.{ltb}
 use lib.ListN.{length, getD}
-use Rattle.base.specs.Lists.{numbers, repeat, tail}
+use Rattle.base.specs.Lists.{range, iterate, tail}
 use Rattle.base.specs.Bits.{bit, word}
 use Rattle.formula.specs.Formula.{Leaf, Formula}
 
@@ -44,7 +44,7 @@ holds c (Formula.leaf l) ρ = map (leaf-at l) (c .letters)
 holds c (Formula.variable d) ρ = getD ρ d []
 holds c (Formula.pair o a b) ρ = combine o (holds c a ρ) (holds c b ρ)
 holds c (Formula.next a) ρ = before (c .stem) (holds c a ρ)
-holds c (Formula.fix g a) ρ = repeat (length (c .letters)) (λ s. holds c a (s ∷ ρ)) (map (λ _. g) (c .letters))
+holds c (Formula.fix g a) ρ = iterate (length (c .letters)) (λ s. holds c a (s ∷ ρ)) (map (λ _. g) (c .letters))
 
 -- MEANING 2.3: the sets of the subformulas inside a formula, by their numbers; in a fixpoint's body from the fixpoint's final set.
 abbrev pub inner : Lasso → Formula → List Positions → List Positions
@@ -64,7 +64,7 @@ label ss i = word (map (λ (s : Positions). getD s i false) ss)
 
 -- The words of all positions (document 01: truth words).
 unfoldable pub labelling : Lasso → Formula → List ℕ
-labelling c f = let ss = sets c f [] in map (label ss) (numbers 0 (length (c .letters)))
+labelling c f = let ss = sets c f [] in map (label ss) (range 0 (length (c .letters)))
 
 -- MEANING 2.4: a lasso meets a formula.
 unfoldable pub meets : Lasso → Formula → Bool

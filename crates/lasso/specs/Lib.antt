@@ -1,4 +1,4 @@
 pub mod Lasso
 pub mod Truth
-pub mod Answer
-pub mod Promise
+pub mod Contract
+pub mod Inner

@@ -14,7 +14,7 @@ use Rattle.lasso.specs.Lasso.{Lasso, labelling, meets}
 pub data Truth : Type 0 where
   unread : Refusal → Truth
   refused : (code : ℕ) → Truth
-  told : (truth : Bool) (words : List ℕ) → Truth
+  holds : (truth : Bool) (words : List ℕ) → Truth
 
 -- The questions after reading, and the answer.
 abbrev pub asked : Lasso → (room : ℕ) → Formula → Truth
@@ -24,7 +24,7 @@ asked c room f =
     ask (ltb (c .stem) n) (Truth.refused 16)
     (ask (leb n 8192) (Truth.refused 17)
     (ask (leb n room) (Truth.refused 18)
-    (Truth.told (meets c f) (labelling c f))))
+    (Truth.holds (meets c f) (labelling c f))))
 
 -- A refusal of reading is handed on; a formula is asked about.
 abbrev pub after-reading : Lasso → (room : ℕ) → Reading Formula → Truth
@@ -41,4 +41,4 @@ truth bytes c room = after-reading c room (parse bytes)
 abbrev pub written : Truth → List ℕ → List ℕ
 written (Truth.unread why) lent = lent
 written (Truth.refused code) lent = lent
-written (Truth.told b words) lent = words ++ drop (length words) lent
+written (Truth.holds b words) lent = words ++ drop (length words) lent

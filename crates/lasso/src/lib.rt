@@ -13,18 +13,19 @@ ghost use lib.ListN.{length, drop, replicate};
 ghost use Rattle.base.specs.Bits.{bit};
 ghost use Rattle.formula.specs.Access.{decoded, Fits};
 ghost use Rattle.lasso.specs.Truth.{truth, written};
-ghost use Rattle.lasso.specs.Answer.{lasso, answer};
+ghost use Rattle.lasso.specs.Contract.{lasso, answer};
 ghost use Rattle.lasso.specs.Lasso.{joined};
-ghost use Rattle.lasso.specs.Promise.{Held, Ready, ReadyFixpoint, ReadyRounds, ReadyPass, Few, Successor, local, Sweeping};
-ghost use Rattle.lasso.specs.Promise.{outside-of, Closes, Open, Listed, Filled, Turned, Passed, Begun, Evaluated, Rounded};
-ghost use Rattle.lasso.specs.Promise.{Closing, Answered, Judged};
+ghost use Rattle.lasso.specs.Inner.{Formula-at, Label-ready, Fixpoint-ready, Rounds-ready, Pass-ready, Few, Successor, local};
+ghost use Rattle.lasso.specs.Inner.{Swept-by};
+ghost use Rattle.lasso.specs.Inner.{outside-of, Closes, Open, Bits-listed, Bits-filled, Turned, Pass-made, Begun, Evaluated, Rounded};
+ghost use Rattle.lasso.specs.Inner.{Closed-labelled, Truth-found, Judged};
 
 // The number of a position on a lasso (document 01: a place), kept apart from subformulas.
 pub struct Position(pub usize);
 
 // The truth of a formula on a lasso, a refusal's code, or a refusal of reading.
 pub enum Truth {
-    Told(bool),
+    Holds(bool),
     Refused(u8),
     Unread(Refusal),
 }
@@ -80,8 +81,8 @@ fn successor(p: Position, n: usize, stem: usize) -> Position
 
 // Sets the bit of subformula s in each position's word to what its operator says there; false if no word changes.
 fn sweep(rows: &[u8; 144], letters: &[u16], stem: usize, words: &mut [u64], s: Subformula) -> bool
-    requires { ⌜ Ready (now rows) (s .0) (length (now letters)) stem (length (now words)) ⌝ }
-    ensures { λ r. ⌜ Sweeping (now (rows .entry)) (lasso (now (letters .entry)) stem) (s .0)
+    requires { ⌜ Label-ready (now rows) (s .0) (length (now letters)) stem (length (now words)) ⌝ }
+    ensures { λ r. ⌜ Swept-by (now (rows .entry)) (lasso (now (letters .entry)) stem) (s .0)
         (now (words .entry)) (now (words .exit)) r ⌝ }
 {
     let e = s.0;
@@ -114,7 +115,7 @@ fn outside(op: Operator, s: Subformula) -> bool
 
 // Whether no variable in s names a fixpoint around it.
 fn closed(rows: &[u8; 144], s: Subformula) -> bool
-    requires { ⌜ Held (now rows) (s .0) ⌝ }
+    requires { ⌜ Formula-at (now rows) (s .0) ⌝ }
     ensures { λ r. ⌜ Closes (now (rows .entry)) (s .0) r ⌝ }
 {
     let e = s.0;
@@ -138,7 +139,7 @@ struct Moving {
 
 // The subformulas of s that stand in no closed subformula inside it, as the bits of a word.
 fn open_in(rows: &[u8; 144], s: Subformula) -> u64
-    requires { ⌜ Held (now rows) (s .0) ⌝ }
+    requires { ⌜ Formula-at (now rows) (s .0) ⌝ }
     ensures { λ r. ⌜ Open (now (rows .entry)) (s .0) r ⌝ }
 {
     let e = s.0;
@@ -201,7 +202,7 @@ fn insert(keys: &mut [usize], count: usize, key: usize)
 // The order in which a pass takes subformulas: fewer nexts around first, and then the later number. Since a next stands between a fixpoint
 // and its variables, each then stands behind what it needs at the same position. A key is 64 times the nexts, and 63 less the number.
 fn order(rows: &[u8; 144]) -> [usize; 48]
-    requires { ⌜ Held (now rows) 0 ⌝ }
+    requires { ⌜ Formula-at (now rows) 0 ⌝ }
 {
     let end = formula::end(rows, Subformula(0));
     let mut keys = [0usize; 48];
@@ -216,7 +217,7 @@ fn order(rows: &[u8; 144]) -> [usize; 48]
 
 // The subformulas of a mask, in the order of the keys.
 fn listed(keys: &[usize; 48], mask: u64) -> Moving
-    ensures { λ r. ⌜ Listed mask (r .list) (r .count) ⌝ }
+    ensures { λ r. ⌜ Bits-listed mask (r .list) (r .count) ⌝ }
 {
     let mut list = [0u8; 48];
     let mut count = 0usize;
@@ -247,7 +248,7 @@ fn with_all(word: u64, mask: u64, on: bool) -> u64
 // The first n words with the bits of a mask as told.
 fn fill(words: &mut [u64], n: usize, mask: u64, on: bool)
     requires { ⌜ n ≤ length (now words) ⌝ }
-    ensures { λ _. ⌜ Filled n mask on (now (words .entry)) (now (words .exit)) ⌝ }
+    ensures { λ _. ⌜ Bits-filled n mask on (now (words .entry)) (now (words .exit)) ⌝ }
 {
     let mut i = 0;
     while i < n {
@@ -311,8 +312,8 @@ fn pass(
     greatest: bool,
     all: bool,
 ) -> bool
-    requires { ⌜ ReadyPass (now rows) (now list) count (length (now letters)) stem (length (now words)) ⌝ }
-    ensures { λ _. ⌜ Passed (now (rows .entry)) (lasso (now (letters .entry)) stem) (now (list .entry)) count greatest
+    requires { ⌜ Pass-ready (now rows) (now list) count (length (now letters)) stem (length (now words)) ⌝ }
+    ensures { λ _. ⌜ Pass-made (now (rows .entry)) (lasso (now (letters .entry)) stem) (now (list .entry)) count greatest
         (now (words .entry)) (now (words .exit)) ⌝ }
 {
     let mut i = letters.len();
@@ -341,8 +342,8 @@ fn passes(
     count: usize,
     greatest: bool,
 )
-    requires { ⌜ ReadyPass (now rows) (now list) count (length (now letters)) stem (length (now words)) ⌝ }
-    ensures { λ _. ⌜ Passed (now (rows .entry)) (lasso (now (letters .entry)) stem) (now (list .entry)) count greatest
+    requires { ⌜ Pass-ready (now rows) (now list) count (length (now letters)) stem (length (now words)) ⌝ }
+    ensures { λ _. ⌜ Pass-made (now (rows .entry)) (lasso (now (letters .entry)) stem) (now (list .entry)) count greatest
         (now (words .entry)) (now (words .exit)) ⌝ }
 {
     pass(rows, letters, stem, words, list, count, greatest, true);
@@ -366,7 +367,7 @@ fn begin(
     s: Subformula,
     greatest: bool,
 ) -> Moving
-    requires { ⌜ Ready (now rows) (s .0) (length (now letters)) stem (length (now words)) ⌝ }
+    requires { ⌜ Label-ready (now rows) (s .0) (length (now letters)) stem (length (now words)) ⌝ }
     ensures { λ r. ⌜ Begun (now (rows .entry)) (lasso (now (letters .entry)) stem) greatest (s .0) (r .list) (r .count)
         (now (words .entry)) (now (words .exit)) ⌝ }
 {
@@ -387,7 +388,7 @@ fn label(
     words: &mut [u64],
     s: Subformula,
 )
-    requires { ⌜ Ready (now rows) (s .0) (length (now letters)) stem (length (now words)) ⌝ }
+    requires { ⌜ Label-ready (now rows) (s .0) (length (now letters)) stem (length (now words)) ⌝ }
     ensures { λ _. ⌜ Evaluated (now (rows .entry)) (lasso (now (letters .entry)) stem) (s .0) (s .0)
         (now (words .entry)) (now (words .exit)) ⌝ }
 {
@@ -406,7 +407,7 @@ fn label_open(
     words: &mut [u64],
     s: Subformula,
 )
-    requires { ⌜ Ready (now rows) (s .0) (length (now letters)) stem (length (now words)) ⌝ }
+    requires { ⌜ Label-ready (now rows) (s .0) (length (now letters)) stem (length (now words)) ⌝ }
     ensures { λ _. ⌜ Evaluated (now (rows .entry)) (lasso (now (letters .entry)) stem) (s .0 + 1) (s .0)
         (now (words .entry)) (now (words .exit)) ⌝ }
 {
@@ -444,7 +445,7 @@ fn label_fixpoint(
     s: Subformula,
     greatest: bool,
 )
-    requires { ⌜ ReadyFixpoint (now rows) greatest (s .0) (length (now letters)) stem (length (now words)) ⌝ }
+    requires { ⌜ Fixpoint-ready (now rows) greatest (s .0) (length (now letters)) stem (length (now words)) ⌝ }
     ensures { λ _. ⌜ Evaluated (now (rows .entry)) (lasso (now (letters .entry)) stem) (s .0 + 1) (s .0)
         (now (words .entry)) (now (words .exit)) ⌝ }
 {
@@ -469,7 +470,7 @@ fn rounds(
     moving: Moving,
     left: usize,
 ) -> bool
-    requires { ⌜ ReadyRounds (now rows) greatest (s .0) (moving .list) (moving .count) (length (now letters)) stem
+    requires { ⌜ Rounds-ready (now rows) greatest (s .0) (moving .list) (moving .count) (length (now letters)) stem
         (length (now words)) ⌝ }
     ensures { λ r. ⌜ Rounded (now (rows .entry)) (lasso (now (letters .entry)) stem) greatest (s .0) left
         (now (words .entry)) (now (words .exit)) r ⌝ }
@@ -499,7 +500,7 @@ fn round(
     greatest: bool,
     moving: Moving,
 ) -> bool
-    requires { ⌜ ReadyRounds (now rows) greatest (s .0) (moving .list) (moving .count) (length (now letters)) stem
+    requires { ⌜ Rounds-ready (now rows) greatest (s .0) (moving .list) (moving .count) (length (now letters)) stem
         (length (now words)) ⌝ }
     ensures { λ r. ⌜ Rounded (now (rows .entry)) (lasso (now (letters .entry)) stem) greatest (s .0) 1
         (now (words .entry)) (now (words .exit)) r ⌝ }
@@ -535,8 +536,9 @@ fn close(
     words: &mut [u64],
     s: Subformula,
 )
-    requires { ⌜ Ready (now rows) (s .0) (length (now letters)) stem (length (now words)) ⌝ }
-    ensures { λ _. ⌜ Closing (now (rows .entry)) (lasso (now (letters .entry)) stem) (s .0) (now (words .entry)) (now (words .exit)) ⌝ }
+    requires { ⌜ Label-ready (now rows) (s .0) (length (now letters)) stem (length (now words)) ⌝ }
+    ensures { λ _. ⌜ Closed-labelled (now (rows .entry)) (lasso (now (letters .entry)) stem) (s .0) (now (words .entry))
+        (now (words .exit)) ⌝ }
 {
     if closed(rows, s) {
         label_open(rows, keys, letters, stem, words, s);
@@ -545,8 +547,8 @@ fn close(
 
 // Labels the whole formula, each closed subformula after those inside it, and tells its truth at position 0.
 fn whole(rows: &[u8; 144], letters: &[u16], stem: usize, words: &mut [u64]) -> bool
-    requires { ⌜ Ready (now rows) 0 (length (now letters)) stem (length (now words)) ⌝ }
-    ensures { λ r. ⌜ Answered (now (rows .entry)) (lasso (now (letters .entry)) stem) r (now (words .entry)) (now (words .exit)) ⌝ }
+    requires { ⌜ Label-ready (now rows) 0 (length (now letters)) stem (length (now words)) ⌝ }
+    ensures { λ r. ⌜ Truth-found (now (rows .entry)) (lasso (now (letters .entry)) stem) r (now (words .entry)) (now (words .exit)) ⌝ }
 {
     clear(words, letters.len());
     let keys = order(rows);
@@ -560,7 +562,7 @@ fn whole(rows: &[u8; 144], letters: &[u16], stem: usize, words: &mut [u64]) -> b
 
 // The questions after reading: 16, 17 and 18.
 fn judge(t: Table, letters: &[u16], stem: usize, words: &mut [u64]) -> Truth
-    requires { ⌜ Held (t .rows) 0 ⌝ }
+    requires { ⌜ Formula-at (t .rows) 0 ⌝ }
     ensures { λ r. ⌜ Judged (t .rows) (lasso (now (letters .entry)) stem) r (now (words .entry)) (now (words .exit)) ⌝ }
 {
     if letters.len() <= stem {
@@ -573,7 +575,7 @@ fn judge(t: Table, letters: &[u16], stem: usize, words: &mut [u64]) -> Truth
         return Truth::Refused(18);
     }
     let rows = t.rows;
-    Truth::Told(whole(&rows, letters, stem, words))
+    Truth::Holds(whole(&rows, letters, stem, words))
 }
 
 // The truth of the formula that the bytes are, on the lasso of these letters whose stem is so long. Each position's word gets a bit for

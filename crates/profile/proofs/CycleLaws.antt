@@ -27,18 +27,18 @@ unfolding rejecting
 accepting-cycle t {x} m h =
     let p = x .at in
     let closed = same-subset (p .first) (p .last) in
-    let fine = not (rejecting t (p .carried)) in
+    let fine = not (rejecting t (p .triple-set)) in
     let e : p .last ≡ p .first = sym (subset-sound (p .first) (p .last) (and-left closed fine h)) in
     let (r, b) = profiles-run t m in
     record {
       reachable = b .reachable;
-      carried = p .carried;
-      run = subst (λ (v : Subset). Run t (record { first = p .first; last = v; carried = p .carried }) (x .way)) e r;
-      accepts = λ j. T-not (rejecting t (p .carried)) (and-right closed fine h) (rejecting-in t (p .carried) j);
+      triple-set = p .triple-set;
+      run = subst (λ (v : Subset). Run t (record { first = p .first; last = v; triple-set = p .triple-set }) (x .way)) e r;
+      accepts = λ j. T-not (rejecting t (p .triple-set)) (and-right closed fine h) (rejecting-in t (p .triple-set) j);
     }
 
 -- an accepting profile is listed, of a rank of at most n
-pub record Kept (t : Table) (rank-of : Item Transition Profile → ℕ) (n : ℕ) : Type 0 where
+pub record Accepting-listed (t : Table) (rank-of : Item Transition Profile → ℕ) (n : ℕ) : Type 0 where
   pub item : Item Transition Profile
   pub present : List·Memᴰ item (profiles t (nodes t))
   pub accepted : T (accepting t item)
@@ -49,10 +49,10 @@ module _ (t : Table) (distance : Subset → ℕ) (d : ℕ) (rising : Sorted (λ 
   where
     -- and the profile of an accepting cycle elsewhere than at the root is listed, and accepting.
     pub cycle-accepting : {v : Subset} {ss : List Transition} → AcceptingCycle t v ss → (v ≡ root t → ⊥)
-        → Kept t (rank t distance d rising near) (length ss * d + distance v)
+        → Accepting-listed t (rank t distance d rising near) (length ss * d + distance v)
     unfolding rejecting
     cycle-accepting {v} c n =
-        let xs = c .carried in
+        let xs = c .triple-set in
         let (x, m, e, h) = profiles-near t distance d rising near (c .run) (record { reachable = c .reachable; no-root = n }) in
         let good : T (same-subset v v && not (rejecting t xs)) =
         and-both (same-subset v v) (not (rejecting t xs)) (subset-refl v)
@@ -60,6 +60,6 @@ module _ (t : Table) (distance : Subset → ℕ) (d : ℕ) (rising : Sorted (λ 
         record {
           item = x;
           present = m;
-          accepted = subst (λ (p : Profile). T (same-subset (p .first) (p .last) && not (rejecting t (p .carried)))) e good;
+          accepted = subst (λ (p : Profile). T (same-subset (p .first) (p .last) && not (rejecting t (p .triple-set)))) e good;
           low = h;
         }

@@ -6,7 +6,7 @@ use mathlib.Core.List.{List, [], _∷_, map}
 use Prim.Native.Nat.{ℕ}
 use lib.Dec.{eqb}
 use lib.ListN.{length}
-use Rattle.base.specs.Lists.{any, keep}
+use Rattle.base.specs.Lists.{any, filter}
 use Rattle.base.specs.Search.{Item}
 use Rattle.formula.specs.Formula.{Leaf, Formula}
 use Rattle.formula.specs.Table.{Table, table, operator}
@@ -36,17 +36,17 @@ waits = formula-of (parse (0x0A ∷ 0x07 ∷ 0x08 ∷ 0x09 ∷ 0x08 ∷ 0x03 ∷
 abbrev pub after-one-lap : Table → Item Transition Profile → Bool
 after-one-lap t x =
     same-subset (x .at .first) (x .at .last)
-    && not (any (λ (a : Triple). eqb (a .from) (a .to) && is-least (operator t (a .priority))) (x .at .carried))
+    && not (any (λ (a : Triple). eqb (a .from) (a .to) && is-least (operator t (a .priority))) (x .at .triple-set))
 
 -- nothing waits: a cycle none of whose triples has a least fixpoint
 abbrev pub nothing-waits : Table → Item Transition Profile → Bool
 nothing-waits t x =
-    same-subset (x .at .first) (x .at .last) && not (any (λ (a : Triple). is-least (operator t (a .priority))) (x .at .carried))
+    same-subset (x .at .first) (x .at .last) && not (any (λ (a : Triple). is-least (operator t (a .priority))) (x .at .triple-set))
 
 -- the lengths of the runs, one for each profile, that a test accepts
 abbrev pub lengths : Formula → (Table → Item Transition Profile → Bool) → List ℕ
 unfolding table nodes profiles
-lengths f test = map (λ (x : Item Transition Profile). length (x .way)) (keep (test (table f)) (profiles (table f) (nodes (table f))))
+lengths f test = map (λ (x : Item Transition Profile). length (x .way)) (filter (test (table f)) (profiles (table f) (nodes (table f))))
 
 -- By one lap I has cycles to accept, and it has none; if nothing may wait the shortest cycle is not found.
 pub judged :

@@ -10,12 +10,13 @@ use native.Mathlib.Omega.{arith}
 use native.Mathlib.Nat.{mul-assoc, add-mul, one-mul, mul-one}
 use lib.Dec.{T}
 use lib.ListN.{length, length-append, length-map}
-use Rattle.base.specs.Lists.{gather, alike, tail}
+use Rattle.base.specs.Lists.{flat-map, alike, tail}
 use Rattle.base.specs.Search.{Edge, Item, onward}
 use Rattle.base.proofs.BoolLaws.{and-left, and-right, and-both}
-use Rattle.base.proofs.MemberLaws.{gather-of, gather-in, length-gather, alike-sound, alike-refl, parts, parts-length, parts-in, keep-part}
-use Rattle.base.proofs.SearchLaws.{Visits, Distinct, same-number, Found, search-found, search-few, search-distinct, search-short}
-use Rattle.base.proofs.SearchOrder.{Sorted, sorted-same, sorted-append, Within, Far, search-sorted, search-near}
+use Rattle.base.proofs.MemberLaws.{flat-map-of, flat-map-in, length-flat-map, alike-sound, alike-refl, parts, parts-length, parts-in}
+use Rattle.base.proofs.MemberLaws.{filter-part}
+use Rattle.base.proofs.SearchLaws.{Visits, Distinct, same-number, Reachable-by, search-found, search-few, search-distinct, search-short}
+use Rattle.base.proofs.SearchOrder.{Sorted, sorted-same, sorted-append, Rank-within, Far, search-sorted, search-near}
 use Rattle.formula.specs.Table.{Table}
 use Rattle.tableau.specs.Saturation.{Subset, same-subset}
 use Rattle.tableau.specs.Transition.{Transition, transitions}
@@ -42,18 +43,18 @@ pub profile-sound : (a b : Profile) → T (same-profile a b) → a ≡ b
 profile-sound a b h =
     let u = same-subset (a .first) (b .first) in
     let v = same-subset (a .last) (b .last) in
-    let w = alike same-triple (a .carried) (b .carried) in
+    let w = alike same-triple (a .triple-set) (b .triple-set) in
     let x = subset-sound (a .first) (b .first) (and-left u v (and-left (u && v) w h)) in
     let y = subset-sound (a .last) (b .last) (and-right u v (and-left (u && v) w h)) in
-    let z = alike-sound same-triple triple-sound (a .carried) (b .carried) (and-right (u && v) w h) in
-    λ i. record { first = x i; last = y i; carried = z i }
+    let z = alike-sound same-triple triple-sound (a .triple-set) (b .triple-set) (and-right (u && v) w h) in
+    λ i. record { first = x i; last = y i; triple-set = z i }
 
 pub profile-refl : (a : Profile) → T (same-profile a a)
 profile-refl a =
     let u = same-subset (a .first) (a .first) in
     let v = same-subset (a .last) (a .last) in
-    and-both (u && v) (alike same-triple (a .carried) (a .carried)) (and-both u v (subset-refl (a .first)) (subset-refl (a .last)))
-    (alike-refl same-triple triple-refl (a .carried))
+    and-both (u && v) (alike same-triple (a .triple-set) (a .triple-set)) (and-both u v (subset-refl (a .first)) (subset-refl (a .last)))
+    (alike-refl same-triple triple-refl (a .triple-set))
 
 module _ (t : Table) where
   pub run-ends : {p : Profile} {ss : List Transition} → Run t p ss → Reachable t (p .first) → Reachable t (p .last)
@@ -65,7 +66,7 @@ module _ (t : Table) where
   singles n = map (begun t (n .at)) (transitions t (n .at))
 
   abbrev starts : List (Item Transition Profile)
-  starts = gather singles (tail (nodes t))
+  starts = flat-map singles (tail (nodes t))
 
   abbrev room : ℕ
   room = profile-room t (length (nodes t))
@@ -86,17 +87,17 @@ module _ (t : Table) where
 
   start-of : {x : Item Transition Profile} → List·Memᴰ x starts
       → (n : Item Transition Subset) × List·Memᴰ n (tail (nodes t)) × List·Memᴰ x (singles n)
-  start-of m = gather-of singles (tail (nodes t)) m
+  start-of m = flat-map-of singles (tail (nodes t)) m
 
-  found-run : (x : Item Transition Profile) → Found same-profile (profile-edges t) starts x
+  found-run : (x : Item Transition Profile) → Reachable-by same-profile (profile-edges t) starts x
       → Run t (x .at) (x .way) × Begins t (x .at .first)
-  found-run x (Found.start m) =
+  found-run x (Reachable-by.start m) =
       let (n, p, q) = start-of m in
       let (s, r, e) = single-of n q in
       let (i, j) = others-reachable t (n, p, refl) in
       subst (λ (y : Item Transition Profile). Run t (y .at) (y .way) × Begins t (y .at .first)) e
       (one r, record { reachable = i; no-root = j })
-  found-run y (Found.go {x} {e} f m) =
+  found-run y (Reachable-by.go {x} {e} f m) =
       let (s, r, q) = edges-of (x .at) m in
       let (a, b) = found-run x f in
       subst (λ (d : Edge Transition Profile). Run t (d .to) (x .way ++ (d .label ∷ [])) × Begins t (d .to .first)) q (more a r, b)
@@ -109,27 +110,27 @@ module _ (t : Table) where
   node-in r = let (x, m, e) = nodes-all t r in Memᴰ·cast e (Memᴰ·map (λ (x : Item Transition Subset). x .at) m)
 
   abbrev between : Subset → Subset → List Profile
-  between a b = map (λ (c : List Triple). record { first = a; last = b; carried = c }) (parts (all-triples t))
+  between a b = map (λ (c : List Triple). record { first = a; last = b; triple-set = c }) (parts (all-triples t))
 
   abbrev all-profiles : List Profile
-  all-profiles = gather (λ (a : Subset). gather (between a) node-sets) node-sets
+  all-profiles = flat-map (λ (a : Subset). flat-map (between a) node-sets) node-sets
 
-  run-part : {p : Profile} {ss : List Transition} → Run t p ss → List·Memᴰ (p .carried) (parts (all-triples t))
+  run-part : {p : Profile} {ss : List Transition} → Run t p ss → List·Memᴰ (p .triple-set) (parts (all-triples t))
   unfolding triples join
-  run-part (Run.one m) = parts-in (keep-part _ (all-triples t))
-  run-part (Run.more r m) = parts-in (keep-part _ (all-triples t))
+  run-part (Run.one m) = parts-in (filter-part _ (all-triples t))
+  run-part (Run.more r m) = parts-in (filter-part _ (all-triples t))
 
   run-profile : {p : Profile} {ss : List Transition} → Run t p ss → Reachable t (p .first) → List·Memᴰ p all-profiles
   run-profile {p} a r =
-      gather-in (λ (a : Subset). gather (between a) node-sets) (node-in r)
-      (gather-in (between (p .first)) (node-in (run-ends a r))
-      (Memᴰ·map (λ (c : List Triple). record { first = p .first; last = p .last; carried = c }) (run-part a)))
+      flat-map-in (λ (a : Subset). flat-map (between a) node-sets) (node-in r)
+      (flat-map-in (between (p .first)) (node-in (run-ends a r))
+      (Memᴰ·map (λ (c : List Triple). record { first = p .first; last = p .last; triple-set = c }) (run-part a)))
 
   all-length : length all-profiles ≡ length (nodes t) * length (nodes t) * 2 ^ length (all-triples t)
   all-length =
-      length-gather (λ (a : Subset). gather (between a) node-sets) (length node-sets * 2 ^ length (all-triples t)) node-sets
-      (λ a. length-gather (between a) (2 ^ length (all-triples t)) node-sets
-      (λ b. length-map (parts (all-triples t)) (λ (c : List Triple). record { first = a; last = b; carried = c })
+      length-flat-map (λ (a : Subset). flat-map (between a) node-sets) (length node-sets * 2 ^ length (all-triples t)) node-sets
+      (λ a. length-flat-map (between a) (2 ^ length (all-triples t)) node-sets
+      (λ b. length-map (parts (all-triples t)) (λ (c : List Triple). record { first = a; last = b; triple-set = c })
       ∙ parts-length (all-triples t)))
       ∙ simp (length-map, mul-assoc)
 
@@ -191,12 +192,12 @@ module _ (t : Table) (distance : Subset → ℕ) (d : ℕ) (rising : Sorted (λ 
         subst (λ (z : Item Transition Profile). rank z ≡ d + distance (n .at)) q (ap (λ (k : ℕ). k + distance (n .at)) (one-mul d))
 
     singles-sorted : (ns : List (Item Transition Subset)) → Sorted (λ (n : Item Transition Subset). distance (n .at)) ns
-        → Sorted rank (gather (singles t) ns)
+        → Sorted rank (flat-map (singles t) ns)
     singles-sorted [] s = Sorted.none
     singles-sorted (n ∷ ns) (Sorted.more g s) =
         sorted-append rank (sorted-same rank (d + distance (n .at)) (singles t n) (single-rank n)) (singles-sorted ns s)
         (λ x y p q.
-        let (k, i, j) = gather-of (singles t) ns q in
+        let (k, i, j) = flat-map-of (singles t) ns q in
         omega (arith, single-rank n x p, single-rank k y j, g k i))
 
     starts-tight : (y z : Item Transition Profile) → List·Memᴰ y (starts t) → List·Memᴰ z (starts t) → rank z ≤ rank y + d
@@ -217,7 +218,7 @@ module _ (t : Table) (distance : Subset → ℕ) (d : ℕ) (rising : Sorted (λ 
     run-far (Run.one {v} {s} m) b =
         let (x, q, e) = others-all t (b .reachable) (b .no-root) in
         Far.start {x = begun t v s}
-        (gather-in (singles t) q
+        (flat-map-in (singles t) q
         (subst (λ (u : Subset). List·Memᴰ (begun t v s) (map (begun t u) (transitions t u))) e (Memᴰ·map (begun t v) m)))
     run-far (Run.more {p} {ss} {s} r m) b =
         subst (Far same-profile (profile-edges t) rank d (starts t) (extended t p s)) (omega (arith, longer-by ss s))
@@ -225,7 +226,7 @@ module _ (t : Table) (distance : Subset → ℕ) (d : ℕ) (rising : Sorted (λ 
 
     -- and each run's profile is listed, at a rank as low as any run gives it.
     pub profiles-near : {p : Profile} {ss : List Transition} → Run t p ss → Begins t (p .first)
-        → Within rank (profiles t (nodes t)) p (length ss * d + distance (p .first))
+        → Rank-within rank (profiles t (nodes t)) p (length ss * d + distance (p .first))
     unfolding profiles
     profiles-near r b =
         search-near same-profile (profile-edges t) rank d profile-sound raised (starts t) (singles-sorted (tail (nodes t)) rising)
@@ -234,7 +235,7 @@ module _ (t : Table) (distance : Subset → ℕ) (d : ℕ) (rising : Sorted (λ 
 
 -- Theorem: each run's profile is listed, with a run that is no longer.
 pub profiles-all : (t : Table) {p : Profile} {ss : List Transition} → Run t p ss → Begins t (p .first)
-    → Within (λ (x : Item Transition Profile). length (x .way)) (profiles t (nodes t)) p (length ss)
+    → Rank-within (λ (x : Item Transition Profile). length (x .way)) (profiles t (nodes t)) p (length ss)
 profiles-all t {p} {ss} r b =
     let (x, m, e, h) =
     profiles-near t (λ v. 0) 1 (sorted-same (λ (n : Item Transition Subset). 0) 0 (tail (nodes t)) (λ y m. refl)) (λ n m. omega arith) r
@@ -250,5 +251,11 @@ pub profiles-count : (t : Table) (xs : List (Item Transition Profile)) → Disti
     → ((p : Profile) → IsProfile t p → Visits p xs) → length xs ≡ length (profiles t (nodes t))
 profiles-count t xs d f g =
     same-number xs (profiles t (nodes t)) d (profiles-distinct t)
-    (λ p h. let (ss, r, b) = f p h in let (x, m, e, l) = profiles-all t r b in (x, m, e))
-    (λ p h. let (x, m, e) = h in let (r, b) = profiles-run t m in g p (subst⁻¹ (IsProfile t) e (x .way, r, b)))
+    (λ p h.
+    let (ss, r, b) = f p h in
+    let (x, m, e, l) = profiles-all t r b in
+    (x, m, e))
+    (λ p h.
+    let (x, m, e) = h in
+    let (r, b) = profiles-run t m in
+    g p (subst⁻¹ (IsProfile t) e (x .way, r, b)))

@@ -11,8 +11,8 @@ use lib.Dec.{T, eqb, eqb→eq, eqb-refl}
 use lib.ListN.{length, length-map}
 use Rattle.base.specs.Search.{Edge, Item}
 use Rattle.base.proofs.BoolLaws.{and-left, and-right, and-both}
-use Rattle.base.proofs.MemberLaws.{gather-of, gather-in, any-of, any-in}
-use Rattle.base.proofs.SearchLaws.{Visits, Found, search-found, search-few}
+use Rattle.base.proofs.MemberLaws.{flat-map-of, flat-map-in, any-of, any-in}
+use Rattle.base.proofs.SearchLaws.{Visits, Reachable-by, search-found, search-few}
 use Rattle.base.proofs.SearchOrder.{Reach, search-all}
 use Rattle.formula.specs.Table.{Table, operator}
 use Rattle.profile.specs.Traces.{Triple, same-triple, meet, joined}
@@ -36,12 +36,12 @@ module _ (xs : List Triple) where
   abbrev tos : List ℕ
   tos = map (λ (a : Triple). a .to) xs
 
-  found-lap : (x : Item Triple Triple) → Found same-triple (lap-edges xs) (map begun xs) x → Lap xs (x .at)
-  found-lap x (Found.start m) =
+  found-lap : (x : Item Triple Triple) → Reachable-by same-triple (lap-edges xs) (map begun xs) x → Lap xs (x .at)
+  found-lap x (Reachable-by.start m) =
       let (a, r, q) = Memᴰ·of-map begun xs m in
       subst (λ (y : Item Triple Triple). Lap xs (y .at)) q (once r)
-  found-lap y (Found.go {x} {e} f m) =
-      let (b, r, q) = gather-of (λ (b : Triple). map (lap-to b) (meet (x .at) b)) xs m in
+  found-lap y (Reachable-by.go {x} {e} f m) =
+      let (b, r, q) = flat-map-of (λ (b : Triple). map (lap-to b) (meet (x .at) b)) xs m in
       let (c, s, p) = Memᴰ·of-map (lap-to b) (meet (x .at) b) q in
       let (i, j) = meet-of (x .at) b c s in
       subst⁻¹ (Lap xs) (ap (λ (d : Edge Triple Triple). d .to) (sym p) ∙ j) (again (found-lap x f) r i)
@@ -50,7 +50,7 @@ module _ (xs : List Triple) where
   lap-reach a (once m) = Reach.start (begun a, Memᴰ·map begun m, refl)
   lap-reach c (again {a} {b} l m e) =
       Reach.go {e = lap-to b (joined a b)} (lap-reach a l)
-      (gather-in (λ (b : Triple). map (lap-to b) (meet a b)) m (Memᴰ·map (lap-to b) (meet-in a b e)))
+      (flat-map-in (λ (b : Triple). map (lap-to b) (meet a b)) m (Memᴰ·map (lap-to b) (meet-in a b e)))
 
   lap-parts : (a : Triple) → Lap xs a → Parts froms priorities tos a
   lap-parts a (once m) =

@@ -9,7 +9,7 @@ use Prim.Native.Nat.{ℕ, _+_, _<_}
 use native.Mathlib.Omega.{arith}
 use lib.Dec.{T}
 use lib.ListN.{length, length-map}
-use Rattle.base.proofs.MemberLaws.{gather-of}
+use Rattle.base.proofs.MemberLaws.{flat-map-of}
 use Rattle.formula.specs.Formula.{Formula, size}
 use Rattle.formula.specs.Table.{Operator, table-from, table}
 use Rattle.tableau.specs.Saturation.{Subset, has, nothing, add}
@@ -42,7 +42,7 @@ operand-after (Formula.fix k a) e bs m n =
 
 pub operands-after : (f : Formula) {g : ℕ} → List·Memᴰ g (operands (table f)) → 0 < g
 unfolding table
-operands-after f m = let (o, p, n) = gather-of next-of (table f) m in operand-after f 0 [] p n
+operands-after f m = let (o, p, n) = flat-map-of next-of (table f) m in operand-after f 0 [] p n
 
 part-in : {A : Type 0} {x : A} {l xs : List A} → Sublistᴰ l xs → List·Memᴰ x l → List·Memᴰ x xs
 part-in Sublistᴰ·slnil m = m

@@ -11,9 +11,9 @@ use native.Mathlib.Nat.{add-zero}
 use native.Mathlib.Decide.{decLe}
 use lib.Dec.{T, eqb, eqb→eq, eqb-refl}
 use lib.ListN.{length, length-map}
-use Rattle.base.specs.Lists.{gather, any}
+use Rattle.base.specs.Lists.{flat-map, any}
 use Rattle.base.proofs.BoolLaws.{and-left, and-right, and-both}
-use Rattle.base.proofs.MemberLaws.{gather-of, gather-in, length-gather, any-of, any-in, keep-of, keep-in}
+use Rattle.base.proofs.MemberLaws.{flat-map-of, flat-map-in, length-flat-map, any-of, any-in, filter-of, filter-in}
 use Rattle.base.proofs.CondLaws.{cond-of, cond-in}
 use Rattle.formula.specs.Table.{Table, operator, is-fix}
 use Rattle.tableau.specs.Nodes.{operands}
@@ -38,7 +38,7 @@ triple-refl a =
 
 -- All triples with parts from three lists: they hold just these, so many.
 abbrev pub cube : List ℕ → List ℕ → List ℕ → List Triple
-cube fs xs gs = gather (λ (f : ℕ). gather (λ (x : ℕ). map (λ (g : ℕ). record { from = f; priority = x; to = g }) gs) xs) fs
+cube fs xs gs = flat-map (λ (f : ℕ). flat-map (λ (x : ℕ). map (λ (g : ℕ). record { from = f; priority = x; to = g }) gs) xs) fs
 
 pub record Parts (fs xs gs : List ℕ) (a : Triple) : Type 0 where
   pub from-in : List·Memᴰ (a .from) fs
@@ -51,21 +51,21 @@ module _ (fs xs gs : List ℕ) where
 
   pub cube-in : (a : Triple) → Parts fs xs gs a → List·Memᴰ a (cube fs xs gs)
   cube-in a p =
-      gather-in (λ f. gather (row f) xs) (p .from-in)
-      (gather-in (row (a .from)) (p .priority-in)
+      flat-map-in (λ f. flat-map (row f) xs) (p .from-in)
+      (flat-map-in (row (a .from)) (p .priority-in)
       (Memᴰ·map (λ (g : ℕ). record { from = a .from; priority = a .priority; to = g }) (p .to-in)))
 
   pub cube-of : (a : Triple) → List·Memᴰ a (cube fs xs gs) → Parts fs xs gs a
   cube-of a m =
-      let (f, p, q) = gather-of (λ f. gather (row f) xs) fs m in
-      let (x, r, s) = gather-of (row f) xs q in
+      let (f, p, q) = flat-map-of (λ f. flat-map (row f) xs) fs m in
+      let (x, r, s) = flat-map-of (row f) xs q in
       let (g, u, e) = Memᴰ·of-map (λ (g : ℕ). record { from = f; priority = x; to = g }) gs s in
       subst (Parts fs xs gs) e (record { from-in = p; priority-in = r; to-in = u })
 
   pub cube-length : length (cube fs xs gs) ≡ length fs * (length xs * length gs)
   cube-length =
-      length-gather (λ f. gather (row f) xs) (length xs * length gs) fs
-      (λ f. length-gather (row f) (length gs) xs (λ x. length-map gs (λ (g : ℕ). record { from = f; priority = x; to = g })))
+      length-flat-map (λ f. flat-map (row f) xs) (length xs * length gs) fs
+      (λ f. length-flat-map (row f) (length gs) xs (λ x. length-map gs (λ (g : ℕ). record { from = f; priority = x; to = g })))
 
 -- The priorities are the numbers of the fixpoints, and none, which is the number of subformulas and the largest.
 cond-more : (b : Bool) (e : ℕ) {k : ℕ} (xs : List ℕ) → List·Memᴰ k xs → List·Memᴰ k (cond b (e ∷ xs) xs)
@@ -110,21 +110,21 @@ pub min-in : (xs : List ℕ) (x y : ℕ) → List·Memᴰ x xs → List·Memᴰ 
 min-in xs x y p q = elim (decLe x y) [ yes h ↦ Memᴰ·cast (omega arith) p | no h ↦ Memᴰ·cast (omega arith) q ]
 
 -- Triples of the table, and lists of them: a set has what the list has that it was made of, as far as it is of the table.
-abbrev pub Fits : Table → Triple → Type 0
-Fits t a = Parts (operands t) (priorities-from 0 t) (operands t) a
+abbrev pub Triple-fits : Table → Triple → Type 0
+Triple-fits t a = Parts (operands t) (priorities-from 0 t) (operands t) a
 
-abbrev pub Known : Table → List Triple → Type 0
-Known t xs = (a : Triple) → List·Memᴰ a xs → Fits t a
+abbrev pub Triples-known : Table → List Triple → Type 0
+Triples-known t xs = (a : Triple) → List·Memᴰ a xs → Triple-fits t a
 
-pub set-of-of : (t : Table) (xs : List Triple) (a : Triple) → List·Memᴰ a (set-of t xs) → Fits t a × List·Memᴰ a xs
+pub set-of-of : (t : Table) (xs : List Triple) (a : Triple) → List·Memᴰ a (set-of t xs) → Triple-fits t a × List·Memᴰ a xs
 set-of-of t xs a m =
-    let (r, h) = keep-of (λ x. any (same-triple x) xs) (all-triples t) m in
+    let (r, h) = filter-of (λ x. any (same-triple x) xs) (all-triples t) m in
     let (b, q, s) = any-of (same-triple a) xs h in
     (cube-of (operands t) (priorities-from 0 t) (operands t) a r, Memᴰ·cast (triple-sound a b s) q)
 
-pub set-of-in : (t : Table) (xs : List Triple) (a : Triple) → Fits t a → List·Memᴰ a xs → List·Memᴰ a (set-of t xs)
+pub set-of-in : (t : Table) (xs : List Triple) (a : Triple) → Triple-fits t a → List·Memᴰ a xs → List·Memᴰ a (set-of t xs)
 set-of-in t xs a f m =
-    keep-in (λ x. any (same-triple x) xs) (cube-in (operands t) (priorities-from 0 t) (operands t) a f)
+    filter-in (λ x. any (same-triple x) xs) (cube-in (operands t) (priorities-from 0 t) (operands t) a f)
     (any-in (same-triple a) m (triple-refl a))
 
 -- MEANING 4.2: the priority of two traces joined is above neither of theirs.
@@ -152,26 +152,26 @@ pub record Joined (xs ys : List Triple) (c : Triple) : Type 0 where
 pub join-of : (t : Table) (xs ys : List Triple) (c : Triple) → List·Memᴰ c (join t xs ys) → Joined xs ys c
 unfolding join
 join-of t xs ys c m =
-    let (k, r) = set-of-of t (gather (λ a. gather (meet a) ys) xs) c m in
-    let (a, p, q) = gather-of (λ a. gather (meet a) ys) xs r in
-    let (b, u, v) = gather-of (meet a) ys q in
+    let (k, r) = set-of-of t (flat-map (λ a. flat-map (meet a) ys) xs) c m in
+    let (a, p, q) = flat-map-of (λ a. flat-map (meet a) ys) xs r in
+    let (b, u, v) = flat-map-of (meet a) ys q in
     record { left = a; right = b; left-in = p; right-in = u; meets = meet-of a b c v .0; is = meet-of a b c v .1 }
 
-pub join-in : (t : Table) (xs ys : List Triple) → Known t xs → Known t ys → (a b : Triple) → List·Memᴰ a xs → List·Memᴰ b ys
+pub join-in : (t : Table) (xs ys : List Triple) → Triples-known t xs → Triples-known t ys → (a b : Triple) → List·Memᴰ a xs → List·Memᴰ b ys
     → a .to ≡ b .from
     → List·Memᴰ (joined a b) (join t xs ys)
 unfolding join
 join-in t xs ys k l a b m n e =
     let p = k a m in
     let q = l b n in
-    set-of-in t (gather (λ a. gather (meet a) ys) xs) (joined a b)
+    set-of-in t (flat-map (λ a. flat-map (meet a) ys) xs) (joined a b)
     (record {
       from-in = p .from-in;
       priority-in = min-in (priorities-from 0 t) (a .priority) (b .priority) (p .priority-in) (q .priority-in);
       to-in = q .to-in;
     })
-    (gather-in (λ a. gather (meet a) ys) m (gather-in (meet a) n (meet-in a b e)))
+    (flat-map-in (λ a. flat-map (meet a) ys) m (flat-map-in (meet a) n (meet-in a b e)))
 
-pub join-known : (t : Table) (xs ys : List Triple) → Known t (join t xs ys)
+pub join-known : (t : Table) (xs ys : List Triple) → Triples-known t (join t xs ys)
 unfolding join
-join-known t xs ys a m = set-of-of t (gather (λ a. gather (meet a) ys) xs) a m .0
+join-known t xs ys a m = set-of-of t (flat-map (λ a. flat-map (meet a) ys) xs) a m .0

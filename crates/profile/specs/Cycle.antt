@@ -29,11 +29,11 @@ pub record Rejecting (t : Table) (xs : List Triple) : Type 0 where
 
 -- the profile of a run from a node back to it
 abbrev pub around : Subset → List Triple → Profile
-around v xs = record { first = v; last = v; carried = xs }
+around v xs = record { first = v; last = v; triple-set = xs }
 
 -- MEANING 4.5: these transitions are an accepting cycle of node v.
 pub record AcceptingCycle (t : Table) (v : Subset) (ss : List Transition) : Type 0 where
   pub reachable : Reachable t v
-  pub carried : List Triple
-  pub run : Run t (around v carried) ss
-  pub accepts : Rejecting t carried → ⊥
+  pub triple-set : List Triple
+  pub run : Run t (around v triple-set) ss
+  pub accepts : Rejecting t triple-set → ⊥

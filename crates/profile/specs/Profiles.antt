@@ -4,7 +4,7 @@ use mathlib.Core.List.{List, [], _∷_, map}
 use Prim.Native.Nat.{ℕ, _+_, _*_, _^_}
 use lib.Dec.{eqb}
 use lib.ListN.{length}
-use Rattle.base.specs.Lists.{gather, any, alike, tail}
+use Rattle.base.specs.Lists.{flat-map, any, alike, tail}
 use Rattle.base.specs.Search.{Edge, Item, search-from}
 use Rattle.formula.specs.Table.{Operator, Table, operator}
 use Rattle.tableau.specs.Saturation.{Subset, same-subset}
@@ -15,25 +15,25 @@ use Rattle.profile.specs.Traces.{Triple, same-triple, all-triples, tripl
 pub record Profile : Type 0 where
   pub first : Subset
   pub last : Subset
-  pub carried : List Triple
+  pub triple-set : List Triple
 
 -- whether two profiles are equal
 abbrev pub same-profile : Profile → Profile → Bool
 same-profile a b =
-    same-subset (a .first) (b .first) && same-subset (a .last) (b .last) && alike same-triple (a .carried) (b .carried)
+    same-subset (a .first) (b .first) && same-subset (a .last) (b .last) && alike same-triple (a .triple-set) (b .triple-set)
 
 -- the profile of a run of one transition from v
 abbrev pub single : Table → Subset → Transition → Profile
-single t v s = record { first = v; last = s .to; carried = triples t v (s .choice) }
+single t v s = record { first = v; last = s .to; triple-set = triples t v (s .choice) }
 
 -- the profile of a run with one transition more
 abbrev pub extended : Table → Profile → Transition → Profile
-extended t p s = record { first = p .first; last = s .to; carried = join t (p .carried) (triples t (p .last) (s .choice)) }
+extended t p s = record { first = p .first; last = s .to; triple-set = join t (p .triple-set) (triples t (p .last) (s .choice)) }
 
 -- a run of one transition as a start of a search
-abbrev pub one-transition : Table → Subset → Transition → Item Transition Profile
+abbrev pub single-item : Table → Subset → Transition → Item Transition Profile
 unfolding triples
-one-transition t v s = record { way = s ∷ []; at = single t v s }
+single-item t v s = record { way = s ∷ []; at = single t v s }
 
 -- one transition more as an edge of a search
 abbrev pub longer : Table → Profile → Transition → Edge Transition Profile
@@ -55,11 +55,11 @@ unfoldable pub profiles : Table → List (Item Transition Subset) → List (Item
 unfolding triples join transitions
 profiles t ns =
     search-from same-profile (profile-edges t) (profile-room t (length ns))
-    (gather (λ (n : Item Transition Subset). map (one-transition t (n .at)) (transitions t (n .at))) (tail ns))
+    (flat-map (λ (n : Item Transition Subset). map (single-item t (n .at)) (transitions t (n .at))) (tail ns))
 
 -- what one triple more makes of a triple, by the triples of a set
 abbrev pub lap-edges : List Triple → Triple → List (Edge Triple Triple)
-lap-edges xs a = gather (λ (b : Triple). map (λ (c : Triple). record { label = b; to = c }) (meet a b)) xs
+lap-edges xs a = flat-map (λ (b : Triple). map (λ (c : Triple). record { label = b; to = c }) (meet a b)) xs
 
 -- more than there can be triples made of parts of these
 abbrev pub lap-room : List Triple → ℕ
@@ -87,4 +87,4 @@ rejecting t xs =
 -- MEANING 4.5: whether the run of a profile is an accepting cycle (document 01: a good loop)
 abbrev pub accepting : Table → Item Transition Profile → Bool
 unfolding rejecting
-accepting t x = same-subset (x .at .first) (x .at .last) && not (rejecting t (x .at .carried))
+accepting t x = same-subset (x .at .first) (x .at .last) && not (rejecting t (x .at .triple-set))

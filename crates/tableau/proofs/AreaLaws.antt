@@ -12,9 +12,9 @@ use lib.Dec.{eqb, ltb}
 use lib.ListN.{length, getD, set, drop, length-append, length-replicate, replicate-append-replicate}
 use lib.Seq.{take-at, drop-drop, drop-append-add, set-at, drop-cons}
 use borrow.Author.Tests.{lt-ltb, le-ltb, eq-eqb, ne-eqb}
-use Rattle.base.specs.Lists.{member, gather, index}
+use Rattle.base.specs.Lists.{member, flat-map, index}
 use Rattle.base.specs.Bytes.{with-number}
-use Rattle.base.proofs.AppendLaws.{gather-append}
+use Rattle.base.proofs.AppendLaws.{flat-map-append}
 use Rattle.base.proofs.BytesLaws.{number-bytes, number-behind}
 use Rattle.base.proofs.IndexLaws.{index-any}
 use Rattle.tableau.specs.Area.{bytes8, eight, store, words-at, lookup, zeros}
@@ -22,8 +22,8 @@ use Rattle.tableau.specs.declared.NodeNumber.{NodeNumber}
 use Rattle.tableau.specs.declared.Lookup.{Lookup}
 use Rattle.tableau.specs.declared.Lookup.the-variants.{Number, Absent}
 
-abbrev pub Small : List ℕ → Type 0
-Small ws = (x : ℕ) → List·Memᴰ x ws → x < 2 ^ 64
+abbrev pub Words-fit : List ℕ → Type 0
+Words-fit ws = (x : ℕ) → List·Memᴰ x ws → x < 2 ^ 64
 
 -- the eight bytes of a word, and what lies behind them
 pub eight-first : (x : ℕ) (a : List ℕ) → x < 2 ^ 64 → eight (bytes8 x ++ a) (8 * 0) ≡ x
@@ -33,41 +33,41 @@ eight-past : (x : ℕ) (a : List ℕ) (i : ℕ) → eight (bytes8 x ++ a) (8 * s
 eight-past x a i =
     ap (eight (bytes8 x ++ a)) {x = 8 * suc i} {y = length (bytes8 x) + 8 * i} (omega arith) ∙ number-behind 8 (bytes8 x) a (8 * i)
 
-pub eight-stored : (ws a : List ℕ) (i : ℕ) → Small ws → i < length ws → eight (gather bytes8 ws ++ a) (8 * i) ≡ getD ws i 0
+pub eight-stored : (ws a : List ℕ) (i : ℕ) → Words-fit ws → i < length ws → eight (flat-map bytes8 ws ++ a) (8 * i) ≡ getD ws i 0
 eight-stored [] a i h l = absurd (omega arith)
-eight-stored (x ∷ ws) a zero h l = eight-first x (gather bytes8 ws ++ a) (h x (List·Memᴰ·head refl))
-eight-stored (x ∷ ws) a (suc i) h l = eight-past x (gather bytes8 ws ++ a) i ∙ eight-stored ws a i (λ y m. h y (List·Memᴰ·tail m))
+eight-stored (x ∷ ws) a zero h l = eight-first x (flat-map bytes8 ws ++ a) (h x (List·Memᴰ·head refl))
+eight-stored (x ∷ ws) a (suc i) h l = eight-past x (flat-map bytes8 ws ++ a) i ∙ eight-stored ws a i (λ y m. h y (List·Memᴰ·tail m))
     (omega arith)
 
 words-past : (x : ℕ) (a : List ℕ) (i n : ℕ) → words-at (bytes8 x ++ a) (suc i) n ≡ words-at a i n
 words-past x a i zero = refl
 words-past x a i (suc n) = rw (eight-past x a i, words-past x a (suc i) n)
 
-pub words-stored : (ws a : List ℕ) → Small ws → words-at (gather bytes8 ws ++ a) 0 (length ws) ≡ ws
+pub words-stored : (ws a : List ℕ) → Words-fit ws → words-at (flat-map bytes8 ws ++ a) 0 (length ws) ≡ ws
 words-stored [] a h = refl
 words-stored (x ∷ ws) a h =
     rw (
-      eight-first x (gather bytes8 ws ++ a) (h x (List·Memᴰ·head refl)),
-      words-past x (gather bytes8 ws ++ a) 0 (length ws),
+      eight-first x (flat-map bytes8 ws ++ a) (h x (List·Memᴰ·head refl)),
+      words-past x (flat-map bytes8 ws ++ a) 0 (length ws),
       words-stored ws a (λ y m. h y (List·Memᴰ·tail m)),
     )
 
 -- one word more
-pub stored-length : (ws : List ℕ) → length (gather bytes8 ws) ≡ 8 * length ws
+pub stored-length : (ws : List ℕ) → length (flat-map bytes8 ws) ≡ 8 * length ws
 stored-length [] = refl
 stored-length (x ∷ ws) = omega (arith, stored-length ws)
 
 pub put-store : (ws a : List ℕ) (x : ℕ) → with-number 8 (store ws a) (8 * length ws) x ≡ store (ws ++ (x ∷ [])) a
 put-store ws a x =
     ap (λ (l : List ℕ). l ++ (bytes8 x ++ drop (8 * length ws + 8) (store ws a)))
-    (take-at (gather bytes8 ws) (drop (8 * length ws) a) (8 * length ws) (stored-length ws))
-    ∙ ap (λ (n : ℕ). gather bytes8 ws ++ (bytes8 x ++ drop (n + 8) (store ws a))) (sym (stored-length ws))
-    ∙ ap (λ (l : List ℕ). gather bytes8 ws ++ (bytes8 x ++ l))
-    (drop-append-add (gather bytes8 ws) (drop (8 * length ws) a) 8 ∙ drop-drop 8 (8 * length ws) a)
-    ∙ ap (λ (n : ℕ). gather bytes8 ws ++ (bytes8 x ++ drop n a)) {x = 8 * length ws + 8} {y = 8 * length (ws ++ (x ∷ []))}
+    (take-at (flat-map bytes8 ws) (drop (8 * length ws) a) (8 * length ws) (stored-length ws))
+    ∙ ap (λ (n : ℕ). flat-map bytes8 ws ++ (bytes8 x ++ drop (n + 8) (store ws a))) (sym (stored-length ws))
+    ∙ ap (λ (l : List ℕ). flat-map bytes8 ws ++ (bytes8 x ++ l))
+    (drop-append-add (flat-map bytes8 ws) (drop (8 * length ws) a) 8 ∙ drop-drop 8 (8 * length ws) a)
+    ∙ ap (λ (n : ℕ). flat-map bytes8 ws ++ (bytes8 x ++ drop n a)) {x = 8 * length ws + 8} {y = 8 * length (ws ++ (x ∷ []))}
     (omega (arith, length-append ws (x ∷ [])))
-    ∙ sym (append-assoc (gather bytes8 ws) (bytes8 x) (drop (8 * length (ws ++ (x ∷ []))) a))
-    ∙ ap (λ (l : List ℕ). l ++ drop (8 * length (ws ++ (x ∷ []))) a) (sym (gather-append bytes8 ws (x ∷ [])))
+    ∙ sym (append-assoc (flat-map bytes8 ws) (bytes8 x) (drop (8 * length (ws ++ (x ∷ []))) a))
+    ∙ ap (λ (l : List ℕ). l ++ drop (8 * length (ws ++ (x ∷ []))) a) (sym (flat-map-append bytes8 ws (x ∷ [])))
 
 -- looking for a word, node by node
 module _ (a : List ℕ) (known i x : ℕ) where

@@ -10,10 +10,10 @@ use native.Mathlib.Omega.{arith}
 use lib.Dec.{T, eqb}
 use lib.ListN.{length}
 use lib.Pow.{pow-add}
-use Rattle.base.specs.Lists.{numbers}
+use Rattle.base.specs.Lists.{range}
 use Rattle.base.specs.Sets.{Inside}
 use Rattle.base.proofs.BoolLaws.{by-test, of-T, and-right}
-use Rattle.base.proofs.MemberLaws.{numbers-in}
+use Rattle.base.proofs.MemberLaws.{range-in}
 use Rattle.base.proofs.Inside.{inside-both}
 use Rattle.formula.specs.Table.{Operator, Table, operator, is-or}
 use Rattle.tableau.specs.Saturation.{Subset, has, moves, saturate}
@@ -74,7 +74,7 @@ choice-by-word (o ∷ t) e f = go (is-or o) (f e) (choice-word t (suc e) f) (cho
 choice-by-in : (t : Table) (f : ℕ → Bool) → List·Memᴰ (choice-by t 0 f) (choices t)
 choice-by-in t f =
     rw choice-by-word
-    (Memᴰ·map (choice-of t) (numbers-in 0 (2 ^ ors t) (choice-word t 0 f) (omega arith) (omega (arith, choice-word-lt t 0 f))))
+    (Memᴰ·map (choice-of t) (range-in 0 (2 ^ ors t) (choice-word t 0 f) (omega arith) (omega (arith, choice-word-lt t 0 f))))
 
 -- only an or asks for the pick
 moves-pick : (o : Operator) (a b : Bool) → (T (is-or o) → a ≡ b) → moves o a ≡ moves o b
@@ -180,11 +180,11 @@ choice-of-or (o ∷ t) x (suc e) h =
     h
 
 pub choices-length : (t : Table) {w : Subset} → List·Memᴰ w (choices t) → length w ≡ length t
-choices-length t m = let (x, r, q) = Memᴰ·of-map (choice-of t) (numbers 0 (2 ^ ors t)) m in ap length (sym q) ∙ choice-of-length t x
+choices-length t m = let (x, r, q) = Memᴰ·of-map (choice-of t) (range 0 (2 ^ ors t)) m in ap length (sym q) ∙ choice-of-length t x
 
 choices-or : (t : Table) {w : Subset} → List·Memᴰ w (choices t) → (e : ℕ) → T (has w e) → T (is-or (operator t e))
 choices-or t m e h =
-    let (x, r, q) = Memᴰ·of-map (choice-of t) (numbers 0 (2 ^ ors t)) m in
+    let (x, r, q) = Memᴰ·of-map (choice-of t) (range 0 (2 ^ ors t)) m in
     choice-of-or t x e (subst⁻¹ (λ (w : Subset). T (has w e)) q h)
 
 -- Theorem: a transition is determined by its picks at the or operators that it meets.

@@ -1,5 +1,5 @@
 -- MEANING 3.6. Nothing is saturated to nothing, which requires nothing, so each transition of the empty node leads back to it with no
--- signal (`empty-step`), and there is one, with no pick (`empty-steps`). Assumes nothing.
+-- signal (`empty-transition`), and there is one, with no pick (`empty-transitions`). Assumes nothing.
 use mathlib.Core.Path.{_≡_, refl, ap, subst, _∙_}
 use mathlib.Core.Bool.{Bool, true, false, cond}
 use mathlib.Core.List.{[], _∷_, List·Memᴰ, Memᴰ·map}
@@ -7,7 +7,7 @@ use Prim.Native.Nat.{_/_, _%_, _^_}
 use native.Mathlib.Omega.{arith}
 use lib.Dec.{T, eqb}
 use lib.Pow.{pow-pos}
-use Rattle.base.proofs.MemberLaws.{numbers-in}
+use Rattle.base.proofs.MemberLaws.{range-in}
 use Rattle.base.proofs.Inside.{inside-refl}
 use Rattle.formula.specs.Table.{Table, is-or}
 use Rattle.tableau.specs.Saturation.{Subset, has, nothing, saturate}
@@ -38,16 +38,16 @@ module _ (t : Table) where
   back : (w : Subset) → transition-with t w (saturate t w (nothing t)) ≡ record { choice = w; letter = 0; to = nothing t }
   back w = ap (transition-with t w) (saturated-nothing w) ∙ rw (none-in t, letter-none)
 
-  pub empty-step : (x : Transition) → List·Memᴰ x (transitions t (nothing t)) → (x .to ≡ nothing t) × (x .letter ≡ 0)
-  empty-step x m =
+  pub empty-transition : (x : Transition) → List·Memᴰ x (transitions t (nothing t)) → (x .to ≡ nothing t) × (x .letter ≡ 0)
+  empty-transition x m =
       let e = transition-is t (nothing t) x m ∙ back (x .choice) in
       (ap (λ (y : Transition). y .to) e, ap (λ (y : Transition). y .letter) e)
 
-  pub empty-steps : List·Memᴰ (record { choice = nothing t; letter = 0; to = nothing t }) (transitions t (nothing t))
-  empty-steps =
+  pub empty-transitions : List·Memᴰ (record { choice = nothing t; letter = 0; to = nothing t }) (transitions t (nothing t))
+  empty-transitions =
       subst (λ (x : Transition). List·Memᴰ x (transitions t (nothing t))) (back (nothing t))
       (transition-in t (nothing t) (nothing t)
       (subst (λ (w : Subset). List·Memᴰ w (choices t)) (none-picked t)
-      (Memᴰ·map (choice-of t) (numbers-in 0 (2 ^ ors t) 0 (omega arith) (omega (arith, pow-pos (ors t))))))
+      (Memᴰ·map (choice-of t) (range-in 0 (2 ^ ors t) 0 (omega arith) (omega (arith, pow-pos (ors t))))))
       (λ e h. absurd (nothing-has t e h)) 0
       (λ e h. absurd (nothing-has t e (subst (λ (s : Subset). T (has s e)) (saturated-nothing (nothing t)) h))))

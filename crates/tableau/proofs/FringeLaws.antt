@@ -1,8 +1,8 @@
 -- The least set around a node that no move leaves, by a fringe, the subformulas of the set whose moves are still to be followed. The set
--- lies inside every set around the node that no move leaves, and follows the moves itself but for the fringe (`Closing`). A turn takes a
--- subformula out of the fringe and puts in what its moves add to the set (`spread-turn`). What enters the fringe enters the set once and
--- for all, which is why the turns end (`spread-less`). With no fringe left the set follows the moves, so it is the least (`spread-rest`);
--- where these are the moves of one choice, it is the saturation (`saturated-rest`). Assumes nothing.
+-- lies inside every set around the node that no move leaves, and follows the moves itself but for the fringe (`Moves-closing`). A turn
+-- takes a subformula out of the fringe and puts in what its moves add to the set (`spread-turn`). What enters the fringe enters the set
+-- once and for all, which is why the turns end (`spread-less`). With no fringe left the set follows the moves, so it is the least
+-- (`spread-rest`); where these are the moves of one choice, it is the saturation (`saturated-rest`). Assumes nothing.
 use mathlib.Core.Path.{_≡_, refl, sym, ap, subst, subst⁻¹, _∙_}
 use mathlib.Core.Logic.{_⊎_, inl, inr}
 use mathlib.Core.Bool.{Bool, true, false, cond, not, _||_}
@@ -30,10 +30,10 @@ use Rattle.formula.specs.Formula.{Leaf}
 use Rattle.formula.specs.Table.{Operator, operator}
 use Rattle.formula.specs.Rows.{operator-at}
 use Rattle.tableau.specs.Saturation.{Subset, has, add, moves, saturate}
-use Rattle.tableau.specs.Promise.{table-of, Formed, with-bits, Saturated}
-use Rattle.tableau.proofs.SaturationLaws.{inside-has, has-lt, add-inside, add-has, add-least, Follows, saturate-length}
+use Rattle.tableau.specs.Inner.{table-of, Formed, with-bits, Saturated}
+use Rattle.tableau.proofs.SaturationLaws.{inside-has, has-lt, add-inside, add-has, add-least, Follows-moves, saturate-length}
 use Rattle.tableau.proofs.SaturationLaws.{saturate-holds, saturate-closed, saturate-least}
-use Rattle.tableau.proofs.WordSets.{Below, with-bits-bit, word-add}
+use Rattle.tableau.proofs.WordSets.{All-below, with-bits-bit, word-add}
 use Rattle.tableau.proofs.RowLaws.{moves-below}
 use Rattle.tableau.proofs.LoopLaws.{table-length}
 
@@ -93,24 +93,24 @@ module _ {ms : List ℕ} {fringe e rest set grown : ℕ} (u : Turn ms fringe e r
       omega (arith, or-add-and rest (bitXor grown set), u .left .less, pow-pos e)
 
 -- A set that holds v and follows the moves `go` of its subformulas but those of the fringe, inside every set that holds v and follows all.
-pub record Closing (go : ℕ → List ℕ) (v : Subset) (set fringe : ℕ) : Type 0 where
+pub record Moves-closing (go : ℕ → List ℕ) (v : Subset) (set fringe : ℕ) : Type 0 where
   pub now : Subset
   pub word-is : set ≡ word now
   pub holds : Inside v now
-  pub least : (x : Subset) → Inside v x → Follows go x → Inside now x
+  pub least : (x : Subset) → Inside v x → Follows-moves go x → Inside now x
   pub part : (k : ℕ) → T (bit fringe k) → T (has now k)
   pub follows : (e m : ℕ) → T (has now e) → (T (bit fringe e) → ⊥) → List·Memᴰ m (go e) → m < length now → T (has now m)
 
-module _ {go : ℕ → List ℕ} {v : Subset} {set fringe e rest grown : ℕ} (below : Below (length v) (go e))
+module _ {go : ℕ → List ℕ} {v : Subset} {set fringe e rest grown : ℕ} (below : All-below (length v) (go e))
     (u : Turn (go e) fringe e rest set grown)
-    (b : Closing go v set fringe) where
+    (b : Moves-closing go v set fringe) where
   abbrev after : Subset
   after = add (go e) (b .now)
 
   more : Inside (b .now) after
   more = add-inside (go e) (b .now)
 
-  inside-now : Below (length (b .now)) (go e)
+  inside-now : All-below (length (b .now)) (go e)
   inside-now m r = omega (arith, inside-length (b .holds), below m r)
 
   word-after : grown ≡ word after
@@ -133,7 +133,7 @@ module _ {go : ℕ → List ℕ} {v : Subset} {set fringe e rest grown : ℕ} (b
       by false s old =
           inside-has more m (b .follows i m old (λ f. n (kept u i (eqb-false i e s) f)) r (omega (arith, inside-length more)))
 
-  closing-turn : Closing go v grown (bitOr rest (bitXor grown set))
+  closing-turn : Moves-closing go v grown (bitOr rest (bitXor grown set))
   closing-turn = record {
     now = after;
     word-is = word-after;
@@ -146,7 +146,7 @@ module _ {go : ℕ → List ℕ} {v : Subset} {set fringe e rest grown : ℕ} (b
 -- The loop's invariant. The fringe has only subformulas, even where the node's word is no set's.
 pub record Spread (go : ℕ → List ℕ) (count node set fringe : ℕ) : Type 0 where
   pub few : (k : ℕ) → T (bit fringe k) → k < count
-  pub is : (v : Subset) → length v ≡ count → node ≡ word v → Closing go v set fringe
+  pub is : (v : Subset) → length v ≡ count → node ≡ word v → Moves-closing go v set fringe
 
 pub spread-start : (go : ℕ → List ℕ) {count fringe : ℕ} (node : ℕ) → fringe ≡ node % 2 ^ count → Spread go count node node fringe
 spread-start go {count} {fringe} node q = record {
@@ -173,7 +173,7 @@ module _ {go : ℕ → List ℕ} {count node set fringe : ℕ} (s : Spread go co
     turn : Turn (go e) fringe e rest set grown
     turn = record { there = to-T (bit fringe e) (l .there); left = o; gains = g }
 
-    pub spread-turn : ((i : ℕ) → i < count → Below count (go i)) → Spread go count node grown (bitOr rest (bitXor grown set))
+    pub spread-turn : ((i : ℕ) → i < count → All-below count (go i)) → Spread go count node grown (bitOr rest (bitXor grown set))
     spread-turn f =
         let below = f e (spread-below l) in
         record {
@@ -184,14 +184,14 @@ module _ {go : ℕ → List ℕ} {count node set fringe : ℕ} (s : Spread go co
     pub spread-less : (room : ℕ) → grown ≤ room → 2 * (room - grown) + bitOr rest (bitXor grown set) < 2 * (room - set) + fringe
     spread-less = falls turn
 
-  pub spread-rest : fringe ≡ 0 → (v : Subset) (l : length v ≡ count) (n : node ≡ word v) → Follows go (s .is v l n .now)
+  pub spread-rest : fringe ≡ 0 → (v : Subset) (l : length v ≡ count) (n : node ≡ word v) → Follows-moves go (s .is v l n .now)
   spread-rest z v l n e m h = s .is v l n .follows e m h (λ t. subst T (ap (λ (x : ℕ). bit x e) z ∙ no-bit e) t)
 
 -- the moves of a subformula under the choice of a word
 abbrev pub moves-at : List ℕ → (choice e : ℕ) → List ℕ
 moves-at rows choice e = moves (operator-at rows e) (bit choice e)
 
-pub moves-at-below : {rows : List ℕ} {count : ℕ} → Formed rows count → (choice e : ℕ) → e < count → Below count (moves-at rows choice e)
+pub moves-at-below : {rows : List ℕ} {count : ℕ} → Formed rows count → (choice e : ℕ) → e < count → All-below count (moves-at rows choice e)
 moves-at-below {rows} {count} f choice e h = moves-below count (operator-at rows e) (bit choice e) (f .fits e h)
 
 pub moves-same : (rows : List ℕ) (count : ℕ) {choice e : ℕ} (w : Subset) → choice ≡ word w → e < count

@@ -19,11 +19,12 @@ use Rattle.base.proofs.TestLaws.{eqb-flip}
 use Rattle.base.proofs.At.{at-lt, at-get, at-map, at-before, at-split}
 use Rattle.base.proofs.SpreadLaws.{adds-begins}
 use Rattle.tableau.specs.Saturation.{Subset, same-subset}
-use Rattle.tableau.specs.Area.{eight, store, words-at, Holds, Reached, Reached-word, worded, Reached-sized, Arrives, with-note}
-use Rattle.tableau.specs.Area.{Noted, Keeps, Added}
+use Rattle.tableau.specs.Area.{eight, store, words-at, Nodes-held, Reached-node, Reached-word, worded, Reached-sized, Arrives}
+use Rattle.tableau.specs.Area.{with-note}
+use Rattle.tableau.specs.Area.{Note-of, Nodes-noted, Node-added}
 use Rattle.tableau.specs.declared.Arrival.{Arrival}
 use Rattle.tableau.proofs.WordSets.{same-word}
-use Rattle.tableau.proofs.AreaLaws.{Small, eight-stored, words-stored, put-store}
+use Rattle.tableau.proofs.AreaLaws.{Words-fit, eight-stored, words-stored, put-store}
 use Rattle.tableau.proofs.SizeLaws.{set-small}
 
 -- the words of the nodes
@@ -41,13 +42,13 @@ seen-member k (x ∷ ws) =
 
 -- a note more, and the others stay
 module _ (o : List ℕ) (j p l : ℕ) (room : 2 * j + 2 ≤ length o) where
-  note-same : (x : Reached-word) → p ≡ x .parent - 1 → l ≡ x .label → Noted (with-note o j p l) j x
+  note-same : (x : Reached-word) → p ≡ x .parent - 1 → l ≡ x .label → Note-of (with-note o j p l) j x
   note-same x e f = record {
     parent-is = getD-set-other (set o (2 * j) p) (2 * j + 1) (2 * j) l 0 (λ q. omega arith) ∙ getD-set-same o (2 * j) p 0 (omega arith) ∙ e;
     letter-is = getD-set-same (set o (2 * j) p) (2 * j + 1) l 0 (omega (arith, length-set o (2 * j) p)) ∙ f;
   }
 
-  note-other : (i : ℕ) (x : Reached-word) → i < j → Noted o i x → Noted (with-note o j p l) i x
+  note-other : (i : ℕ) (x : Reached-word) → i < j → Note-of o i x → Note-of (with-note o j p l) i x
   note-other i x h n = record {
     parent-is = getD-set-other (set o (2 * j) p) (2 * j + 1) (2 * i) l 0 (λ q. omega arith)
         ∙ getD-set-other o (2 * j) (2 * i) p 0 (λ q. omega arith) ∙ n .parent-is;
@@ -55,10 +56,10 @@ module _ (o : List ℕ) (j p l : ℕ) (room : 2 * j + 2 ≤ length o) where
         ∙ getD-set-other o (2 * j) (2 * i + 1) p 0 (λ q. omega arith) ∙ n .letter-is;
   }
 
-module _ {capacity known : ℕ} {a area o : List ℕ} {ws : List Reached-word} (k : Keeps capacity known a area o ws) where
+module _ {capacity known : ℕ} {a area o : List ℕ} {ws : List Reached-word} (k : Nodes-noted capacity known a area o ws) where
   -- from the capacity on, what comes later changes nothing
   pub keeps-longer : {r : ℕ} (more : List Reached-word) → capacity ≤ length ws → r ≡ min (length (ws ++ more)) (capacity + 1)
-      → Keeps capacity r a area o (ws ++ more)
+      → Nodes-noted capacity r a area o (ws ++ more)
   keeps-longer more h e = record {
     known-is = e;
     area-is = k .area-is
@@ -78,19 +79,19 @@ module _ {capacity known : ℕ} {a area o : List ℕ} {ws : List Reached-word} (
         k .area-is
         ∙ ap (λ (ns : List ℕ). store ns a) (take-all capacity (words-of ws) (omega (arith, k .known-is, length-map ws word-of)))
 
-    words-are : Small (words-of ws) → words-at area 0 known ≡ words-of ws
+    words-are : Words-fit (words-of ws) → words-at area 0 known ≡ words-of ws
     words-are small =
         ap (λ (n : ℕ). words-at area 0 n) (all-known ∙ sym (length-map ws word-of))
         ∙ ap (λ (b : List ℕ). words-at b 0 (length (words-of ws))) all-stored
         ∙ words-stored (words-of ws) (drop (8 * length (words-of ws)) a) small
 
-    pub is-seen : (x : ℕ) → Small (words-of ws) → seen eqb x ws ≡ member x (words-at area 0 known)
+    pub is-seen : (x : ℕ) → Words-fit (words-of ws) → seen eqb x ws ≡ member x (words-at area 0 known)
     is-seen x small = seen-member x ws ∙ ap (member x) (sym (words-are small))
 
     -- a node more
     keeps-new : {area′ o′ : List ℕ} (x : Reached-word) (p l : ℕ) → known < capacity → 2 * capacity ≤ length o
         → area′ ≡ with-number 8 area (8 * known) (x .at) → o′ ≡ with-note o known p l → p ≡ x .parent - 1 → l ≡ x .label
-        → Keeps capacity (known + 1) a area′ o′ (ws ++ (x ∷ []))
+        → Nodes-noted capacity (known + 1) a area′ o′ (ws ++ (x ∷ []))
     keeps-new {area′} {o′} x p l h room e f q r = record {
       known-is = omega (arith, all-known, length-append ws (x ∷ []));
       area-is = e
@@ -101,61 +102,61 @@ module _ {capacity known : ℕ} {a area o : List ℕ} {ws : List Reached-word} (
           (sym (ap (take capacity) (map-append word-of ws (x ∷ []))
           ∙ take-all capacity (words-of ws ++ (x .at ∷ []))
           (omega (arith, all-known, length-append (words-of ws) (x .at ∷ []), length-map ws word-of))));
-      notes = λ j y s m. subst⁻¹ (λ (n : List ℕ). Noted n j y) f (noted j y s m);
+      notes = λ j y s m. subst⁻¹ (λ (n : List ℕ). Note-of n j y) f (noted j y s m);
     }
       where
-        noted : (j : ℕ) (y : Reached-word) → At (ws ++ (x ∷ [])) j y → j < capacity → Noted (with-note o known p l) j y
+        noted : (j : ℕ) (y : Reached-word) → At (ws ++ (x ∷ [])) j y → j < capacity → Note-of (with-note o known p l) j y
         noted j y s m =
             elim (at-split ws x s) [
               | inl b ↦ note-other o known p l (omega arith) j y (omega (arith, at-lt b, all-known)) (k .notes j y b m)
               | inr b ↦
-                  subst⁻¹ (λ (z : Reached-word). Noted (with-note o known p l) j z) (b .1)
-                  (subst (λ (i : ℕ). Noted (with-note o known p l) i x) {x = known} {y = j} (omega (arith, b .0, all-known))
+                  subst⁻¹ (λ (z : Reached-word). Note-of (with-note o known p l) j z) (b .1)
+                  (subst (λ (i : ℕ). Note-of (with-note o known p l) i x) {x = known} {y = j} (omega (arith, b .0, all-known))
                   (note-same o known p l (omega arith) x q r))
             ]
 
 -- the node of an arrival, by whether its word is among those known
 module _ {area o : List ℕ} {known : ℕ} (s : Arrival) (capacity : ℕ) (fits : known ≤ capacity) where
   -- the test of the definition is that of the code
-  tested : {a : List ℕ} {ws : List Reached-word} {x : Reached-word} {b : Bool} → Keeps capacity known a area o ws
+  tested : {a : List ℕ} {ws : List Reached-word} {x : Reached-word} {b : Bool} → Nodes-noted capacity known a area o ws
       → ((y : Reached-word) → List·Memᴰ y ws → y .at < 2 ^ 64) → Arrives s x → member (s .set) (words-at area 0 known) ≡ b
       → seen eqb (x .at) ws ≡ b
   tested {ws = ws} {x} k small e h =
       is-seen k fits (x .at) (λ n m. let (y, r, q) = Memᴰ·of-map word-of ws m in omega (arith, q, small y r))
       ∙ ap (λ (n : ℕ). member n (words-at area 0 known)) (e .set-is) ∙ h
 
-  pub add-known : member (s .set) (words-at area 0 known) ≡ true → Added known capacity s area o area o known
+  pub add-known : member (s .set) (words-at area 0 known) ≡ true → Node-added known capacity s area o area o known
   add-known h = record {
     is = λ ws x a e k small.
-        subst⁻¹ (λ (b : Bool). Keeps capacity known a area o (cond b ws (ws ++ (x ∷ [])))) (tested k small e h) k;
+        subst⁻¹ (λ (b : Bool). Nodes-noted capacity known a area o (cond b ws (ws ++ (x ∷ [])))) (tested k small e h) k;
   }
 
-  pub add-full : member (s .set) (words-at area 0 known) ≡ false → capacity ≤ known → Added known capacity s area o area o (known + 1)
+  pub add-full : member (s .set) (words-at area 0 known) ≡ false → capacity ≤ known → Node-added known capacity s area o area o (known + 1)
   add-full h l = record {
     is = λ ws x a e k small.
-        subst⁻¹ (λ (b : Bool). Keeps capacity (known + 1) a area o (cond b ws (ws ++ (x ∷ [])))) (tested k small e h)
+        subst⁻¹ (λ (b : Bool). Nodes-noted capacity (known + 1) a area o (cond b ws (ws ++ (x ∷ [])))) (tested k small e h)
         (keeps-longer k (x ∷ []) (omega (arith, all-known k fits)) (omega (arith, all-known k fits, length-append ws (x ∷ []))));
   }
 
   pub add-new : member (s .set) (words-at area 0 known) ≡ false → known < capacity → 2 * capacity ≤ length o → {area′ o′ : List ℕ}
       → area′ ≡ with-number 8 area (8 * known) (s .set) → o′ ≡ with-note o known (s .from .0) (s .letter % 65536)
-      → Added known capacity s area o area′ o′ (known + 1)
+      → Node-added known capacity s area o area′ o′ (known + 1)
   add-new h l room {area′} {o′} p q = record {
     is = λ ws x a e k small.
         let small-letter = e .letter-small in
-        subst⁻¹ (λ (b : Bool). Keeps capacity (known + 1) a area′ o′ (cond b ws (ws ++ (x ∷ [])))) (tested k small e h)
+        subst⁻¹ (λ (b : Bool). Nodes-noted capacity (known + 1) a area′ o′ (cond b ws (ws ++ (x ∷ [])))) (tested k small e h)
         (keeps-new k fits x (s .from .0) (s .letter % 65536) l room (p ∙ ap (with-number 8 area (8 * known)) (sym (e .set-is))) q
         (sym (e .from-is)) (omega (arith, e .letter-is)));
   }
 
 -- the search over sets: a node is known if its word is
-word-seen : {count : ℕ} (l : List Reached) (v : Subset) → Reached-sized count l → length v ≡ count
+word-seen : {count : ℕ} (l : List Reached-node) (v : Subset) → Reached-sized count l → length v ≡ count
     → seen eqb (word v) (map worded l) ≡ seen same-subset v l
 word-seen [] v s h = refl
 word-seen (x ∷ l) v s h =
     rw (same-word (x .at) v (s x (List·Memᴰ·head refl) ∙ sym h), word-seen l v (λ y m. s y (List·Memᴰ·tail m)) h)
 
-word-add : {count : ℕ} (l : List Reached) (x : Reached) → Reached-sized count l → length (x .at) ≡ count
+word-add : {count : ℕ} (l : List Reached-node) (x : Reached-node) → Reached-sized count l → length (x .at) ≡ count
     → add eqb (map worded l) (worded x) ≡ map worded (add same-subset l x)
 word-add l x s h =
     ap (λ (b : Bool). cond b (map worded l) (map worded l ++ (worded x ∷ []))) (word-seen l (x .at) s h)
@@ -165,27 +166,27 @@ word-add l x s h =
     by true = refl
     by false = sym (map-append worded l (x ∷ []))
 
-module _ (l : List Reached) {capacity known : ℕ} {a area o : List ℕ} (k : Keeps capacity known a area o (map worded l)) where
+module _ (l : List Reached-node) {capacity known : ℕ} {a area o : List ℕ} (k : Nodes-noted capacity known a area o (map worded l)) where
   -- past the capacity, what comes later changes nothing
-  pub keeps-more : (more : List Reached) → capacity < known → Keeps capacity known a area o (map worded (l ++ more))
+  pub keeps-more : (more : List Reached-node) → capacity < known → Nodes-noted capacity known a area o (map worded (l ++ more))
   keeps-more more h =
-      subst⁻¹ (Keeps capacity known a area o) (map-append worded l more)
+      subst⁻¹ (Nodes-noted capacity known a area o) (map-append worded l more)
       (keeps-longer k (map worded more) (omega (arith, k .known-is))
       (omega (arith, k .known-is, length-append (map worded l) (map worded more))))
 
-  pub keeps-all : (ys : List Reached) → capacity < known → Keeps capacity known a area o (map worded (adds same-subset l ys))
+  pub keeps-all : (ys : List Reached-node) → capacity < known → Nodes-noted capacity known a area o (map worded (adds same-subset l ys))
   keeps-all ys h =
       let (more, e) = adds-begins same-subset l ys in
-      subst⁻¹ (λ (m : List Reached). Keeps capacity known a area o (map worded m)) e (keeps-more more h)
+      subst⁻¹ (λ (m : List Reached-node). Nodes-noted capacity known a area o (map worded m)) e (keeps-more more h)
 
   -- the area holds the sets
-  pub keeps-holds : Holds capacity known a area (map (λ (x : Reached). x .at) l)
+  pub keeps-holds : Nodes-held capacity known a area (map (λ (x : Reached-node). x .at) l)
   keeps-holds = record {
     known-is = k .known-is
-        ∙ ap (λ (n : ℕ). min n (capacity + 1)) (length-map l worded ∙ sym (length-map l (λ (x : Reached). x .at)));
+        ∙ ap (λ (n : ℕ). min n (capacity + 1)) (length-map l worded ∙ sym (length-map l (λ (x : Reached-node). x .at)));
     area-is = k .area-is
         ∙ ap (λ (ns : List ℕ). store (take capacity ns) a)
-        (map-map word-of worded l ∙ sym (map-map word (λ (x : Reached). x .at) l));
+        (map-map word-of worded l ∙ sym (map-map word (λ (x : Reached-node). x .at) l));
   }
 
   -- where there is room for all, the area has every node
@@ -193,7 +194,7 @@ module _ (l : List Reached) {capacity known : ℕ} {a area o : List ℕ} (k : Ke
     pub known-all : known ≡ length l
     known-all = all-known k fits ∙ length-map l worded
 
-    pub node-word : {count i : ℕ} {x : Reached} → count ≤ 48 → Reached-sized count l → At l i x → eight area (8 * i) ≡ word (x .at)
+    pub node-word : {count i : ℕ} {x : Reached-node} → count ≤ 48 → Reached-sized count l → At l i x → eight area (8 * i) ≡ word (x .at)
     node-word {i = i} {x} h s b =
         ap (λ (c : List ℕ). eight c (8 * i)) (all-stored k fits)
         ∙ eight-stored (words-of (map worded l)) (drop (8 * length (words-of (map worded l))) a) i (small h s)
@@ -203,17 +204,17 @@ module _ (l : List Reached) {capacity known : ℕ} {a area o : List ℕ} (k : Ke
         there : At (words-of (map worded l)) i (word (x .at))
         there = at-map word-of (at-map worded b)
 
-        small : {count : ℕ} → count ≤ 48 → Reached-sized count l → Small (words-of (map worded l))
+        small : {count : ℕ} → count ≤ 48 → Reached-sized count l → Words-fit (words-of (map worded l))
         small h s n m =
             let (w, r, q) = Memᴰ·of-map word-of (map worded l) m in
             let (y, p, e) = Memᴰ·of-map worded l r in
             omega (arith, q, ap word-of e, set-small (y .at) h (s y p))
 
     -- a node more
-    pub keeps-one : {count r : ℕ} {area′ o′ : List ℕ} {s : Arrival} (x : Reached) → count ≤ 48 → Reached-sized count l
-        → length (x .at) ≡ count → Arrives s (worded x) → Added known capacity s area o area′ o′ r
-        → Keeps capacity r a area′ o′ (map worded (add same-subset l x))
+    pub keeps-one : {count r : ℕ} {area′ o′ : List ℕ} {s : Arrival} (x : Reached-node) → count ≤ 48 → Reached-sized count l
+        → length (x .at) ≡ count → Arrives s (worded x) → Node-added known capacity s area o area′ o′ r
+        → Nodes-noted capacity r a area′ o′ (map worded (add same-subset l x))
     keeps-one {count} {r} {area′} {o′} x c z h e ad =
-        subst (Keeps capacity r a area′ o′) (word-add l x z h)
+        subst (Nodes-noted capacity r a area′ o′) (word-add l x z h)
         (ad .is (map worded l) (worded x) a e k
         (λ y m. let (u, p, q) = Memᴰ·of-map worded l m in omega (arith, ap word-of q, set-small (u .at) c (z u p))))

@@ -7,7 +7,7 @@ pub mod WordSets
 pub mod RowLaws
 pub mod LoopLaws
 pub mod FringeLaws
-pub mod StepLaws
+pub mod TargetLaws
 pub mod WidestLaws
 pub mod UnmetLaws
 pub mod AreaLaws

@@ -15,11 +15,11 @@ use lib.Dec.{T, eqb}
 use lib.Pow.{shl-exact, shr-shr}
 use lib.ListN.{length}
 use borrow.Author.Tests.{eqb-false, ne-eqb}
-use Rattle.base.specs.Lists.{gather, any}
+use Rattle.base.specs.Lists.{flat-map, any}
 use Rattle.base.specs.Bits.{bit, word, Lowest, Without}
 use Rattle.base.proofs.BoolLaws.{to-T}
 use Rattle.base.proofs.BitLaws.{set-on, set-none}
-use Rattle.base.proofs.AppendLaws.{any-append, gather-append}
+use Rattle.base.proofs.AppendLaws.{any-append, flat-map-append}
 use Rattle.base.proofs.NumberLaws.{values-length, values-add}
 use Rattle.base.proofs.ShiftLaws.{low-below, low-bit}
 use Rattle.base.proofs.WordLaws.{no-bit, word-bit, word-past}
@@ -27,7 +27,7 @@ use Rattle.formula.specs.Table.{Operator, Table, is-or}
 use Rattle.formula.specs.Rows.{operator-at}
 use Rattle.tableau.specs.Saturation.{Subset, has}
 use Rattle.tableau.specs.Transition.{operators-in, requires, is-false, next-of, ors, choice-of}
-use Rattle.tableau.specs.Promise.{table-of, with-bits, Requires-more, Required, Required-by}
+use Rattle.tableau.specs.Inner.{table-of, with-bits, Requires-more, Required, Required-by}
 use Rattle.tableau.specs.declared.Requirement.{Requirement}
 use Rattle.tableau.proofs.ChoiceLaws.{choice-of-length}
 use Rattle.tableau.proofs.WordSets.{with-bits-append, word-more}
@@ -77,14 +77,14 @@ digit-bit w e (suc zero) h q k = ap (λ (x : ℕ). bit (bitOr w x) k) {x = 1 * 2
 digit-bit w e (suc (suc d)) h q k = absurd (omega arith)
 
 -- the first e rows' part of the choice, and what is left of the choice word behind them
-pub record Chosen (rows : List ℕ) (e x choice left : ℕ) : Type 0 where
+pub record Choice-so-far (rows : List ℕ) (e x choice left : ℕ) : Type 0 where
   pub choice-is : choice ≡ word (choice-of (table-of rows e) x)
   pub left-is : left ≡ x / 2 ^ ors (table-of rows e)
 
-pub chosen-none : (rows : List ℕ) (x : ℕ) → Chosen rows 0 x 0 x
+pub chosen-none : (rows : List ℕ) (x : ℕ) → Choice-so-far rows 0 x 0 x
 chosen-none rows x = record { choice-is = refl; left-is = omega arith }
 
-module _ {rows : List ℕ} {e x choice left : ℕ} (c : Chosen rows e x choice left) where
+module _ {rows : List ℕ} {e x choice left : ℕ} (c : Choice-so-far rows e x choice left) where
   abbrev before : Table
   before = table-of rows e
 
@@ -109,7 +109,7 @@ module _ {rows : List ℕ} {e x choice left : ℕ} (c : Chosen rows e x choice l
   clear = ap (λ (y : ℕ). bit y e) (c .choice-is) ∙ word-past (choice-of before x) e (omega (arith, long))
 
   pub chosen-or : is-or (operator-at rows e) ≡ true → e < 64
-      → Chosen rows (e + 1) x (bitOr choice (left % 2 * 2 ^ e % 2 ^ 64)) (left / 2)
+      → Choice-so-far rows (e + 1) x (bitOr choice (left % 2 * 2 ^ e % 2 ^ 64)) (left / 2)
   chosen-or h few = record {
     choice-is =
         ap (bitOr choice) (shl-exact {a = left % 2} 1 e 64 (omega arith) (omega arith))
@@ -117,7 +117,7 @@ module _ {rows : List ℕ} {e x choice left : ℕ} (c : Chosen rows e x choice l
     left-is = ap (λ (y : ℕ). y / 2) (c .left-is) ∙ shr-shr x (ors before) 1 ∙ ap (λ (n : ℕ). x / 2 ^ n) (sym (ors-one rows e h));
   }
 
-  pub chosen-other : is-or (operator-at rows e) ≡ false → Chosen rows (e + 1) x choice left
+  pub chosen-other : is-or (operator-at rows e) ≡ false → Choice-so-far rows (e + 1) x choice left
   chosen-other h = record {
     choice-is = grown false choice (pick false h) (set-none choice e clear);
     left-is = c .left-is ∙ ap (λ (n : ℕ). x / 2 ^ n) (sym (ors-same rows e h));
@@ -136,19 +136,20 @@ operators-in-more (p ∷ t) o [] = refl
 operators-in-more (p ∷ t) o (true ∷ s) = ap (λ (l : List Operator). p ∷ l) (operators-in-more t o s)
 operators-in-more (p ∷ t) o (false ∷ s) = operators-in-more t o s
 
-gathered : (g : Operator → List ℕ) (os : List Operator) (o : Operator) (x y : ℕ) → x ≡ with-bits (gather g os) 0 → y ≡ with-bits (g o) x
-    → y ≡ with-bits (gather g (os ++ (o ∷ []))) 0
-gathered g os o x y p q =
-    q ∙ ap (with-bits (g o)) p ∙ sym (with-bits-append (gather g os) (g o) 0)
-    ∙ ap (λ (l : List ℕ). with-bits l 0) (sym (gather-append g os (o ∷ []) ∙ ap (λ (l : List ℕ). gather g os ++ l) (append-nil (g o))))
+flat-mapped : (g : Operator → List ℕ) (os : List Operator) (o : Operator) (x y : ℕ) → x ≡ with-bits (flat-map g os) 0
+    → y ≡ with-bits (g o) x
+    → y ≡ with-bits (flat-map g (os ++ (o ∷ []))) 0
+flat-mapped g os o x y p q =
+    q ∙ ap (with-bits (g o)) p ∙ sym (with-bits-append (flat-map g os) (g o) 0)
+    ∙ ap (λ (l : List ℕ). with-bits l 0) (sym (flat-map-append g os (o ∷ []) ∙ ap (λ (l : List ℕ). flat-map g os ++ l) (append-nil (g o))))
 
 required-one : (os : List Operator) (o : Operator) (q r : Requirement) → Required os q → Requires-more o q r → Required (os ++ (o ∷ [])) r
 required-one os o q r k m = record {
-  present-is = gathered (requires true) os o (q .present) (r .present) (k .present-is) (m .present-is);
-  absent-is = gathered (requires false) os o (q .absent) (r .absent) (k .absent-is) (m .absent-is);
+  present-is = flat-mapped (requires true) os o (q .present) (r .present) (k .present-is) (m .present-is);
+  absent-is = flat-mapped (requires false) os o (q .absent) (r .absent) (k .absent-is) (m .absent-is);
   falsum-is = m .falsum-is ∙ ap (λ (b : Bool). b || is-false o) (k .falsum-is)
       ∙ sym (any-append is-false os (o ∷ []) ∙ ap (λ (b : Bool). any is-false os || b) (or-false (is-false o)));
-  to-is = gathered next-of os o (q .to) (r .to) (k .to-is) (m .to-is);
+  to-is = flat-mapped next-of os o (q .to) (r .to) (k .to-is) (m .to-is);
 }
 
 required-none : (rows : List ℕ) (count set : ℕ) → Required-by rows count 0 set (record { present = 0; absent = 0; falsum = false; to = 0 })
@@ -187,7 +188,7 @@ required-upto {rows} {count} {e} {set} {q} m l r =
     m l
 
 -- The loop over the bits of a set: the rows below `upto` are passed, and the rest has the set's bits from there on.
-pub record Passed (rows : List ℕ) (count set rest : ℕ) (q : Requirement) : Type 0 where
+pub record Bits-passed (rows : List ℕ) (count set rest : ℕ) (q : Requirement) : Type 0 where
   pub upto : ℕ
   pub few : upto ≤ count
   pub required : Required-by rows count upto set q
@@ -195,7 +196,7 @@ pub record Passed (rows : List ℕ) (count set rest : ℕ) (q : Requirement) : T
   pub same : (k : ℕ) → upto ≤ k → k < count → bit set k ≡ bit rest k
 
 pub passed-none : (rows : List ℕ) {count rest : ℕ} (set : ℕ) → rest ≡ set % 2 ^ count
-    → Passed rows count set rest (record { present = 0; absent = 0; falsum = false; to = 0 })
+    → Bits-passed rows count set rest (record { present = 0; absent = 0; falsum = false; to = 0 })
 passed-none rows {count} {rest} set q = record {
   upto = 0;
   few = omega arith;
@@ -204,12 +205,12 @@ passed-none rows {count} {rest} set q = record {
   same = λ k a b. sym (ap (λ (x : ℕ). bit x k) q ∙ low-bit count set k b);
 }
 
-module _ {rows : List ℕ} {count set rest : ℕ} {q : Requirement} (p : Passed rows count set rest q) where
+module _ {rows : List ℕ} {count set rest : ℕ} {q : Requirement} (p : Bits-passed rows count set rest q) where
   pub passed-below : {e : ℕ} → Lowest rest e → e < count
   passed-below {e} l = p .ahead e (to-T (bit rest e) (l .there)) .1
 
   pub passed-more : {e left : ℕ} {r : Requirement} → Lowest rest e → Without rest e left → Requires-more (operator-at rows e) q r
-      → Passed rows count set left r
+      → Bits-passed rows count set left r
   passed-more {e} {left} {r} l o m = record {
     upto = e + 1;
     few = omega (arith, here .1);

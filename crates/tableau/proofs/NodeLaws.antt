@@ -13,9 +13,9 @@ use lib.ListN.{length, length-map, length-append}
 use Rattle.base.specs.Lists.{tail}
 use Rattle.base.specs.Search.{Edge, Item, onward}
 use Rattle.base.proofs.MemberLaws.{parts, parts-length, parts-in}
-use Rattle.base.proofs.SearchLaws.{Visits, visits-cons, Distinct, Found, same-number, search-found, search-first, search-distinct}
+use Rattle.base.proofs.SearchLaws.{Visits, visits-cons, Distinct, Reachable-by, same-number, search-found, search-first, search-distinct}
 use Rattle.base.proofs.SearchLaws.{search-few, search-short}
-use Rattle.base.proofs.SearchOrder.{Sorted, sorted-same, Within, Far, search-sorted, search-near}
+use Rattle.base.proofs.SearchOrder.{Sorted, sorted-same, Rank-within, Far, search-sorted, search-near}
 use Rattle.base.proofs.Inside.{inside-length}
 use Rattle.formula.specs.Formula.{Formula}
 use Rattle.formula.specs.Table.{Operator, Table, table, is-next}
@@ -51,11 +51,11 @@ abbrev node-sets : Table → List Subset
 node-sets t = root t ∷ map (λ (ms : List ℕ). add ms (nothing t)) (parts (operands t))
 
 module _ (t : Table) where
-  found-along : {x : Item Transition Subset} → Found same-subset (edges t) (starts t) x → Along t (root t) (x .way) (x .at)
+  found-along : {x : Item Transition Subset} → Reachable-by same-subset (edges t) (starts t) x → Along t (root t) (x .way) (x .at)
   unfolding transitions
-  found-along (Found.start m) =
+  found-along (Reachable-by.start m) =
       subst⁻¹ (λ (y : Item Transition Subset). Along t (root t) (y .way) (y .at)) (List·Memᴰ·eq-of-singleton m) Along.stay
-  found-along (Found.go {x} {e} f m) =
+  found-along (Reachable-by.go {x} {e} f m) =
       let (s, r, q) = Memᴰ·of-map edge-of (transitions t (x .at)) m in
       subst (λ (d : Edge Transition Subset). Along t (root t) (x .way ++ (d .label ∷ [])) (d .to)) q (Along.on (found-along f) r)
 
@@ -119,7 +119,7 @@ module _ (t : Table) where
       (λ y z p q. omega (arith, start-way z q)) (fuel t)
 
   -- Theorem: whatever the root leads to is listed, with a way that is as short as any.
-  pub nodes-near : {v : Subset} {ss : List Transition} → Along t (root t) ss v → Within way-length (nodes t) v (length ss)
+  pub nodes-near : {v : Subset} {ss : List Transition} → Along t (root t) ss v → Rank-within way-length (nodes t) v (length ss)
   unfolding nodes
   nodes-near a =
       search-near same-subset (edges t) way-length 1 subset-sound raised (starts t) (sorted-same way-length 0 (starts t) start-way)

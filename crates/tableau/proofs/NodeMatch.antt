@@ -21,7 +21,7 @@ use Rattle.tableau.specs.Saturation.{Subset, same-subset}
 use Rattle.tableau.specs.Transition.{Transition, transitions}
 use Rattle.tableau.specs.Nodes.{root, edges, operands, nodes}
 use Rattle.tableau.specs.Origins.{way-letters, parent-at, Origin, Origins}
-use Rattle.tableau.specs.Area.{reachable, Reached, worded, root-reached, reached-by, outs, Noted}
+use Rattle.tableau.specs.Area.{reachable, Reached-node, worded, root-reached, reached-by, outs, Note-of}
 use Rattle.tableau.proofs.SaturationLaws.{subset-sound, subset-refl}
 use Rattle.tableau.proofs.NodeLaws.{nodes-few}
 
@@ -33,19 +33,19 @@ abbrev Itself : Subset → Subset → Type 0
 Itself u v = u ≡ v
 
 -- the same nodes, and the ways to them by the letters
-abbrev pub Matched : List Reached → List (Item Transition Subset) → Type 0
+abbrev pub Matched : List Reached-node → List (Item Transition Subset) → Type 0
 Matched l ns = Matches letter edge-label Itself l ns
 
 module _ (t : Table) where
   -- what node i leads to
-  abbrev pub onward-from : ℕ → Reached → List Reached
+  abbrev pub onward-from : ℕ → Reached-node → List Reached-node
   onward-from i x = outs t i (x .at)
 
-  abbrev step-from : Item Transition Subset → Transition → Item Transition Subset
-  step-from y s = record { way = y .way ++ (s ∷ []); at = s .to }
+  abbrev target-from : Item Transition Subset → Transition → Item Transition Subset
+  target-from y s = record { way = y .way ++ (s ∷ []); at = s .to }
 
   goes-on : (all : List (Item Transition Subset)) (i : ℕ) (y : Item Transition Subset) → At all i y → (s : Transition)
-      → Follows letter edge-label Itself all (reached-by i s) (step-from y s)
+      → Follows letter edge-label Itself all (reached-by i s) (target-from y s)
   goes-on all i y stands s = record {
     codes = refl;
     before = map letter (y .way);
@@ -54,14 +54,14 @@ module _ (t : Table) where
         ∙ ap (λ (b : Bool). map letter (y .way) ++ cond b [] (s .letter ∷ [])) (sym (eqb·suc-zero i));
   }
 
-  expands : (all : List (Item Transition Subset)) (i : ℕ) (x : Reached) (y : Item Transition Subset) → At all i y → x .at ≡ y .at
+  expands : (all : List (Item Transition Subset)) (i : ℕ) (x : Reached-node) (y : Item Transition Subset) → At all i y → x .at ≡ y .at
       → Thins letter edge-label Itself all [] (onward-from i x) (onwards same-subset (edges t) y)
   unfolding transitions
   expands all i x y stands e =
       subst⁻¹ (λ (v : Subset). Thins letter edge-label Itself all [] (outs t i v) (onwards same-subset (edges t) y)) e
       (subst⁻¹ (Thins letter edge-label Itself all [] (outs t i (y .at)))
       (map-map (onward same-subset (edges t) y) _ (transitions t (y .at)))
-      (pairs-thins (pairs-maps (reached-by i) (step-from y) (transitions t (y .at)) (λ s m. goes-on all i y stands s)) []))
+      (pairs-thins (pairs-maps (reached-by i) (target-from y) (transitions t (y .at)) (λ s m. goes-on all i y stands s)) []))
 
   begins : Thins letter edge-label Itself [] [] (root-reached t ∷ []) (record { way = []; at = root t } ∷ [])
   begins = pairs-thins (Pairs.more (record { codes = refl; before = []; parent = start; way = refl }) Pairs.none) []
@@ -74,7 +74,7 @@ module _ (t : Table) where
       subset-refl (λ j k l p q. sym p ∙ q) (λ i j k p q. p ∙ sym q) onward-from expands (2 + 2 ^ length (operands t)) fuel
       (record { way = []; at = root t } ∷ []) (root-reached t ∷ []) begins (omega (arith, nodes-few t)) h
 
-  pub matched-sets : {l : List Reached} → Matched l (nodes t) → map (λ (x : Reached). x .at) l ≡ reachable t
+  pub matched-sets : {l : List Reached-node} → Matched l (nodes t) → map (λ (x : Reached-node). x .at) l ≡ reachable t
   matched-sets m = matches-vertices letter edge-label m
 
   -- the letters of the way to a node
@@ -86,8 +86,8 @@ module _ (t : Table) where
   letters-at a = ap (λ (y : Item Transition Subset). map letter (y .way)) (at-get a nowhere)
 
   -- one node, reached from another
-  origin : (x : Reached) (j k : ℕ) (before : List ℕ) {o : List ℕ} → Before letter edge-label Itself (nodes t) k before
-      → x .parent ≡ k → 0 < k → k ≤ j → Noted o j (worded x) → way-letters t j ≡ before ++ edge-label x → Origin t o j
+  origin : (x : Reached-node) (j k : ℕ) (before : List ℕ) {o : List ℕ} → Before letter edge-label Itself (nodes t) k before
+      → x .parent ≡ k → 0 < k → k ≤ j → Note-of o j (worded x) → way-letters t j ≡ before ++ edge-label x → Origin t o j
   origin x j k before start e h l n w = absurd (omega arith)
   origin x j k before {o} (item {i} a) e h l n w =
       let p : parent-at o j ≡ i = n .parent-is ∙ omega (arith, e) in
@@ -101,8 +101,8 @@ module _ (t : Table) where
       }
 
   -- where each node but the root was reached from another, the notes of all tell their ways
-  pub notes-origins : {l : List Reached} {o : List ℕ} → Matched l (nodes t)
-      → ((j : ℕ) (x : Reached) → At l j x → 0 < j → 0 < x .parent) → ((j : ℕ) (x : Reached) → At l j x → Noted o j (worded x))
+  pub notes-origins : {l : List Reached-node} {o : List ℕ} → Matched l (nodes t)
+      → ((j : ℕ) (x : Reached-node) → At l j x → 0 < j → 0 < x .parent) → ((j : ℕ) (x : Reached-node) → At l j x → Note-of o j (worded x))
       → Origins t o (length l)
   notes-origins {l} {o} m others notes = record { is = λ j h n. go j h n }
     where

@@ -16,35 +16,36 @@ use Rattle.base.proofs.BytesLaws.{number-same}
 use Rattle.tableau.specs.Saturation.{Subset}
 use Rattle.tableau.specs.Transition.{Transition}
 use Rattle.tableau.specs.Nodes.{nodes}
-use Rattle.tableau.specs.Promise.{table-of, Formed}
-use Rattle.tableau.specs.Area.{eight, store, words-at, Holds, reachable, Sized}
+use Rattle.tableau.specs.Inner.{table-of, Formed}
+use Rattle.tableau.specs.Area.{eight, store, words-at, Nodes-held, reachable, Subsets-sized}
 use Rattle.tableau.proofs.NodeLaws.{nodes-along, reachable-length}
 use Rattle.tableau.proofs.LoopLaws.{table-length}
 use Rattle.tableau.proofs.AreaLaws.{words-length, words-stored}
 use Rattle.tableau.proofs.SizeLaws.{words-small}
 
 -- a node has a Bool for each subformula
-pub reachable-sized : (t : Table) → Sized (length t) (reachable t)
+pub reachable-sized : (t : Table) → Subsets-sized (length t) (reachable t)
 reachable-sized t u m =
     let (x, r, q) = Memᴰ·of-map (λ (x : Item Transition Subset). x .at) (nodes t) m in
     ap length (sym q) ∙ reachable-length t (x .way, nodes-along t r)
 
 -- the area's first words are those of the nodes l
-pub record Kept (l : List Subset) (area : List ℕ) : Type 0 where
+pub record Words-kept (l : List Subset) (area : List ℕ) : Type 0 where
   pub words : words-at area 0 (length l) ≡ map word l
 
 -- where there is room for all, the area has every node
-holds-stored : {capacity known : ℕ} {a area : List ℕ} {l : List Subset} → Holds capacity known a area l → known ≤ capacity
+holds-stored : {capacity known : ℕ} {a area : List ℕ} {l : List Subset} → Nodes-held capacity known a area l → known ≤ capacity
     → area ≡ store (map word l) a
 holds-stored {capacity} {a = a} {l = l} hs fits =
     hs .area-is
     ∙ ap (λ (ws : List ℕ). store ws a) (take-all capacity (map word l) (omega (arith, hs .known-is, length-map l word)))
 
 pub nodes-kept : {rows : List ℕ} {count capacity known : ℕ} {a area : List ℕ} → Formed rows count
-    → Holds capacity known a area (reachable (table-of rows count)) → known ≤ capacity → Kept (reachable (table-of rows count)) area
+    → Nodes-held capacity known a area (reachable (table-of rows count)) → known ≤ capacity
+    → Words-kept (reachable (table-of rows count)) area
 nodes-kept {rows} {count} {a = a} f hs fits =
     let l = reachable (table-of rows count) in
-    let sized : Sized count l = λ u m. reachable-sized (table-of rows count) u m ∙ table-length rows count in
+    let sized : Subsets-sized count l = λ u m. reachable-sized (table-of rows count) u m ∙ table-length rows count in
     let stored = holds-stored hs fits in
     record {
       words = rw (stored, ← length-map l word)
@@ -72,7 +73,7 @@ words-same a b j zero f = refl
 words-same a b j (suc n) f =
     rw (eight-same a b (8 * j) (λ k h. f k (omega arith)), words-same a b (suc j) n (λ k h. f k (omega arith)))
 
-module _ {l : List Subset} {area : List ℕ} (k : Kept l area) where
+module _ {l : List Subset} {area : List ℕ} (k : Words-kept l area) where
   pub kept-at : (i : ℕ) → i < length l → eight area (8 * i) ≡ word (getD l i [])
   kept-at i h =
       ap (λ (j : ℕ). eight area (8 * j)) (sym (zero-add i)) ∙ sym (words-at-get area 0 (length l) i h)

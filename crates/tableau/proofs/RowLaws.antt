@@ -15,15 +15,15 @@ use Rattle.formula.specs.declared.Operator.the-variants.{Constant, Signal, Vari
 use Rattle.formula.proofs.FitLaws as fits
 use Rattle.tableau.specs.Saturation.{moves}
 use Rattle.tableau.specs.Transition.{requires, next-of}
-use Rattle.tableau.specs.Promise.{Formed, with-bits, Requires-more}
+use Rattle.tableau.specs.Inner.{Formed, with-bits, Requires-more}
 use Rattle.tableau.specs.declared.Requirement.{Requirement}
-use Rattle.tableau.proofs.WordSets.{Below, below-none, below-cons, below-one}
+use Rattle.tableau.proofs.WordSets.{All-below, below-none, below-cons, below-one}
 
 pub placed : {rows : List ℕ} {count e : ℕ} → Formed rows count → e < count → Placed rows e
 placed {rows} {count} {e} f h = fits.placed rows count e (f .few) h (f .fits e h)
 
 -- in range
-pub moves-below : (n : ℕ) (o : Operator) (p : Bool) → Fits n o → Below n (moves o p)
+pub moves-below : (n : ℕ) (o : Operator) (p : Bool) → Fits n o → All-below n (moves o p)
 moves-below n (Operator.leaf l) p f = below-none n
 moves-below n (Operator.variable m) p f = below-one n m f
 moves-below n (Operator.pair true l r) true f = below-one n r (f .1)
@@ -32,14 +32,14 @@ moves-below n (Operator.pair false l r) p f = below-cons (f .0) (below-one n r (
 moves-below n (Operator.next g) p f = below-none n
 moves-below n (Operator.fix g b) p f = below-one n b f
 
-pub next-below : (n : ℕ) (o : Operator) → Fits n o → Below n (next-of o)
+pub next-below : (n : ℕ) (o : Operator) → Fits n o → All-below n (next-of o)
 next-below n (Operator.leaf l) f = below-none n
 next-below n (Operator.variable m) f = below-none n
 next-below n (Operator.pair o l r) f = below-none n
 next-below n (Operator.next g) f = below-one n g f
 next-below n (Operator.fix g b) f = below-none n
 
-pub present-below : (n : ℕ) (o : Operator) → Fits n o → Below 16 (requires true o)
+pub present-below : (n : ℕ) (o : Operator) → Fits n o → All-below 16 (requires true o)
 present-below n (Operator.leaf (Leaf.constant b)) f = below-none 16
 present-below n (Operator.leaf (Leaf.signal true j)) f = below-one 16 j (omega arith)
 present-below n (Operator.leaf (Leaf.signal false j)) f = below-none 16

@@ -15,7 +15,7 @@ use Rattle.base.specs.Lists.{same-bit}
 use Rattle.base.specs.Sets.{Below, Inside}
 use Rattle.base.proofs.BoolLaws.{by-test, of-T, to-T, same-bit-sound, same-bit-refl}
 use Rattle.base.proofs.MemberLaws.{alike-sound, alike-refl}
-use Rattle.base.proofs.ListLaws.{repeat-keeps}
+use Rattle.base.proofs.ListLaws.{iterate-keeps}
 use Rattle.base.proofs.Inside.{below-greatest, inside-at, inside-of, inside-length, inside-refl, inside-trans, inside-both, waiting-le}
 use Rattle.base.proofs.Inside.{rests}
 use Rattle.formula.specs.Table.{Operator, Table, operator}
@@ -139,11 +139,11 @@ sweep-mono [] w e i = i
 sweep-mono (o ∷ t) w e i = sweep-mono t w (suc e) (added-mono o w e i)
 
 -- a move from a subformula of the set to one of the table stays in the set: for any moves, and for those of a choice
-abbrev pub Follows : (ℕ → List ℕ) → Subset → Type 0
-Follows go v = (e m : ℕ) → T (has v e) → List·Memᴰ m (go e) → m < length v → T (has v m)
+abbrev pub Follows-moves : (ℕ → List ℕ) → Subset → Type 0
+Follows-moves go v = (e m : ℕ) → T (has v e) → List·Memᴰ m (go e) → m < length v → T (has v m)
 
-abbrev pub Closed : Table → (choice : Subset) → Subset → Type 0
-Closed t w v = Follows (λ e. moves (operator t e) (has w e)) v
+abbrev pub Closed-under : Table → (choice : Subset) → Subset → Type 0
+Closed-under t w v = Follows-moves (λ e. moves (operator t e) (has w e)) v
 
 -- the same for a part of a table, whose first subformula is e
 abbrev Closed-from : Table → (choice : Subset) → ℕ → Subset → Type 0
@@ -178,13 +178,13 @@ sweep-least (o ∷ t) w e i c =
 module _ (t : Table) (w : Subset) where
   -- the saturation holds the node,
   pub saturate-holds : (v : Subset) → Inside v (saturate t w v)
-  saturate-holds v = repeat-keeps (Inside v) (length t) (sweep t w 0) (λ u i. inside-trans i (sweep-inside t w 0 u)) v (inside-refl v)
+  saturate-holds v = iterate-keeps (Inside v) (length t) (sweep t w 0) (λ u i. inside-trans i (sweep-inside t w 0 u)) v (inside-refl v)
 
   pub saturate-length : (v : Subset) → length (saturate t w v) ≡ length v
   saturate-length v = sym (inside-length (saturate-holds v))
 
   -- follows the moves,
-  pub saturate-closed : (v : Subset) → length v ≡ length t → Closed t w (saturate t w v)
+  pub saturate-closed : (v : Subset) → length v ≡ length t → Closed-under t w (saturate t w v)
   saturate-closed v len e m h r l =
       let s = saturate t w v in
       let rest : sweep t w 0 s ≡ s =
@@ -192,7 +192,7 @@ module _ (t : Table) (w : Subset) where
       sweep-closed t w 0 s s (subst⁻¹ (λ (u : Subset). Inside u s) rest (inside-refl s)) e m (rw zero-add h) (rw zero-add r) l
 
   -- and is inside every set that does both
-  pub saturate-least : {v u : Subset} → Inside v u → Closed t w u → Inside (saturate t w v) u
+  pub saturate-least : {v u : Subset} → Inside v u → Closed-under t w u → Inside (saturate t w v) u
   saturate-least {v} {u} i c =
-      repeat-keeps (λ (x : Subset). Inside x u) (length t) (sweep t w 0)
+      iterate-keeps (λ (x : Subset). Inside x u) (length t) (sweep t w 0)
       (λ x p. sweep-least t w 0 p (λ e m h r l. c e m (rw zero-add at h) (rw zero-add at r) l)) v i

@@ -15,7 +15,7 @@ use borrow.Author.Tests.{eq-eqb, ne-eqb}
 use Rattle.base.specs.Lists.{member}
 use Rattle.base.specs.Bytes.{with-number}
 use Rattle.base.proofs.BytesLaws.{number-same, number-written, before-written}
-use Rattle.tableau.specs.Area.{eight, words-at, slot-of, Marked}
+use Rattle.tableau.specs.Area.{eight, words-at, slot-of, Slots-marked}
 
 -- whether a word is among those of n places, by what stands there
 no-member : (x : ℕ) (a : List ℕ) (i n : ℕ) → ((j : ℕ) → i ≤ j → j < i + n → eight a (8 * j) ≡ x → ⊥) → member x (words-at a i n) ≡ false
@@ -35,7 +35,8 @@ a-member x a i (suc n) j l m e =
       | no k ↦ rw (eq-eqb x (eight a (8 * i)) (sym e ∙ ap (λ (k : ℕ). eight a (8 * k)) {x = j} {y = i} (omega arith)))
     ]
 
-pub unmarked : {known k mark : ℕ} {area slots : List ℕ} (x : ℕ) → Marked known area slots → k ≡ slot-of x → mark ≡ getD slots k 0 → mark ≡ 0
+pub unmarked : {known k mark : ℕ} {area slots : List ℕ} (x : ℕ) → Slots-marked known area slots → k ≡ slot-of x → mark ≡ getD slots k 0
+    → mark ≡ 0
     → member x (words-at area 0 known) ≡ false
 unmarked {known} {area = area} {slots} x m p q e =
     no-member x area 0 known
@@ -54,11 +55,11 @@ set-mark slots k j m l p h =
       | no n ↦ subst⁻¹ (λ (y : ℕ). 0 < y) (getD-set-other slots k j m 0 n) (elim h [ inl e ↦ absurd (n e) | inr q ↦ q ])
     ]
 
-pub marked-none : (area slots : List ℕ) → 2048 ≤ length slots → Marked 0 area slots
+pub marked-none : (area slots : List ℕ) → 2048 ≤ length slots → Slots-marked 0 area slots
 marked-none area slots h = record { long = h; is = λ i h. absurd (omega arith) }
 
-pub marked-more : {known k : ℕ} {area area′ slots : List ℕ} (x m : ℕ) → Marked known area slots → 8 * known ≤ length area → x < 2 ^ 64
-    → k ≡ slot-of x → 0 < m → area′ ≡ with-number 8 area (8 * known) x → Marked (known + 1) area′ (set slots k m)
+pub marked-more : {known k : ℕ} {area area′ slots : List ℕ} (x m : ℕ) → Slots-marked known area slots → 8 * known ≤ length area → x < 2 ^ 64
+    → k ≡ slot-of x → 0 < m → area′ ≡ with-number 8 area (8 * known) x → Slots-marked (known + 1) area′ (set slots k m)
 marked-more {known} {k} {area} {area′} {slots} x m ms room small q p e = record {
   long = omega (arith, length-set slots k m, ms .long);
   is = λ i h.

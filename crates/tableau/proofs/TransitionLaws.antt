@@ -14,15 +14,15 @@ use Prim.Native.Nat.{ℕ, zero, suc, _^_, _<_}
 use native.Mathlib.Omega.{arith}
 use lib.Dec.{T, T-not, not-T}
 use lib.ListN.{length, length-map}
-use Rattle.base.specs.Lists.{gather, any, member, numbers}
+use Rattle.base.specs.Lists.{flat-map, any, member, range}
 use Rattle.base.specs.Bits.{bit}
 use Rattle.base.proofs.BoolLaws.{of-T, and-left, and-right, and-both}
-use Rattle.base.proofs.ListLaws.{getD-map, getD-numbers, length-numbers}
-use Rattle.base.proofs.AppendLaws.{gather-map, numbers-of}
+use Rattle.base.proofs.ListLaws.{getD-map, getD-range, length-range}
+use Rattle.base.proofs.AppendLaws.{flat-map-map, range-of}
 use Rattle.base.proofs.NumberLaws.{values-length}
 use Rattle.base.proofs.WordLaws.{word-bit, word-lt}
 use Rattle.base.proofs.CondLaws.{cond-of}
-use Rattle.base.proofs.MemberLaws.{gather-of, gather-in, any-of, any-in, member-of, member-in, numbers-in}
+use Rattle.base.proofs.MemberLaws.{flat-map-of, flat-map-in, any-of, any-in, member-of, member-in, range-in}
 use Rattle.base.proofs.Inside.{inside-length}
 use Rattle.formula.specs.Formula.{Leaf}
 use Rattle.formula.specs.Table.{Operator, Table, operator}
@@ -30,7 +30,7 @@ use Rattle.tableau.specs.Saturation.{Subset, has, nothing, add, saturate
 use Rattle.tableau.specs.Transition.{operators-in, requires, is-false, possible, letter-of, next-of, ors, choice-of}
 use Rattle.tableau.specs.Transition.{choices, within, Transition, transition-of, by-word, transitions}
 use Rattle.tableau.specs.Nodes.{operands}
-use Rattle.tableau.proofs.SaturationLaws.{inside-has, has-lt, nothing-has, add-inside, add-has, add-of, Closed, saturate-holds}
+use Rattle.tableau.proofs.SaturationLaws.{inside-has, has-lt, nothing-has, add-inside, add-has, add-of, Closed-under, saturate-holds}
 use Rattle.tableau.proofs.SaturationLaws.{saturate-length, saturate-closed}
 
 -- what an operator asks of a letter by itself
@@ -56,22 +56,22 @@ requires-is p (Operator.pair o l r) j m = absurd (List·Memᴰ·not-nil m)
 requires-is p (Operator.next g) j m = absurd (List·Memᴰ·not-nil m)
 requires-is p (Operator.fix g l) j m = absurd (List·Memᴰ·not-nil m)
 
-required-of : (p : Bool) (os : List Operator) {j : ℕ} → List·Memᴰ j (gather (requires p) os)
+required-of : (p : Bool) (os : List Operator) {j : ℕ} → List·Memᴰ j (flat-map (requires p) os)
     → List·Memᴰ (Operator.leaf (Leaf.signal p j)) os
-required-of p os {j} m = let (o, r, q) = gather-of (requires p) os m in Memᴰ·cast (sym (requires-is p o j q)) r
+required-of p os {j} m = let (o, r, q) = flat-map-of (requires p) os m in Memᴰ·cast (sym (requires-is p o j q)) r
 
 required-in : (p : Bool) {os : List Operator} {j : ℕ} → List·Memᴰ (Operator.leaf (Leaf.signal p j)) os
-    → List·Memᴰ j (gather (requires p) os)
-required-in true m = gather-in (requires true) m (List·Memᴰ·head refl)
-required-in false m = gather-in (requires false) m (List·Memᴰ·head refl)
+    → List·Memᴰ j (flat-map (requires p) os)
+required-in true m = flat-map-in (requires true) m (List·Memᴰ·head refl)
+required-in false m = flat-map-in (requires false) m (List·Memᴰ·head refl)
 
-letter-bit : (os : List Operator) (j : ℕ) → j < 16 → bit (letter-of os) j ≡ member j (gather (requires true) os)
+letter-bit : (os : List Operator) (j : ℕ) → j < 16 → bit (letter-of os) j ≡ member j (flat-map (requires true) os)
 unfolding letter-of
 letter-bit os j h =
-    let f : ℕ → Bool = λ i. member i (gather (requires true) os) in
-    word-bit (map f (numbers 0 16)) j
-    ∙ getD-map f (numbers 0 16) j 0 false (omega (arith, length-numbers 0 16))
-    ∙ ap f (getD-numbers 0 16 j 0 h ∙ omega arith)
+    let f : ℕ → Bool = λ i. member i (flat-map (requires true) os) in
+    word-bit (map f (range 0 16)) j
+    ∙ getD-map f (range 0 16) j 0 false (omega (arith, length-range 0 16))
+    ∙ ap f (getD-range 0 16 j 0 h ∙ omega arith)
 
 -- Theorem: where a transition is possible, its letter is allowed by each operator of the set.
 pub possible-allows : (os : List Operator) → T (possible os) → (o : Operator) → List·Memᴰ o os
@@ -84,10 +84,11 @@ possible-allows os h (Operator.leaf (Leaf.signal true j)) m small =
     subst⁻¹ T (letter-bit os j (small true j refl)) (member-in (required-in true m))
 possible-allows os h (Operator.leaf (Leaf.signal false j)) m small =
     subst⁻¹ (λ (b : Bool). T (not b)) (letter-bit os j (small false j refl))
-    (not-T (member j (gather (requires true) os))
+    (not-T (member j (flat-map (requires true) os))
     (λ k.
-    T-not (any (λ j. member j (gather (requires false) os)) (gather (requires true) os)) (and-right (not (any is-false os)) _ h)
-    (any-in (λ j. member j (gather (requires false) os)) (member-of j (gather (requires true) os) k) (member-in (required-in false m)))))
+    T-not (any (λ j. member j (flat-map (requires false) os)) (flat-map (requires true) os)) (and-right (not (any is-false os)) _ h)
+    (any-in (λ j. member j (flat-map (requires false) os)) (member-of j (flat-map (requires true) os) k)
+    (member-in (required-in false m)))))
 possible-allows os h (Operator.variable n) m small = tt
 possible-allows os h (Operator.pair e l r) m small = tt
 possible-allows os h (Operator.next g) m small = tt
@@ -107,10 +108,10 @@ unfolding possible
 possible-of os a f =
     and-both (not (any is-false os)) _
     (not-T (any is-false os) (λ h. let (o, m, k) = any-of is-false os h in never-asked o a k (f o m)))
-    (not-T (any (λ j. member j (gather (requires false) os)) (gather (requires true) os))
+    (not-T (any (λ j. member j (flat-map (requires false) os)) (flat-map (requires true) os))
     (λ h.
-    let (j, m, k) = any-of (λ j. member j (gather (requires false) os)) (gather (requires true) os) h in
-    T-not (bit a j) (f (Operator.leaf (Leaf.signal false j)) (required-of false os (member-of j (gather (requires false) os) k)))
+    let (j, m, k) = any-of (λ j. member j (flat-map (requires false) os)) (flat-map (requires true) os) h in
+    T-not (bit a j) (f (Operator.leaf (Leaf.signal false j)) (required-of false os (member-of j (flat-map (requires false) os) k)))
     (f (Operator.leaf (Leaf.signal true j)) (required-of true os m))))
 
 -- the operators of a set are those of its subformulas
@@ -160,7 +161,7 @@ within-in (true ∷ w) (false ∷ v) f = f 0 tt
 abbrev pub transition-with : Table → (choice : Subset) → Subset → Transition
 transition-with t w s =
     let os = operators-in t s in
-    record { choice = w; letter = letter-of os; to = add (gather next-of os) (nothing t) }
+    record { choice = w; letter = letter-of os; to = add (flat-map next-of os) (nothing t) }
 
 -- a choice gives its transition where the choice is met and the saturated set makes one possible, and else none
 pub transition-by : (t : Table) (w s : Subset) (b : Bool) → (within w s && possible (operators-in t s)) ≡ b
@@ -184,8 +185,8 @@ one-or-none t w s = by (within w s && possible (operators-in t s)) refl
 pub letter-small : (t : Table) (w s : Subset) → transition-with t w s .letter < 65536
 unfolding letter-of
 letter-small t w s =
-    let q : ℕ → Bool = λ j. member j (gather (requires true) (operators-in t s)) in
-    omega (arith, word-lt (map q (numbers 0 16)), ap (λ (n : ℕ). 2 ^ n) (values-length q 0 16))
+    let q : ℕ → Bool = λ j. member j (flat-map (requires true) (operators-in t s)) in
+    omega (arith, word-lt (map q (range 0 16)), ap (λ (n : ℕ). 2 ^ n) (values-length q 0 16))
 
 pub letter-none : letter-of [] ≡ 0
 unfolding letter-of
@@ -193,23 +194,24 @@ letter-none = refl
 
 -- the target has a Bool for each subformula
 pub to-length : (t : Table) (w s : Subset) → length (transition-with t w s .to) ≡ length t
-to-length t w s = sym (inside-length (add-inside (gather next-of (operators-in t s)) (nothing t))) ∙ length-map t (λ (o : Operator). false)
+to-length t w s = sym (inside-length (add-inside (flat-map next-of (operators-in t s)) (nothing t)))
+    ∙ length-map t (λ (o : Operator). false)
 
 module _ (t : Table) (v : Subset) where
   -- the transitions of a node are those of all choice words
-  pub transitions-by-word : transitions t v ≡ gather (λ (x : ℕ). by-word t x v) (numbers 0 (2 ^ ors t))
+  pub transitions-by-word : transitions t v ≡ flat-map (λ (x : ℕ). by-word t x v) (range 0 (2 ^ ors t))
   unfolding transitions
-  transitions-by-word = gather-map (λ (w : Subset). transition-of t w (saturate t w v)) (choice-of t) (numbers 0 (2 ^ ors t))
+  transitions-by-word = flat-map-map (λ (w : Subset). transition-of t w (saturate t w v)) (choice-of t) (range 0 (2 ^ ors t))
 
   pub word-of : {s : Transition} → List·Memᴰ s (transitions t v) → (x : ℕ) × (x < 2 ^ ors t) × List·Memᴰ s (by-word t x v)
   word-of {s} m =
-      let (x, i, r) = gather-of (λ (x : ℕ). by-word t x v) (numbers 0 (2 ^ ors t)) (subst (List·Memᴰ s) transitions-by-word m) in
-      (x, omega (arith, numbers-of 0 (2 ^ ors t) i), r)
+      let (x, i, r) = flat-map-of (λ (x : ℕ). by-word t x v) (range 0 (2 ^ ors t)) (subst (List·Memᴰ s) transitions-by-word m) in
+      (x, omega (arith, range-of 0 (2 ^ ors t) i), r)
 
   pub word-in : {s : Transition} (x : ℕ) → x < 2 ^ ors t → List·Memᴰ s (by-word t x v) → List·Memᴰ s (transitions t v)
   word-in {s} x h m =
       subst⁻¹ (List·Memᴰ s) transitions-by-word
-      (gather-in (λ (x : ℕ). by-word t x v) (numbers-in 0 (2 ^ ors t) x (omega arith) (omega arith)) m)
+      (flat-map-in (λ (x : ℕ). by-word t x v) (range-in 0 (2 ^ ors t) x (omega arith) (omega arith)) m)
 
   -- they are those with a choice that is met, where possible
   transitions-of : (x : Transition) → List·Memᴰ x (transitions t v)
@@ -217,7 +219,7 @@ module _ (t : Table) (v : Subset) where
       × (x ≡ transition-with t w (saturate t w v))
   unfolding transitions
   transitions-of x m =
-      let (w, p, r) = gather-of (λ w. transition-of t w (saturate t w v)) (choices t) m in
+      let (w, p, r) = flat-map-of (λ w. transition-of t w (saturate t w v)) (choices t) m in
       let s = saturate t w v in
       let met = within w s in
       let able = possible (operators-in t s) in
@@ -230,7 +232,7 @@ module _ (t : Table) (v : Subset) where
   transitions-in w p a b =
       let s = saturate t w v in
       let both = and-both (within w s) (possible (operators-in t s)) a b in
-      gather-in (λ w. transition-of t w (saturate t w v)) p
+      flat-map-in (λ w. transition-of t w (saturate t w v)) p
       (subst⁻¹ (List·Memᴰ (transition-with t w s)) (transition-by t w s true (of-T (within w s && possible (operators-in t s)) both))
       (List·Memᴰ·head refl))
 
@@ -240,7 +242,7 @@ pub record Facts (t : Table) (v : Subset) (x : Transition) : Type 0 where
   pub listed : List·Memᴰ (x .choice) (choices t)
   pub met : (e : ℕ) → T (has (x .choice) e) → T (has (saturate t (x .choice) v) e)
   pub enters : (e : ℕ) → T (has v e) → T (has (saturate t (x .choice) v) e)
-  pub follows : Closed t (x .choice) (saturate t (x .choice) v)
+  pub follows : Closed-under t (x .choice) (saturate t (x .choice) v)
   pub allows : (e : ℕ) → T (has (saturate t (x .choice) v) e)
       → ((p : Bool) (j : ℕ) → operator t e ≡ Operator.leaf (Leaf.signal p j) → j < 16)
       → T (asks (operator t e) (x .letter))
@@ -253,7 +255,7 @@ module _ (t : Table) (v w : Subset) (len : length v ≡ length t) where
   set = saturate t w v
 
   abbrev nexts : List ℕ
-  nexts = gather next-of (operators-in t set)
+  nexts = flat-map next-of (operators-in t set)
 
   in-set : (e : ℕ) → T (has set e) → List·Memᴰ (operator t e) (operators-in t set)
   in-set e h = met-in t set e (omega (arith, has-lt set e h, saturate-length t w v)) h
@@ -262,7 +264,7 @@ module _ (t : Table) (v w : Subset) (len : length v ≡ length t) where
   to-of y h =
       elim (add-of nexts (nothing t) y h) [
         | inl p ↦
-            let (o, m, r) = gather-of next-of (operators-in t set) (p .0) in
+            let (o, m, r) = flat-map-of next-of (operators-in t set) (p .0) in
             let (e, k, q) = met-of t set m in
             (e, k, q ∙ next-is o y r)
         | inr k ↦ absurd (nothing-has t y k)
@@ -270,7 +272,7 @@ module _ (t : Table) (v w : Subset) (len : length v ≡ length t) where
 
   to-in : (e y : ℕ) → T (has set e) → operator t e ≡ Operator.next y → y < length t → T (has (add nexts (nothing t)) y)
   to-in e y h q l =
-      add-has nexts (gather-in next-of (in-set e h) (subst⁻¹ (λ (o : Operator). List·Memᴰ y (next-of o)) q (List·Memᴰ·head refl)))
+      add-has nexts (flat-map-in next-of (in-set e h) (subst⁻¹ (λ (o : Operator). List·Memᴰ y (next-of o)) q (List·Memᴰ·head refl)))
       (nothing t)
       (omega (arith, length-map t (λ (o : Operator). false)))
 
@@ -292,7 +294,7 @@ pub facts : (t : Table) (v : Subset) → length v ≡ length t → (x : Transiti
 facts t v len x m = let (w, c, i, p, e) = transitions-of t v x m in subst⁻¹ (Facts t v) e (facts-with t v w len c i p)
 
 -- it leads to a part of the operands of next
-operands-part : (t : Table) (v : Subset) → Sublistᴰ (gather next-of (operators-in t v)) (operands t)
+operands-part : (t : Table) (v : Subset) → Sublistᴰ (flat-map next-of (operators-in t v)) (operands t)
 operands-part [] v = Sublistᴰ·slnil
 operands-part (o ∷ t) [] = Sublistᴰ·nil-sublist (operands (o ∷ t))
 operands-part (o ∷ t) (true ∷ v) = Sublistᴰ·append (Sublistᴰ·refl (next-of o)) (operands-part t v)
@@ -302,7 +304,7 @@ pub transition-to : (t : Table) (v : Subset) (x : Transition) → List·Memᴰ x
     → (ms : List ℕ) × Sublistᴰ ms (operands t) × (x .to ≡ add ms (nothing t))
 transition-to t v x m =
     let (w, c, i, p, e) = transitions-of t v x m in
-    (gather next-of (operators-in t (saturate t w v)), operands-part t (saturate t w v), ap (λ (y : Transition). y .to) e)
+    (flat-map next-of (operators-in t (saturate t w v)), operands-part t (saturate t w v), ap (λ (y : Transition). y .to) e)
 
 -- it is the one with its choice, and the set that the choice gives
 pub transition-is : (t : Table) (v : Subset) (x : Transition) → List·Memᴰ x (transitions t v)

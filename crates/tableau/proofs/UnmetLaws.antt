@@ -17,19 +17,19 @@ use lib.ListN.{length, getD, set, replicate, length-replicate, getD-replicate, l
 use lib.Seq.{getD-at, getD-set-same, getD-set-other}
 use borrow.Author.Tests.{eqb-true, eq-eqb}
 use Rattle.base.specs.Bits.{bit, word}
-use Rattle.base.specs.Lists.{numbers}
+use Rattle.base.specs.Lists.{range}
 use Rattle.base.proofs.BoolLaws.{by-test, of-T, to-T, and-left, and-right}
 use Rattle.base.proofs.TestLaws.{not-of-T}
 use Rattle.base.proofs.BitLaws.{bit-and, bit-other}
-use Rattle.base.proofs.AppendLaws.{numbers-of}
-use Rattle.base.proofs.MemberLaws.{any-of, any-in, numbers-in}
+use Rattle.base.proofs.AppendLaws.{range-of}
+use Rattle.base.proofs.MemberLaws.{any-of, any-in, range-in}
 use Rattle.base.proofs.NumberLaws.{values-add}
 use Rattle.base.proofs.WordLaws.{same-bits, no-bit, bit-zero, bit-suc}
 use Rattle.formula.specs.Table.{Table, is-or}
 use Rattle.formula.specs.Rows.{operator-at, operators-of}
 use Rattle.tableau.specs.Saturation.{Subset, has, saturate}
 use Rattle.tableau.specs.Transition.{ors, choice-of, within}
-use Rattle.tableau.specs.Promise.{table-of, Between, Widest, Leads-nowhere, Unmet-between, unmet-at, is-unmet, Unmet}
+use Rattle.tableau.specs.Inner.{table-of, Choice-between, Widest, Leads-nowhere, Unmet-between, unmet-at, is-unmet, Unmet-ors}
 use Rattle.tableau.proofs.ChoiceLaws.{choice-of-length}
 use Rattle.tableau.proofs.TransitionLaws.{within-of, no-transition}
 use Rattle.tableau.proofs.LoopLaws.{table-length, at-end, ors-one, ors-same, choice-append}
@@ -105,7 +105,7 @@ module _ {rows : List ℕ} {e set bits n : ℕ} (o : Outside rows e set bits n) 
 
 -- a word that picks at an or outside a set that holds every saturation is not met
 module _ {rows : List ℕ} {count low high node set : ℕ} (wd : Widest rows count low high node set) (x : ℕ)
-    (m : Between (ors (table-of rows count)) low high x) (v : Subset) (l : length v ≡ count) (n : node ≡ word v) where
+    (m : Choice-between (ors (table-of rows count)) low high x) (v : Subset) (l : length v ≡ count) (n : node ≡ word v) where
   abbrev t : Table
   t = table-of rows count
 
@@ -158,10 +158,11 @@ module _ {n all : ℕ} (a : all ≡ 2 ^ n - 1) (x : ℕ) where
   all-bits : (i : ℕ) → i < n → T (bit all i)
   all-bits i h = subst⁻¹ (λ (y : ℕ). T (bit y i)) a (ones-bit n i h)
 
-  between-any : Between n 0 all x
+  between-any : Choice-between n 0 all x
   between-any = record { above = λ i h k. absurd (subst T (no-bit i) k); below = λ i h k. all-bits i h }
 
-  between-left : (j : ℕ) {high : ℕ} → x / 2 ^ j % 2 ≡ 0 → ((k : ℕ) → bit high k ≡ cond (eqb k j) false (bit all k)) → Between n 0 high x
+  between-left : (j : ℕ) {high : ℕ} → x / 2 ^ j % 2 ≡ 0 → ((k : ℕ) → bit high k ≡ cond (eqb k j) false (bit all k))
+      → Choice-between n 0 high x
   between-left j {high} p f = record {
     above = between-any .above;
     below = λ i h k.
@@ -170,7 +171,7 @@ module _ {n all : ℕ} (a : all ≡ 2 ^ n - 1) (x : ℕ) where
         (λ e. absurd (omega (arith, p, eqb→eq (x / 2 ^ i % 2) 1 k, ap (λ (m : ℕ). x / 2 ^ m % 2) (eqb→eq i j e)))) (λ e. all-bits i h));
   }
 
-  between-right : (j : ℕ) {low : ℕ} → x / 2 ^ j % 2 ≡ 1 → low ≡ 2 ^ j → Between n low all x
+  between-right : (j : ℕ) {low : ℕ} → x / 2 ^ j % 2 ≡ 1 → low ≡ 2 ^ j → Choice-between n low all x
   between-right j {low} p e = record {
     above = λ i h k.
         same-or-not i j
@@ -181,8 +182,8 @@ module _ {n all : ℕ} (a : all ≡ 2 ^ n - 1) (x : ℕ) where
 
 -- one entry more is right: the bits of or j with pick b
 unmet-put : {rows : List ℕ} {count node at y : ℕ} {r : List ℕ} (j b : ℕ) → length r ≡ 24 → j < 12 → b < 2 → at ≡ 2 * j + b
-    → ((x : ℕ) → x / 2 ^ j % 2 ≡ b → (bitAnd x y ≡ 0 → ⊥) → Leads-nowhere rows count node x) → Unmet rows count node r
-    → Unmet rows count node (set r at y)
+    → ((x : ℕ) → x / 2 ^ j % 2 ≡ b → (bitAnd x y ≡ 0 → ⊥) → Leads-nowhere rows count node x) → Unmet-ors rows count node r
+    → Unmet-ors rows count node (set r at y)
 unmet-put {rows} {count} {node} {at} {y} {r} j b l h s q f u = record { is = λ x i k m. go x i k m }
   where
     go : (x i : ℕ) → i < 12 → (bitAnd x (unmet-at (set r at y) x i) ≡ 0 → ⊥) → Leads-nowhere rows count node x
@@ -196,16 +197,16 @@ unmet-put {rows} {count} {node} {at} {y} {r} j b l h s q f u = record { is = λ 
         (λ e. u .is x i k (λ z. m (ap (bitAnd x) (getD-set-other r at place y 0 e) ∙ z)))
 
 -- the entries for each or and pick
-pub record Entries (rows : List ℕ) (count node : ℕ) (r : List ℕ) : Type 0 where
+pub record Unmet-entries (rows : List ℕ) (count node : ℕ) (r : List ℕ) : Type 0 where
   pub long : length r ≡ 24
-  pub right : Unmet rows count node r
+  pub right : Unmet-ors rows count node r
 
 module _ (rows : List ℕ) (count : ℕ) {n all : ℕ} (o : n ≡ ors (table-of rows count)) (a : all ≡ 2 ^ n - 1) where
   ones : all ≡ 2 ^ ors (table-of rows count) - 1
   ones = a ∙ ap (λ (k : ℕ). 2 ^ k - 1) o
 
   -- at first those of no pick,
-  pub unmet-start : {node y : ℕ} → Unmet-between rows count 0 all node y → Entries rows count node (replicate 24 y)
+  pub unmet-start : {node y : ℕ} → Unmet-between rows count 0 all node y → Unmet-entries rows count node (replicate 24 y)
   unmet-start {y = y} u = record {
     long = length-replicate 24 y;
     right = record {
@@ -218,7 +219,7 @@ module _ (rows : List ℕ) (count : ℕ) {n all : ℕ} (o : n ≡ ors (table-of 
   pub unmet-turn : {node : ℕ} {r : List ℕ} {left right low high y z : ℕ} (j : ℕ) → j < 12 → left ≡ 2 * j → right ≡ 2 * j + 1
       → ((k : ℕ) → bit high k ≡ cond (eqb k j) false (bit all k)) → Unmet-between rows count 0 high node y
       → low ≡ 2 ^ j → Unmet-between rows count low all node z
-      → Entries rows count node r → Entries rows count node (set (set r left y) right z)
+      → Unmet-entries rows count node r → Unmet-entries rows count node (set (set r left y) right z)
   unmet-turn {r = r} {left} {right} {y = y} {z} j h p q f m e k entries = record {
     long = length-set (set r left y) right z ∙ half;
     right =
@@ -241,14 +242,14 @@ module _ (r : List ℕ) (x : ℕ) where
   pub some-unmet : {j : ℕ} → j < 12 → (bitAnd x (unmet-at r x j) ≡ 0 → ⊥) → true ≡ is-unmet r x
   some-unmet {j} h k =
       sym (of-T (is-unmet r x)
-      (any-in hit (numbers-in 0 12 j (omega arith) (omega arith))
+      (any-in hit (range-in 0 12 j (omega arith) (omega arith))
       (not-T (eqb (bitAnd x (unmet-at r x j)) 0) (λ z. k (eqb→eq (bitAnd x (unmet-at r x j)) 0 z)))))
 
   unmet-some : T (is-unmet r x) → (j : ℕ) × (j < 12) × (bitAnd x (unmet-at r x j) ≡ 0 → ⊥)
   unmet-some h =
-      let (j, m, k) = any-of hit (numbers 0 12) h in (
+      let (j, m, k) = any-of hit (range 0 12) h in (
         j,
-        omega (arith, numbers-of 0 12 m),
+        omega (arith, range-of 0 12 m),
         λ z. T-not (eqb (bitAnd x (unmet-at r x j)) 0) k
             (to-T (eqb (bitAnd x (unmet-at r x j)) 0) (eq-eqb (bitAnd x (unmet-at r x j)) 0 z)),
       )
@@ -257,6 +258,6 @@ module _ (r : List ℕ) (x : ℕ) where
   none-unmet f = sym (not-of-T (is-unmet r x) (λ h. let (j, l, k) = unmet-some h in k (f j l)))
 
 -- Theorem: a word that the test tells has no transition.
-pub unmet-nowhere : {rows : List ℕ} {count node : ℕ} {r : List ℕ} → Unmet rows count node r → (x : ℕ) → is-unmet r x ≡ true
+pub unmet-nowhere : {rows : List ℕ} {count node : ℕ} {r : List ℕ} → Unmet-ors rows count node r → (x : ℕ) → is-unmet r x ≡ true
     → Leads-nowhere rows count node x
 unmet-nowhere {r = r} u x e = let (j, l, k) = unmet-some r x (to-T (is-unmet r x) e) in u .is x j l k

@@ -20,9 +20,9 @@ use Rattle.base.proofs.Inside.{below-of, below-least, inside-length}
 use Rattle.formula.specs.Table.{Operator, Table, operator, is-or}
 use Rattle.tableau.specs.Saturation.{Subset, has, moves, saturate}
 use Rattle.tableau.specs.Transition.{ors, choice-of}
-use Rattle.tableau.specs.Promise.{table-of, Formed, with-bits, Between, Widest}
+use Rattle.tableau.specs.Inner.{table-of, Formed, with-bits, Choice-between, Widest}
 use Rattle.tableau.proofs.SaturationLaws.{inside-has, has-lt, saturate-least}
-use Rattle.tableau.proofs.WordSets.{Below, with-bits-append}
+use Rattle.tableau.proofs.WordSets.{All-below, with-bits-append}
 use Rattle.tableau.proofs.FringeLaws.{Spread, spread-turn, spread-less, spread-rest, moves-at, moves-at-below, moves-same}
 
 -- a choice word with more bits picks right at more ors
@@ -54,7 +54,7 @@ abbrev pub moves-both : List ℕ → (lower upper e : ℕ) → List ℕ
 moves-both rows lower upper e = moves-at rows lower e ++ moves-at rows upper e
 
 moves-both-below : {rows : List ℕ} {count : ℕ} → Formed rows count → (lower upper e : ℕ) → e < count
-    → Below count (moves-both rows lower upper e)
+    → All-below count (moves-both rows lower upper e)
 moves-both-below {rows} f lower upper e h m r =
     elim (List·Memᴰ·append-cases (moves-at rows lower e) r)
     [ inl p ↦ moves-at-below f lower e h m p | inr p ↦ moves-at-below f upper e h m p ]
@@ -84,7 +84,7 @@ widest-rest {rows} {count} {low} {high} {lower} {upper} {node} {set} a b s z = r
         → moves-both rows lower upper e ≡ moves (operator t e) (has (choice-of t low) e) ++ moves (operator t e) (has (choice-of t high) e)
     both h = rw (moves-same rows count (choice-of t low) a h, moves-same rows count (choice-of t high) b h)
 
-    go : (v : Subset) → length v ≡ count → node ≡ word v → (x : ℕ) → Between (ors t) low high x → (k : ℕ)
+    go : (v : Subset) → length v ≡ count → node ≡ word v → (x : ℕ) → Choice-between (ors t) low high x → (k : ℕ)
         → T (has (saturate t (choice-of t x) v) k)
         → T (bit set k)
     go v l n x m k h =

@@ -12,31 +12,31 @@ use lib.Dec.{T, eqb, eqb·zero-suc, eqb·suc-zero, eqb·suc-suc, eqb→eq, T-not
 use lib.Bits.{bitAnd, bitOr}
 use lib.ListN.{length, getD, set, length-set, length-map, List·getD-eq-default}
 use borrow.Author.Tests.{eq-eqb}
-use Rattle.base.specs.Lists.{numbers, any, member}
+use Rattle.base.specs.Lists.{range, any, member}
 use Rattle.base.specs.Bits.{bit, word}
 use Rattle.base.proofs.BoolLaws.{of-T, to-T, and-both}
 use Rattle.base.proofs.TestLaws.{not-of-T, same-truth}
 use Rattle.base.proofs.BitLaws.{bit-and, set-on}
-use Rattle.base.proofs.ListLaws.{getD-map, length-numbers, getD-numbers}
+use Rattle.base.proofs.ListLaws.{getD-map, length-range, getD-range}
 use Rattle.base.proofs.MemberLaws.{any-of, any-in, member-of, member-in}
 use Rattle.base.proofs.WordLaws.{no-bit, word-bit, word-inj, same-bits, word-set}
 use Rattle.tableau.specs.Saturation.{Subset, has, same-subset, add}
 use Rattle.tableau.specs.Transition.{within}
-use Rattle.tableau.specs.Promise.{with-bits}
+use Rattle.tableau.specs.Inner.{with-bits}
 use Rattle.tableau.proofs.SaturationLaws.{subset-sound, subset-refl}
 use Rattle.tableau.proofs.TransitionLaws.{within-of, within-in}
 
 -- all numbers of a list are below n
-abbrev pub Below : ℕ → List ℕ → Type 0
-Below n ms = (m : ℕ) → List·Memᴰ m ms → m < n
+abbrev pub All-below : ℕ → List ℕ → Type 0
+All-below n ms = (m : ℕ) → List·Memᴰ m ms → m < n
 
-pub below-none : (n : ℕ) → Below n []
+pub below-none : (n : ℕ) → All-below n []
 below-none n m r = absurd (List·Memᴰ·not-nil r)
 
-pub below-cons : {n x : ℕ} {ms : List ℕ} → x < n → Below n ms → Below n (x ∷ ms)
+pub below-cons : {n x : ℕ} {ms : List ℕ} → x < n → All-below n ms → All-below n (x ∷ ms)
 below-cons {n} h f m r = elim (List·Memᴰ·cases-cons r) [ inl e ↦ omega arith | inr q ↦ f m q ]
 
-pub below-one : (n x : ℕ) → x < n → Below n (x ∷ [])
+pub below-one : (n x : ℕ) → x < n → All-below n (x ∷ [])
 below-one n x h = below-cons h (below-none n)
 
 -- bits put in one after another
@@ -58,7 +58,7 @@ bits-of : (ms : List ℕ) (k : ℕ) → bit (with-bits ms 0) k ≡ member k ms
 bits-of ms k = with-bits-bit ms 0 k ∙ ap (λ (b : Bool). member k ms || b) (no-bit k) ∙ or-false (member k ms)
 
 -- what is added to a set is put into its word
-pub word-add : (ms : List ℕ) (v : Subset) → Below (length v) ms → word (add ms v) ≡ with-bits ms (word v)
+pub word-add : (ms : List ℕ) (v : Subset) → All-below (length v) ms → word (add ms v) ≡ with-bits ms (word v)
 word-add [] v h = refl
 word-add (m ∷ ms) v h =
     word-add ms (set v m true) (λ k r. subst (λ (n : ℕ). k < n) (sym (length-set v m true)) (h k (List·Memᴰ·tail r)))
@@ -130,18 +130,18 @@ clash-word ps qs =
     apart false b f = refl
 
 -- numbers below n, as the word of n Bools
-pub members-word : (n : ℕ) (ms : List ℕ) → Below n ms → with-bits ms 0 ≡ word (map (λ j. member j ms) (numbers 0 n))
+pub members-word : (n : ℕ) (ms : List ℕ) → All-below n ms → with-bits ms 0 ≡ word (map (λ j. member j ms) (range 0 n))
 members-word n ms h =
-    same-bits (with-bits ms 0) (word (map (λ j. member j ms) (numbers 0 n)))
-    (λ k. bits-of ms k ∙ by k (decLt k n) ∙ sym (word-bit (map (λ j. member j ms) (numbers 0 n)) k))
+    same-bits (with-bits ms 0) (word (map (λ j. member j ms) (range 0 n)))
+    (λ k. bits-of ms k ∙ by k (decLt k n) ∙ sym (word-bit (map (λ j. member j ms) (range 0 n)) k))
   where
-    long : length (map (λ (j : ℕ). member j ms) (numbers 0 n)) ≡ n
-    long = length-map (numbers 0 n) (λ (j : ℕ). member j ms) ∙ length-numbers 0 n
+    long : length (map (λ (j : ℕ). member j ms) (range 0 n)) ≡ n
+    long = length-map (range 0 n) (λ (j : ℕ). member j ms) ∙ length-range 0 n
 
-    by : (k : ℕ) → Dec (k < n) → member k ms ≡ getD (map (λ (j : ℕ). member j ms) (numbers 0 n)) k false
+    by : (k : ℕ) → Dec (k < n) → member k ms ≡ getD (map (λ (j : ℕ). member j ms) (range 0 n)) k false
     by k (yes l) =
-        sym (getD-map (λ (j : ℕ). member j ms) (numbers 0 n) k 0 false (omega (arith, length-numbers 0 n))
-        ∙ ap (λ (j : ℕ). member j ms) {x = getD (numbers 0 n) k 0} {y = k} (omega (arith, getD-numbers 0 n k 0 l)))
+        sym (getD-map (λ (j : ℕ). member j ms) (range 0 n) k 0 false (omega (arith, length-range 0 n))
+        ∙ ap (λ (j : ℕ). member j ms) {x = getD (range 0 n) k 0} {y = k} (omega (arith, getD-range 0 n k 0 l)))
     by k (no l) =
         not-of-T (member k ms) (λ t. l (h k (member-of k ms t)))
-        ∙ sym (List·getD-eq-default (map (λ (j : ℕ). member j ms) (numbers 0 n)) false (omega (arith, long)))
+        ∙ sym (List·getD-eq-default (map (λ (j : ℕ). member j ms) (range 0 n)) false (omega (arith, long)))

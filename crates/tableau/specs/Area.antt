@@ -6,7 +6,7 @@ use mathlib.Core.List.{List, [], _∷_, _++_, map, List·Memᴰ}
 use Prim.Native.Nat.{ℕ, zero, suc, _+_, _-_, _*_, _%_, _^_, _≤_, _<_, min}
 use lib.Dec.{eqb, ltb}
 use lib.ListN.{length, getD, take, drop, set, replicate}
-use Rattle.base.specs.Lists.{gather, At}
+use Rattle.base.specs.Lists.{flat-map, At}
 use Rattle.base.specs.Bits.{word}
 use Rattle.base.specs.Bytes.{number-at, bytes-of}
 use Rattle.base.specs.Search.{Item}
@@ -16,10 +16,10 @@ use Rattle.tableau.specs.Saturation.{Subset, same-subset}
 use Rattle.tableau.specs.Transition.{Transition, by-word, transitions}
 use Rattle.tableau.specs.Nodes.{root, nodes}
 use Rattle.tableau.specs.Origins.{parent-at, letter-at}
-use Rattle.tableau.specs.Promise.{table-of, Formed, Stepped-by}
+use Rattle.tableau.specs.Inner.{table-of, Formed, Target-by}
 use Rattle.tableau.specs.declared.Arrival.{Arrival}
 use Rattle.tableau.specs.declared.Lookup.{Lookup}
-use Rattle.tableau.specs.declared.Step.{Step}
+use Rattle.tableau.specs.declared.Target.{Target}
 use Rattle.tableau.specs.declared.Lookup.the-variants.{Number, Absent}
 
 -- the eight bytes of a number
@@ -32,7 +32,7 @@ eight a at = number-at 8 a at
 
 -- an area whose first bytes are these words, and past them what it had
 abbrev pub store : (words area : List ℕ) → List ℕ
-store ws a = gather bytes8 ws ++ drop (8 * length ws) a
+store ws a = flat-map bytes8 ws ++ drop (8 * length ws) a
 
 -- the words of n nodes from node i on
 abbrev pub words-at : List ℕ → (i n : ℕ) → List ℕ
@@ -48,14 +48,14 @@ abbrev pub zeros : ℕ → List ℕ
 zeros n = replicate n 0
 
 -- An area of that many bytes has room for capacity nodes, at most 1,024, and known of them have room.
-pub record Room (known capacity bytes : ℕ) : Type 0 where
+pub record Node-room (known capacity bytes : ℕ) : Type 0 where
   pub fits : known ≤ capacity
   pub few : capacity ≤ 1024
   pub enough : 8 * capacity ≤ bytes
 
 -- The area was a and holds the nodes l as far as there is capacity, everything else unchanged; known is how many nodes there are, or
 -- capacity + 1 where there are more.
-pub record Holds (capacity known : ℕ) (a area : List ℕ) (l : List Subset) : Type 0 where
+pub record Nodes-held (capacity known : ℕ) (a area : List ℕ) (l : List Subset) : Type 0 where
   pub known-is : known ≡ min (length l) (capacity + 1)
   pub area-is : area ≡ store (take capacity (map word l)) a
 
@@ -64,55 +64,55 @@ abbrev pub reachable : Table → List Subset
 reachable t = map (λ (x : Item Transition Subset). x .at) (nodes t)
 
 -- sets of that many subformulas
-abbrev pub Sized : ℕ → List Subset → Type 0
-Sized count l = (u : Subset) → List·Memᴰ u l → length u ≡ count
+abbrev pub Subsets-sized : ℕ → List Subset → Type 0
+Subsets-sized count l = (u : Subset) → List·Memᴰ u l → length u ≡ count
 
 -- the slot of a word
 abbrev pub slot-of : ℕ → ℕ
 slot-of x = x % 2029
 
 -- There are 2,048 slots, and that of each of the area's first words has a mark: it is not 0.
-pub record Marked (known : ℕ) (area slots : List ℕ) : Type 0 where
+pub record Slots-marked (known : ℕ) (area slots : List ℕ) : Type 0 where
   pub long : 2048 ≤ length slots
   pub is : (i : ℕ) → i < known → 0 < getD slots (slot-of (eight area (8 * i))) 0
 
 -- What is asked to add nodes to the first known: room for them and for their notes, and the marks of the known.
 pub record Growing (known capacity : ℕ) (area slots origins : List ℕ) : Type 0 where
-  pub room : Room known capacity (length area)
-  pub marked : Marked known area slots
+  pub room : Node-room known capacity (length area)
+  pub marked : Slots-marked known area slots
   pub notes : 2 * capacity ≤ length origins
 
 -- a node as the search keeps it: its set, 1 + the number of the node that it was reached from, 0 for the root, and the letter between
-abbrev pub Reached : Type 0
-Reached = Numbered ℕ Subset
+abbrev pub Reached-node : Type 0
+Reached-node = Numbered ℕ Subset
 
 -- the same, where the set is a word
 abbrev pub Reached-word : Type 0
 Reached-word = Numbered ℕ ℕ
 
 -- a node with its set as a word
-abbrev pub worded : Reached → Reached-word
+abbrev pub worded : Reached-node → Reached-word
 worded x = record { at = word (x .at); parent = x .parent; label = x .label }
 
 -- the root, which nothing comes before
-abbrev pub root-reached : Table → Reached
+abbrev pub root-reached : Table → Reached-node
 root-reached t = record { at = root t; parent = 0; label = 0 }
 
 -- what a transition of node i leads to
-abbrev pub reached-by : (i : ℕ) → Transition → Reached
+abbrev pub reached-by : (i : ℕ) → Transition → Reached-node
 reached-by i s = record { at = s .to; parent = suc i; label = s .letter }
 
 -- the nodes that the transition of a choice word leads to from node i, the set v: one or none
-abbrev pub leads : Table → (i : ℕ) → Subset → (choice-word : ℕ) → List Reached
+abbrev pub leads : Table → (i : ℕ) → Subset → (choice-word : ℕ) → List Reached-node
 leads t i v x = map (reached-by i) (by-word t x v)
 
 -- those that all its transitions lead to
-abbrev pub outs : Table → (i : ℕ) → Subset → List Reached
+abbrev pub outs : Table → (i : ℕ) → Subset → List Reached-node
 outs t i v = map (reached-by i) (transitions t v)
 
 -- nodes of that many subformulas
-abbrev pub Reached-sized : ℕ → List Reached → Type 0
-Reached-sized count l = (x : Reached) → List·Memᴰ x l → length (x .at) ≡ count
+abbrev pub Reached-sized : ℕ → List Reached-node → Type 0
+Reached-sized count l = (x : Reached-node) → List·Memᴰ x l → length (x .at) ≡ count
 
 -- The node x is as the arrival says; its letter has 16 bits.
 pub record Arrives (s : Arrival) (x : Reached-word) : Type 0 where
@@ -126,32 +126,32 @@ abbrev pub with-note : List ℕ → (j parent letter : ℕ) → List ℕ
 with-note o j p l = set (set o (2 * j) p) (2 * j + 1) l
 
 -- The note of node j is that of x.
-pub record Noted (o : List ℕ) (j : ℕ) (x : Reached-word) : Type 0 where
+pub record Note-of (o : List ℕ) (j : ℕ) (x : Reached-word) : Type 0 where
   pub parent-is : parent-at o j ≡ x .parent - 1
   pub letter-is : letter-at o j ≡ x .label
 
 -- The area was a and holds the nodes ws as far as there is capacity, and the notes o are theirs; known is how many nodes there are, or
 -- capacity + 1 where there are more.
-pub record Keeps (capacity known : ℕ) (a area o : List ℕ) (ws : List Reached-word) : Type 0 where
+pub record Nodes-noted (capacity known : ℕ) (a area o : List ℕ) (ws : List Reached-word) : Type 0 where
   pub known-is : known ≡ min (length ws) (capacity + 1)
   pub area-is : area ≡ store (take capacity (map (λ (x : Reached-word). x .at) ws)) a
-  pub notes : (j : ℕ) (x : Reached-word) → At ws j x → j < capacity → Noted o j x
+  pub notes : (j : ℕ) (x : Reached-word) → At ws j x → j < capacity → Note-of o j x
 
 -- The node of an arrival is one of the area's: the nodes were ws, known of them, and it comes to their end unless it is there.
-pub record Added (known capacity : ℕ) (s : Arrival) (area o area′ o′ : List ℕ) (r : ℕ) : Type 0 where
-  pub is : (ws : List Reached-word) (x : Reached-word) (a : List ℕ) → Arrives s x → Keeps capacity known a area o ws
+pub record Node-added (known capacity : ℕ) (s : Arrival) (area o area′ o′ : List ℕ) (r : ℕ) : Type 0 where
+  pub is : (ws : List Reached-word) (x : Reached-word) (a : List ℕ) → Arrives s x → Nodes-noted capacity known a area o ws
       → ((y : Reached-word) → List·Memᴰ y ws → y .at < 2 ^ 64)
-      → Keeps capacity r a area′ o′ (add eqb ws x)
+      → Nodes-noted capacity r a area′ o′ (add eqb ws x)
 
--- The nodes l of the area become those with what a step leads to from node i, the set v, where it is that of a choice word x.
-pub record Followed (i : ℕ) (step : Step) (known capacity : ℕ) (area o area′ o′ : List ℕ) (r : ℕ) : Type 0 where
-  pub is : (rows : List ℕ) (count from x : ℕ) → Formed rows count → Stepped-by rows count x from step
-      → (l : List Reached) (v : Subset) (a : List ℕ) → Keeps capacity known a area o (map worded l) → Reached-sized count l
+-- The nodes l of the area become those with where a target leads from node i, the set v, where it is that of a choice word x.
+pub record Followed (i : ℕ) (target : Target) (known capacity : ℕ) (area o area′ o′ : List ℕ) (r : ℕ) : Type 0 where
+  pub is : (rows : List ℕ) (count from x : ℕ) → Formed rows count → Target-by rows count x from target
+      → (l : List Reached-node) (v : Subset) (a : List ℕ) → Nodes-noted capacity known a area o (map worded l) → Reached-sized count l
       → from ≡ word v → length v ≡ count
-      → Keeps capacity r a area′ o′ (map worded (adds same-subset l (leads (table-of rows count) i v x)))
+      → Nodes-noted capacity r a area′ o′ (map worded (adds same-subset l (leads (table-of rows count) i v x)))
 
 -- The nodes l of the area become those with what the transitions of node i, which is n, lead to.
 pub record Expanded (rows : List ℕ) (count i known capacity : ℕ) (area o area′ o′ : List ℕ) (r : ℕ) : Type 0 where
-  pub is : (l : List Reached) (n : Reached) (a : List ℕ) → At l i n → Keeps capacity known a area o (map worded l)
+  pub is : (l : List Reached-node) (n : Reached-node) (a : List ℕ) → At l i n → Nodes-noted capacity known a area o (map worded l)
       → Reached-sized count l
-      → Keeps capacity r a area′ o′ (map worded (adds same-subset l (outs (table-of rows count) i (n .at))))
+      → Nodes-noted capacity r a area′ o′ (map worded (adds same-subset l (outs (table-of rows count) i (n .at))))

@@ -2,6 +2,6 @@ pub mod Saturation
 pub mod Transition
 pub mod Nodes
 pub mod Run
-pub mod Promise
+pub mod Inner
 pub mod Area
 pub mod Origins

@@ -3,7 +3,7 @@ use mathlib.Core.Bool.{true}
 use mathlib.Core.List.{List, [], _∷_, map}
 use Prim.Native.Nat.{ℕ, _+_, _^_}
 use lib.ListN.{length, set}
-use Rattle.base.specs.Lists.{gather}
+use Rattle.base.specs.Lists.{flat-map}
 use Rattle.base.specs.Search.{Edge, Item, search-from}
 use Rattle.formula.specs.Table.{Table}
 use Rattle.tableau.specs.Saturation.{Subset, same-subset, nothing}
@@ -20,7 +20,7 @@ edges t v = map (λ (s : Transition). record { label = s; to = s .to }) (transit
 
 -- the operands of next by rising number: a node other than the root has no other subformulas
 abbrev pub operands : Table → List ℕ
-operands t = gather next-of t
+operands t = flat-map next-of t
 
 -- All nodes, those without transitions too; K is how many. They are at most 1 + 2^n (MEANING 5.6), so that fuel is enough
 -- (proofs/NodeLaws.antt).

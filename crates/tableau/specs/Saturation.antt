@@ -3,7 +3,7 @@ use mathlib.Core.Bool.{Bool, true, false, cond}
 use mathlib.Core.List.{List, [], _∷_, map}
 use Prim.Native.Nat.{ℕ, suc}
 use lib.ListN.{length, getD, set}
-use Rattle.base.specs.Lists.{repeat, alike, same-bit}
+use Rattle.base.specs.Lists.{iterate, alike, same-bit}
 use Rattle.formula.specs.Table.{Operator, Table}
 
 -- A set of subformulas: a Bool for each. A node is one. A choice (document 01: picks) is one too: the ors whose right operand is taken.
@@ -44,4 +44,4 @@ sweep (o ∷ t) w e v = sweep t w (suc e) (cond (has v e) (add (moves o (has w e
 -- The saturation of a node under a choice. A pass that is not the last adds a subformula, so there are enough of them; and no smaller
 -- set around the node is closed under the moves (proofs/SaturationLaws.antt).
 abbrev pub saturate : Table → (choice : Subset) → Subset → Subset
-saturate t w v = repeat (length t) (sweep t w 0) v
+saturate t w v = iterate (length t) (sweep t w 0) v

@@ -3,7 +3,7 @@ use mathlib.Core.Bool.{Bool, true, false, not, cond, _&&_}
 use mathlib.Core.List.{List, [], _∷_, map}
 use Prim.Native.Nat.{ℕ, _+_, _/_, _%_, _^_}
 use lib.Dec.{eqb}
-use Rattle.base.specs.Lists.{gather, any, member, numbers, same-bit}
+use Rattle.base.specs.Lists.{flat-map, any, member, range, same-bit}
 use Rattle.base.specs.Bits.{word}
 use Rattle.formula.specs.Formula.{Leaf}
 use Rattle.formula.specs.Table.{Operator, Table, is-or}
@@ -37,13 +37,13 @@ is-false (Operator.fix g l) = false
 -- MEANING 3.4: whether a set with these operators gives a transition
 unfoldable pub possible : List Operator → Bool
 possible os =
-    let absent = gather (requires false) os in
-    let clash = any (λ j. member j absent) (gather (requires true) os) in
+    let absent = flat-map (requires false) os in
+    let clash = any (λ j. member j absent) (flat-map (requires true) os) in
     not (any is-false os) && not clash
 
 -- MEANING 3.5: the letter has bit j where signal j is to be present
 unfoldable pub letter-of : List Operator → ℕ
-letter-of os = let present = gather (requires true) os in word (map (λ j. member j present) (numbers 0 16))
+letter-of os = let present = flat-map (requires true) os in word (map (λ j. member j present) (range 0 16))
 
 -- MEANING 3.5: the operand of a next, which belongs to the target
 abbrev pub next-of : Operator → List ℕ
@@ -65,7 +65,7 @@ choice-of (o ∷ t) x = cond (is-or o) (eqb (x % 2) 1 ∷ choice-of t (x / 2)) (
 
 -- all choices, by rising choice word
 abbrev pub choices : Table → List Subset
-choices t = map (choice-of t) (numbers 0 (2 ^ ors t))
+choices t = map (choice-of t) (range 0 (2 ^ ors t))
 
 -- MEANING 3.2: a choice takes the right operand of no or outside the saturation, so that a transition has one choice
 abbrev pub within : Subset → Subset → Bool
@@ -87,7 +87,7 @@ abbrev pub transition-of : Table → Subset → Subset → List Transition
 unfolding possible letter-of
 transition-of t w s =
     let os = operators-in t s in
-    let found : Transition = record { choice = w; letter = letter-of os; to = add (gather next-of os) (nothing t) } in
+    let found : Transition = record { choice = w; letter = letter-of os; to = add (flat-map next-of os) (nothing t) } in
     let one = found ∷ [] in
     cond (within w s && possible os) one []
 
@@ -98,4 +98,4 @@ by-word t x v = transition-of t (choice-of t x) (saturate t (choice-of t x) v)
 -- the transitions of a node, by rising choice word
 unfoldable pub transitions : Table → Subset → List Transition
 unfolding possible letter-of
-transitions t v = gather (λ w. transition-of t w (saturate t w v)) (choices t)
+transitions t v = flat-map (λ w. transition-of t w (saturate t w v)) (choices t)

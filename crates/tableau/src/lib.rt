@@ -12,10 +12,11 @@ ghost use Rattle.formula.specs.Rows.{operator-at};
 ghost use Rattle.formula.specs.Access.{Placed};
 ghost use Rattle.tableau.specs.Saturation.{moves};
 ghost use Rattle.tableau.specs.Transition.{ors, choice-of};
-ghost use Rattle.tableau.specs.Promise.{table-of, Formed, with-bits, Saturated, Requires-more, Required-by, Stepped};
-ghost use Rattle.tableau.specs.Promise.{Stepped-by, Widest, Unmet-between, is-unmet, Unmet};
-ghost use Rattle.tableau.specs.Area.{eight, words-at, lookup, zeros, Room, Holds, reachable, slot-of, Marked, with-note};
-ghost use Rattle.tableau.specs.Area.{Growing, Added, Followed, Expanded};
+ghost use Rattle.tableau.specs.Inner.{table-of, Formed, with-bits, Saturated, Requires-more, Required-by, Target-is};
+ghost use Rattle.tableau.specs.Inner.{Target-by, Widest, Unmet-between, is-unmet, Unmet-ors};
+ghost use Rattle.tableau.specs.Area.{eight, words-at, lookup, zeros, Node-room, Nodes-held, reachable, slot-of, Slots-marked};
+ghost use Rattle.tableau.specs.Area.{with-note};
+ghost use Rattle.tableau.specs.Area.{Growing, Node-added, Followed, Expanded};
 ghost use Rattle.tableau.specs.Origins.{Origins};
 
 // The number of a node, kept apart from subformulas and positions.
@@ -43,7 +44,7 @@ struct Requirement {
 }
 
 // Where a transition leads, with its letter, if it exists.
-pub enum Step {
+pub enum Target {
     Leads { to: u64, letter: u64 },
     Nothing,
 }
@@ -171,7 +172,7 @@ fn unmet_between(rows: &[u8; 144], count: usize, low: u64, high: u64, node: u64)
 // only the bits at the ors that are never met.
 pub fn unmet(rows: &[u8; 144], count: usize, node: u64) -> [u64; 24]
     requires { ⌜ Formed (now rows) count ⌝ }
-    ensures { λ r. ⌜ Unmet (now (rows .entry)) count node r ⌝ }
+    ensures { λ r. ⌜ Unmet-ors (now (rows .entry)) count node r ⌝ }
 {
     let n = ors(rows, count);
     let all = base::power(n) - 1;
@@ -258,22 +259,22 @@ fn required_by(rows: &[u8; 144], count: usize, set: u64) -> Requirement
 }
 
 // The transition of a node under a choice, which picks nothing at an or that is not met.
-fn transition(rows: &[u8; 144], count: usize, choice: u64, node: u64) -> Step
+fn transition(rows: &[u8; 144], count: usize, choice: u64, node: u64) -> Target
     requires { ⌜ Formed (now rows) count ⌝ }
-    ensures { λ r. ⌜ Stepped (now (rows .entry)) count choice node r ⌝ }
+    ensures { λ r. ⌜ Target-is (now (rows .entry)) count choice node r ⌝ }
 {
     let set = saturated(rows, count, choice, node);
     if choice & set != choice {
-        return Step::Nothing;
+        return Target::Nothing;
     }
     let r = required_by(rows, count, set);
     if r.falsum {
-        return Step::Nothing;
+        return Target::Nothing;
     }
     if r.present & r.absent != 0 {
-        return Step::Nothing;
+        return Target::Nothing;
     }
-    Step::Leads {
+    Target::Leads {
         to: r.to,
         letter: r.present,
     }
@@ -286,13 +287,13 @@ pub fn by_word(
     unmet: &[u64; 24],
     choice_word: u64,
     node: u64,
-) -> Step
+) -> Target
     requires { ⌜ Formed (now rows) count ⌝ }
-    requires { ⌜ Unmet (now rows) count node (now unmet) ⌝ }
-    ensures { λ r. ⌜ Stepped-by (now (rows .entry)) count «choice_word» node r ⌝ }
+    requires { ⌜ Unmet-ors (now rows) count node (now unmet) ⌝ }
+    ensures { λ r. ⌜ Target-by (now (rows .entry)) count «choice_word» node r ⌝ }
 {
     if is_unmet(unmet, choice_word) {
-        return Step::Nothing;
+        return Target::Nothing;
     }
     let choice = choice_of(rows, count, choice_word);
     transition(rows, count, choice, node)
@@ -338,7 +339,7 @@ fn wide16(x: u16) -> usize
 // Whether a set is one of the first `known` nodes. Without a mark it is not; else the marked node is tried first.
 fn is_known(area: &[u8], slots: &[u16; 2048], known: usize, set: u64) -> bool
     requires { ⌜ (known ≤ 1024) × (8 * known ≤ length (now area)) ⌝ }
-    requires { ⌜ Marked known (now area) (now slots) ⌝ }
+    requires { ⌜ Slots-marked known (now area) (now slots) ⌝ }
     ensures { λ r. ⌜ r ≡ member set (words-at (now (area .entry)) 0 known) ⌝ }
 {
     let k = slot(set);
@@ -378,9 +379,9 @@ fn add(
 ) -> usize
     requires { ⌜ Growing known capacity (now area) (now slots) (now origins) ⌝ }
     requires { ⌜ new .from .0 < 1024 ⌝ }
-    ensures { λ r. ⌜ Added known capacity new (now (area .entry)) (now (origins .entry)) (now (area .exit)) (now (origins .exit)) r ⌝ }
+    ensures { λ r. ⌜ Node-added known capacity new (now (area .entry)) (now (origins .entry)) (now (area .exit)) (now (origins .exit)) r ⌝ }
     ensures { λ r. ⌜ (known ≤ r) × (r ≤ capacity + 1) ⌝ }
-    ensures { λ r. ⌜ (r ≤ capacity → Marked r (now (area .exit)) (now (slots .exit))) ⌝ }
+    ensures { λ r. ⌜ (r ≤ capacity → Slots-marked r (now (area .exit)) (now (slots .exit))) ⌝ }
 {
     let set = new.set;
     if is_known(area, slots, known, set) {
@@ -403,20 +404,20 @@ fn follow(
     slots: &mut [u16; 2048],
     origins: &mut [u16],
     number: NodeNumber,
-    step: Step,
+    target: Target,
     known: usize,
     capacity: usize,
 ) -> usize
     requires { ⌜ Growing known capacity (now area) (now slots) (now origins) ⌝ }
     requires { ⌜ number .0 < 1024 ⌝ }
-    ensures { λ r. ⌜ Followed (number .0) step known capacity (now (area .entry)) (now (origins .entry)) (now (area .exit))
+    ensures { λ r. ⌜ Followed (number .0) target known capacity (now (area .entry)) (now (origins .entry)) (now (area .exit))
         (now (origins .exit)) r ⌝ }
     ensures { λ r. ⌜ (known ≤ r) × (r ≤ capacity + 1) ⌝ }
-    ensures { λ r. ⌜ (r ≤ capacity → Marked r (now (area .exit)) (now (slots .exit))) ⌝ }
+    ensures { λ r. ⌜ (r ≤ capacity → Slots-marked r (now (area .exit)) (now (slots .exit))) ⌝ }
 {
-    match step {
-        Step::Nothing => known,
-        Step::Leads { to, letter } => {
+    match target {
+        Target::Nothing => known,
+        Target::Leads { to, letter } => {
             let new = Arrival {
                 set: to,
                 from: number,
@@ -444,7 +445,7 @@ fn expand(
     ensures { λ r. ⌜ Expanded (now (rows .entry)) count (number .0) known capacity (now (area .entry)) (now (origins .entry))
         (now (area .exit)) (now (origins .exit)) r ⌝ }
     ensures { λ r. ⌜ (known ≤ r) × (r ≤ capacity + 1) ⌝ }
-    ensures { λ r. ⌜ (r ≤ capacity → Marked r (now (area .exit)) (now (slots .exit))) ⌝ }
+    ensures { λ r. ⌜ (r ≤ capacity → Slots-marked r (now (area .exit)) (now (slots .exit))) ⌝ }
 {
     let from = node(area, number);
     let unmet = unmet(rows, count, from);
@@ -455,8 +456,8 @@ fn expand(
         if capacity < all {
             return all;
         }
-        let step = by_word(rows, count, &unmet, word, from);
-        all = follow(area, slots, origins, number, step, all, capacity);
+        let target = by_word(rows, count, &unmet, word, from);
+        all = follow(area, slots, origins, number, target, all, capacity);
         word += 1;
     }
     all
@@ -471,9 +472,9 @@ pub fn nodes(
     origins: &mut [u16],
 ) -> usize
     requires { ⌜ Formed (now rows) count ⌝ }
-    requires { ⌜ Room 1 capacity (length (now area)) ⌝ }
+    requires { ⌜ Node-room 1 capacity (length (now area)) ⌝ }
     requires { ⌜ 2 * capacity ≤ length (now origins) ⌝ }
-    ensures { λ r. ⌜ Holds capacity r (now (area .entry)) (now (area .exit)) (reachable (table-of (now (rows .entry)) count)) ⌝ }
+    ensures { λ r. ⌜ Nodes-held capacity r (now (area .entry)) (now (area .exit)) (reachable (table-of (now (rows .entry)) count)) ⌝ }
     ensures { λ r. ⌜ (r ≤ capacity → Origins (table-of (now (rows .entry)) count) (now (origins .exit)) r) ⌝ }
 {
     let mut slots = [0u16; 2048];

@@ -44,20 +44,20 @@ module _ {s : Buffer} {bytes : List ℕ} {at : ℕ} (p : Wrote s (10 ∷ []) (bu
       sym e ∙ ap within (p .is)
 
 -- What stays: the buffer's length, and that the place is within.
-pub record Kept (s t : Buffer) : Type 0 where
+pub record Buffer-kept (s t : Buffer) : Type 0 where
   pub long : length (t .bytes) ≡ length (s .bytes)
   pub within : s .at ≤ length (s .bytes) → t .at ≤ length (t .bytes)
 
-put-kept : (s : Buffer) (b : ℕ) → Kept s (put s b)
+put-kept : (s : Buffer) (b : ℕ) → Buffer-kept s (put s b)
 put-kept s b = by (ltb (s .at) (length (s .bytes))) refl
   where
-    by : (t : Bool) → ltb (s .at) (length (s .bytes)) ≡ t → Kept s (cond t (buffer (set (s .bytes) (s .at) b) (s .at + 1)) s)
+    by : (t : Bool) → ltb (s .at) (length (s .bytes)) ≡ t → Buffer-kept s (cond t (buffer (set (s .bytes) (s .at) b) (s .at + 1)) s)
     by true e =
         let h = ltb-true (s .at) (length (s .bytes)) e in
         record { long = length-set (s .bytes) (s .at) b; within = λ _. simp length-set (omega arith) }
     by false e = record { long = refl; within = λ w. w }
 
-pub written-kept : (s : Buffer) (text : List ℕ) → Kept s (written s text)
+pub written-kept : (s : Buffer) (text : List ℕ) → Buffer-kept s (written s text)
 written-kept s [] = record { long = refl; within = λ w. w }
 written-kept s (b ∷ text) =
     let one = put-kept s b in
@@ -68,22 +68,22 @@ pub keeps-length : {s t : Buffer} {text : List ℕ} → Wrote s text t → lengt
 keeps-length {s} {t} {text} p = ap (λ (u : Buffer). length (u .bytes)) (p .is) ∙ written-kept s text .long
 
 -- A loop that writes a text for each of some members has passed i of them: what it has written so far.
-pub record Passed (members i : ℕ) (text : List ℕ) (s t : Buffer) : Type 0 where
+pub record Members-passed (members i : ℕ) (text : List ℕ) (s t : Buffer) : Type 0 where
   pub inside : i ≤ members
   pub same-length : length (t .bytes) ≡ length (s .bytes)
   pub wrote : Wrote s text t
 
-pub none-passed : {members : ℕ} {s : Buffer} → Passed members 0 [] s s
+pub none-passed : {members : ℕ} {s : Buffer} → Members-passed members 0 [] s s
 none-passed = record { inside = omega arith; same-length = refl; wrote = nothing }
 
-pub one-passed : {members i : ℕ} {text more : List ℕ} {s t u : Buffer} → i < members → Passed members i text s t
-    → length (u .bytes) ≡ length (t .bytes) → Wrote s more u → Passed members (i + 1) more s u
+pub one-passed : {members i : ℕ} {text more : List ℕ} {s t u : Buffer} → i < members → Members-passed members i text s t
+    → length (u .bytes) ≡ length (t .bytes) → Wrote s more u → Members-passed members (i + 1) more s u
 one-passed h p e w = record { inside = omega arith; same-length = e ∙ p .same-length; wrote = w }
 
 -- the place behind a text
 pub place-within : {s t : Buffer} {text : List ℕ} → Wrote s text t → s .at ≤ length (s .bytes) → t .at ≤ length (t .bytes)
 place-within {s} {t} {text} p h =
-    let kept : Kept s t = subst (Kept s) (sym (p .is)) (written-kept s text) in
+    let kept : Buffer-kept s t = subst (Buffer-kept s) (sym (p .is)) (written-kept s text) in
     kept .within h
 
 written-sets : (text out : List ℕ) (at : ℕ) → at + length text ≤ length out → written (buffer out at) text ≡ buffer (sets out at text)

@@ -11,6 +11,7 @@ pub record Buffer : Type 0 where
   pub bytes : List ℕ
   pub at : ℕ
 
+-- the buffer with these bytes, written up to a place
 abbrev pub buffer : List ℕ → ℕ → Buffer
 buffer bytes at = record { bytes = bytes; at = at }
 

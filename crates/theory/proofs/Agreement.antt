@@ -9,10 +9,10 @@ use lib.ListN.{length, getD, length-append, length-map, List·getD-append}
 use lib.Seq.{getD-at}
 use lib.Dec.{ltb}
 use borrow.Author.Tests.{ltb-true, ltb-false}
-use Rattle.base.specs.Lists.{repeat, tail}
-use Rattle.base.proofs.ListLaws.{getD-map, repeat-suc}
+use Rattle.base.specs.Lists.{iterate, tail}
+use Rattle.base.proofs.ListLaws.{getD-map, iterate-suc}
 use Rattle.lasso.specs.Lasso.{Lasso, Positions, joined, combine, before}
-use Rattle.theory.proofs.World.{Orbit, PositionSet, approximant}
+use Rattle.theory.proofs.Semantics.{Lasso-positions, PositionSet, approximant}
 
 abbrev pub successor : ℕ → ℕ → ℕ → ℕ
 successor stem total i = cond (ltb (suc i) total) (suc i) stem
@@ -24,7 +24,7 @@ successor-lt stem total h i l = by (ltb (suc i) total) refl
     by true e = ltb-true (suc i) total e
     by false e = h
 
-abbrev pub orbit : (c : Lasso) → c .stem < length (c .letters) → Orbit
+abbrev pub orbit : (c : Lasso) → c .stem < length (c .letters) → Lasso-positions
 orbit c h =
     record {
       count = length (c .letters);
@@ -86,9 +86,9 @@ agree-before stem n h u s a =
 
 pub agree-rounds : (n k : ℕ) (f : PositionSet → PositionSet) (g : Positions → Positions)
     → ((u : PositionSet) (s : Positions) → Agree n u s → Agree n (f u) (g s))
-    → (u : PositionSet) (s : Positions) → Agree n u s → Agree n (approximant k f u) (repeat k g s)
+    → (u : PositionSet) (s : Positions) → Agree n u s → Agree n (approximant k f u) (iterate k g s)
 unfolding approximant
 agree-rounds n zero f g h u s a = a
 agree-rounds n (suc k) f g h u s a =
-    subst (Agree n (f (approximant k f u))) (sym (repeat-suc k g s))
-    (h (approximant k f u) (repeat k g s) (agree-rounds n k f g h u s a))
+    subst (Agree n (f (approximant k f u))) (sym (iterate-suc k g s))
+    (h (approximant k f u) (iterate k g s) (agree-rounds n k f g h u s a))

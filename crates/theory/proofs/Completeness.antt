@@ -13,10 +13,10 @@ use native.Mathlib.Decide.{decLe, decLt, ℕ-discrete}
 use native.Mathlib.Nat.{mul-le-mul-right}
 use lib.ListN.{length, length-map}
 use lib.Dec.{T}
-use Rattle.base.specs.Lists.{numbers}
+use Rattle.base.specs.Lists.{range}
 use Rattle.base.specs.Bits.{word}
 use Rattle.base.proofs.BoolLaws.{of-T, to-T}
-use Rattle.base.proofs.ListLaws.{getD-map, getD-numbers, length-numbers}
+use Rattle.base.proofs.ListLaws.{getD-map, getD-range, length-range}
 use Rattle.base.proofs.WordLaws.{word-lt, word-inj}
 use Rattle.formula.specs.Table.{Operator, Table, operator, is-fix}
 use Rattle.tableau.specs.Saturation.{Subset, has, nothing, moves, saturate}
@@ -26,13 +26,13 @@ use Rattle.tableau.proofs.SaturationLaws.{inside-has, inside-by, has-lt, nothin
 use Rattle.tableau.proofs.TransitionLaws.{Facts, facts}
 use Rattle.tableau.proofs.ChoiceLaws.{chosen, chosen-moves, chosen-inside, chosen-in}
 use Rattle.tableau.proofs.NodeLaws.{at-root, by-transition, root-length}
-use Rattle.profile.specs.Traces.{Triple, Stand, triples, join}
+use Rattle.profile.specs.Traces.{Triple, TraceState, triples, join}
 use Rattle.profile.specs.Profiles.{is-least}
 use Rattle.tableau.specs.Run.{Reachable}
 use Rattle.profile.specs.Cycle.{Lap, Rejecting, Run, AcceptingCycle}
 use Rattle.profile.proofs.TripleLaws.{join-of}
 use Rattle.profile.proofs.TraceLaws.{Goes, triples-trace}
-use Rattle.theory.proofs.World.{Orbit, Part, holds, Move, Move.within, Move.across, Path, Path.here, Path.step}
+use Rattle.theory.proofs.Semantics.{Lasso-positions, Part, holds, Move, Move.within, Move.across, Path, Path.here, Path.step}
 use Rattle.theory.proofs.Pigeon.{Twice, pigeon}
 use Rattle.theory.proofs.Strategy.{Strategy, win, move-lt, body-only}
 use Rattle.theory.proofs.TreeLaws.{Lawful}
@@ -52,15 +52,15 @@ pair-inj n e e′ p p′ h h′ q = by (decLt e e′) (decLt e′ e)
 
 -- the subset of a function
 subset-by : ℕ → (ℕ → Bool) → Subset
-subset-by n f = map f (numbers 0 n)
+subset-by n f = map f (range 0 n)
 
 subset-by-length : (n : ℕ) (f : ℕ → Bool) → length (subset-by n f) ≡ n
 unfolding subset-by
-subset-by-length n f = length-map (numbers 0 n) f ∙ length-numbers 0 n
+subset-by-length n f = length-map (range 0 n) f ∙ length-range 0 n
 
 subset-by-has : (n : ℕ) (f : ℕ → Bool) (i : ℕ) → i < n → has (subset-by n f) i ≡ f i
 unfolding subset-by
-subset-by-has n f i h = getD-map f (numbers 0 n) i 0 false (omega (arith, length-numbers 0 n)) ∙ ap f (getD-numbers 0 n i 0 h ∙ omega arith)
+subset-by-has n f i h = getD-map f (range 0 n) i 0 false (omega (arith, length-range 0 n)) ∙ ap f (getD-range 0 n i 0 h ∙ omega arith)
 
 least-is : (o : Operator) → T (is-least o) → (l : ℕ) × (o ≡ Operator.fix false l)
 least-is (Operator.leaf l) h = absurd h
@@ -70,7 +70,7 @@ least-is (Operator.next l) h = absurd h
 least-is (Operator.fix true l) h = absurd h
 least-is (Operator.fix false l) h = (l, refl)
 
-module _ (t : Table) (law : Lawful t) (c : Orbit) where
+module _ (t : Table) (law : Lawful t) (c : Lasso-positions) where
   module _ (ch : ℕ → ℕ → Bool) where
     -- moves from subformulas that are no fixpoint below m
     data Way (m : ℕ) : ℕ → ℕ → ℕ → ℕ → Type 0 where
@@ -249,14 +249,14 @@ module _ (t : Table) (law : Lawful t) (c : Orbit) where
     reached (suc i) = by-transition (reached i) (turn-in i (right i))
 
     -- A trace of a transition as moves on the lasso.
-    record Stood (i f : ℕ) (z : Stand) : Type 0 where
+    record Stood (i f : ℕ) (z : TraceState) : Type 0 where
       u : ℕ
       carries : Carries ch f (position i) u (z .subformula) (position i)
       weighs : z .priority ≡ min u (own t (z .subformula))
       light : u ≤ length t
       inside : T (has (set i) (z .subformula))
 
-    stood : (i : ℕ) {f : ℕ} {z : Stand} → T (has (set i) f) → Goes t (turn i .choice) f z → Stood i f z
+    stood : (i : ℕ) {f : ℕ} {z : TraceState} → T (has (set i) f) → Goes t (turn i .choice) f z → Stood i f z
     stood i {f} h Goes.begin =
         record {
           u = length t;
@@ -300,7 +300,7 @@ module _ (t : Table) (law : Lawful t) (c : Orbit) where
       record Trip (b : ℕ) : Type 0 where
         xs : List Triple
         way : List Transition
-        run : Run t (record { first = node a; last = node b; carried = xs }) way
+        run : Run t (record { first = node a; last = node b; triple-set = xs }) way
         carries : (z : Triple) → List·Memᴰ z xs → Carried b z
 
       trip-one : Trip (suc a)
@@ -410,8 +410,8 @@ module _ (t : Table) (law : Lawful t) (c : Orbit) where
           r .way,
           record {
             reachable = reached (twice .a);
-            carried = r .xs;
-            run = subst⁻¹ (λ (v : Subset). Run t (record { first = node (twice .a); last = v; carried = r .xs }) (r .way)) node-same
+            triple-set = r .xs;
+            run = subst⁻¹ (λ (v : Subset). Run t (record { first = node (twice .a); last = v; triple-set = r .xs }) (r .way)) node-same
                 (r .run);
             accepts = not-rejecting (twice .a) (twice .b) (sym (again .1)) r;
           },

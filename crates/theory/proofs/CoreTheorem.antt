@@ -13,7 +13,7 @@ use lib.ListN.{length, getD, length-map}
 use Rattle.base.proofs.BoolLaws.{of-T, to-T, and-left, and-right}
 use Rattle.formula.specs.Formula.{Formula}
 use Rattle.formula.specs.Table.{Operator, Table, table}
-use Rattle.formula.specs.Stands.{Ranged, Guarded}
+use Rattle.formula.specs.Occurrence.{Ranged, Guarded}
 use Rattle.lasso.specs.Lasso.{Lasso, meets, holds as lasso-holds}
 use Rattle.tableau.specs.Saturation.{Subset, has, nothing}
 use Rattle.tableau.specs.Transition.{Transition}
@@ -23,7 +23,7 @@ use Rattle.tableau.proofs.NodeLaws.{root-length}
 use Rattle.profile.specs.Traces.{Triple}
 use Rattle.tableau.specs.Run.{Along}
 use Rattle.profile.specs.Cycle.{Rejecting, AcceptingCycle, around}
-use Rattle.theory.proofs.World.{holds}
+use Rattle.theory.proofs.Semantics.{holds}
 use Rattle.theory.proofs.Agreement.{orbit}
 use Rattle.theory.proofs.TreeLaws.{Lawful, lawful, whole-part, whole-means, table-some}
 use Rattle.theory.proofs.Walks.{Walk, along-walk, Split, run-split}
@@ -61,7 +61,7 @@ module _ (f : Formula) (guarded : Guarded [] f) (ranged : Ranged f) where
       subst⁻¹ (λ (ss : List Transition). meets (lasso-of stem ss) f ≡ true) (q .is)
       (meets-in c f h (sym (whole-means f guarded ranged c h (λ m p. true)) ∙ true-at-0))
     where
-      q : Split t (around v (x .carried)) cycle
+      q : Split t (around v (x .triple-set)) cycle
       q = run-split t (x .run)
 
       c : Lasso
@@ -71,7 +71,7 @@ module _ (f : Formula) (guarded : Guarded [] f) (ranged : Ranged f) where
       lead = along-walk t a
 
       accepts : Rejecting t (cycle-triples t law v (q .s) (q .ss)) → ⊥
-      accepts = subst (λ (xs : List Triple). Rejecting t xs → ⊥) (q .carried) (x .accepts)
+      accepts = subst (λ (xs : List Triple). Rejecting t xs → ⊥) (q .triple-set) (x .accepts)
 
       h : c .stem < length (c .letters)
       h = stem-short stem (q .s) (q .ss)
@@ -90,5 +90,8 @@ module _ (f : Formula) (guarded : Guarded [] f) (ranged : Ranged f) where
   pub satisfiable : ((c : Lasso) × (meets c f ≡ true)) ↔ ((v : Subset) × (cycle : List Transition) × AcceptingCycle t v cycle)
   satisfiable = (
     λ p. meets-cycle (p .0) (p .1),
-    λ p. let (v, cycle, x) = p in let (stem, a) = x .reachable in (lasso-of stem cycle, cycle-meets a x),
+    λ p.
+        let (v, cycle, x) = p in
+        let (stem, a) = x .reachable in
+        (lasso-of stem cycle, cycle-meets a x),
   )

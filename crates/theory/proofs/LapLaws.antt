@@ -11,9 +11,9 @@ use Rattle.formula.specs.Table.{Operator, Table, operator, is-fix}
 use Rattle.tableau.specs.Saturation.{Subset, has, moves}
 use Rattle.tableau.specs.Transition.{Transition, next-of}
 use Rattle.tableau.specs.Nodes.{operands}
-use Rattle.profile.specs.Traces.{Triple, Stand, stand, triples, join, joined}
+use Rattle.profile.specs.Traces.{Triple, TraceState, trace-state, triples, join, joined}
 use Rattle.profile.specs.Cycle.{Lap}
-use Rattle.profile.proofs.TripleLaws.{Known, fix-priority, priority-le, join-in, join-known}
+use Rattle.profile.proofs.TripleLaws.{Triples-known, fix-priority, priority-le, join-in, join-known}
 use Rattle.profile.proofs.TraceLaws.{Goes, Trace, trace-triples, triples-known}
 use Rattle.theory.proofs.TreeLaws.{Lawful}
 use Rattle.theory.proofs.Walks.{carry}
@@ -45,7 +45,7 @@ module _ (t : Table) where
       by true f = f tt
       by false f = omega arith
 
-  pub stand-priority : (x e : ℕ) → x ≤ length t → stand t x e .priority ≡ min x (own e)
+  pub stand-priority : (x e : ℕ) → x ≤ length t → trace-state t x e .priority ≡ min x (own e)
   stand-priority x e h = by (is-fix (operator t e))
     where
       by : (b : Bool) → cond b (min x e) x ≡ min x (cond b e (length t))
@@ -65,7 +65,7 @@ module _ (t : Table) where
 
   module _ (law : Lawful t) where
     -- a stand on its way, and what is left of the trace
-    trail-trace : {w : Subset} {f x u g : ℕ} (s : Stand) → Goes t w f s → s .subformula ≡ x → s .priority ≤ own x → Trail w x u g
+    trail-trace : {w : Subset} {f x u g : ℕ} (s : TraceState) → Goes t w f s → s .subformula ≡ x → s .priority ≤ own x → Trail w x u g
         → Trace t w (record { from = f; priority = min (s .priority) u; to = g })
     trail-trace {w} {f} {x} {u} {g} s a e h (last m) =
         record {
@@ -78,7 +78,7 @@ module _ (t : Table) where
         let q = stand-priority (s .priority) y (omega (arith, own-le x)) in
         let k = trail-le b in
         subst (λ (i : ℕ). Trace t w (record { from = f; priority = i; to = g })) (omega arith)
-        (trail-trace (stand t (s .priority) y)
+        (trail-trace (trace-state t (s .priority) y)
         (Goes.move a (subst⁻¹ (λ (i : ℕ). List·Memᴰ y (moves (operator t i) (has w i))) e m)) refl (omega arith) b)
 
     trail-triple : (v : Subset) {w : Subset} {f u g : ℕ} → In v f → Trail w f u g
@@ -89,9 +89,9 @@ module _ (t : Table) where
         let l = own-le f in
         trace-triples t v w (λ e m p h. law .inside e m p h .1) (record { from = f; priority = u; to = g }) (i .2) (i .1) (i .0)
         (subst (λ (n : ℕ). Trace t w (record { from = f; priority = n; to = g })) (omega arith)
-        (trail-trace (stand t (length t) f) Goes.begin refl (omega arith) a))
+        (trail-trace (trace-state t (length t) f) Goes.begin refl (omega arith) a))
 
-    trails-carry : (v : Subset) (ss : List Transition) (xs : List Triple) (a : Triple) {u g : ℕ} → Known t xs → List·Memᴰ a xs
+    trails-carry : (v : Subset) (ss : List Transition) (xs : List Triple) (a : Triple) {u g : ℕ} → Triples-known t xs → List·Memᴰ a xs
         → Trails v ss (a .to) u g → List·Memᴰ (record { from = a .from; priority = min (a .priority) u; to = g }) (carry t v xs ss)
     trails-carry v ss xs a k m done =
         Memᴰ·cast (λ i. record { from = a .from; priority = same i; to = a .to }) m

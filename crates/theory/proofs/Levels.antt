@@ -15,8 +15,8 @@ use Rattle.base.proofs.ListLaws.{Each, each-left, each-right, each-of}
 use Rattle.formula.specs.Formula.{Formula, size}
 use Rattle.formula.specs.Table.{Operator}
 use Rattle.formula.specs.Reading.{Scope}
-use Rattle.formula.specs.Stands.{Stands}
-use Rattle.formula.proofs.WellFormed.{sits-first, stands-left, stands-right, stands-next, stands-body}
+use Rattle.formula.specs.Occurrence.{Occurs}
+use Rattle.formula.proofs.WellFormed.{sits-first, occurs-left, occurs-right, occurs-next, occurs-body}
 use Rattle.tableau.specs.Saturation.{moves}
 
 -- of each subformula, how many next operators stand around it
@@ -57,7 +57,7 @@ module _ (op : ℕ → Operator) (end : ℕ → ℕ) (count : ℕ) (level : ℕ 
   Marked = Each (λ x d. level x ≡ d)
 
   record Levelled (d e : ℕ) (scope : Scope) (binders : List ℕ) (f : Formula) : Type 0 where
-    stands : Stands op end count e scope binders f
+    stands : Occurs op end count e scope binders f
     marks : Marked e (levels d f)
     under : (i : ℕ) → i < length binders → level (getD binders i 0) ≤ d
     guards : (i : ℕ) → i < length binders → T (getD scope i false) → level (getD binders i 0) < d
@@ -84,7 +84,7 @@ module _ (op : ℕ → Operator) (end : ℕ → ℕ) (count : ℕ) (level : ℕ 
     unfolding levels
     on-left a b h =
         record {
-          stands = stands-left op end count (h .stands);
+          stands = occurs-left op end count (h .stands);
           marks = each-left (λ x d. level x ≡ d) (e + 1) (levels d a) (levels d b) (h .marks .1);
           under = h .under;
           guards = h .guards;
@@ -94,7 +94,7 @@ module _ (op : ℕ → Operator) (end : ℕ → ℕ) (count : ℕ) (level : ℕ 
     unfolding levels
     on-right a b h =
         record {
-          stands = stands-right op end count (h .stands);
+          stands = occurs-right op end count (h .stands);
           marks = each-right (λ x d. level x ≡ d) (e + 1) (e + 1 + size a) (levels d a) (levels d b) (omega (arith, levels-length d a))
               (h .marks .1);
           under = h .under;
@@ -105,7 +105,7 @@ module _ (op : ℕ → Operator) (end : ℕ → ℕ) (count : ℕ) (level : ℕ 
     unfolding levels
     on-next a h =
         record {
-          stands = stands-next op end count (h .stands);
+          stands = occurs-next op end count (h .stands);
           marks = h .marks .1;
           under = λ i l. omega (arith, h .under i l);
           guards = λ i l g. omega (arith, h .under i l);
@@ -114,7 +114,7 @@ module _ (op : ℕ → Operator) (end : ℕ → ℕ) (count : ℕ) (level : ℕ 
     on-body : {g : Bool} (a : Formula) → Levelled d e scope binders (Formula.fix g a) → Levelled d (e + 1) (false ∷ scope) (e ∷ binders) a
     unfolding levels
     on-body {g} a h =
-        record { stands = stands-body op end count (h .stands); marks = h .marks .1; under = λ i. under i; guards = λ i. guards i }
+        record { stands = occurs-body op end count (h .stands); marks = h .marks .1; under = λ i. under i; guards = λ i. guards i }
       where
         under : (i : ℕ) → i < suc (length binders) → level (getD (e ∷ binders) i 0) ≤ d
         under zero l = omega (arith, h .marks .0)
@@ -166,7 +166,7 @@ module _ (op : ℕ → Operator) (end : ℕ → ℕ) (count : ℕ) (level : ℕ 
   tall-falls h l (inr d) = omega (arith, mul-le-mul-right (suc count) d)
 
 -- Of a whole formula.
-module _ (op : ℕ → Operator) (end : ℕ → ℕ) (f : Formula) (whole : Stands op end (size f) 0 [] [] f) where
+module _ (op : ℕ → Operator) (end : ℕ → ℕ) (f : Formula) (whole : Occurs op end (size f) 0 [] [] f) where
   abbrev level : ℕ → ℕ
   level x = getD (levels 0 f) x 0
 

@@ -1,4 +1,4 @@
-pub mod World
+pub mod Semantics
 pub mod Settle
 pub mod Pigeon
 pub mod Refutation
@@ -11,5 +11,5 @@ pub mod LapLaws
 pub mod Soundness
 pub mod Completeness
 pub mod CoreTheorem
-pub mod Astray
+pub mod Pitfalls
 pub mod TraceTheorem

@@ -31,7 +31,10 @@ swap-lt : (n v x : ℕ) → x < suc n → v < suc n → (x ≡ v → ⊥) → sw
 swap-lt n v x h k d = go (eqb x n) refl
   where
     go : (s : Bool) → eqb x n ≡ s → cond s v x < n
-    go true p = let q : x ≡ n = eqb-true x n p in let d′ : (v ≡ n → ⊥) = λ r. d (q ∙ sym r) in omega arith
+    go true p =
+        let q : x ≡ n = eqb-true x n p in
+        let d′ : (v ≡ n → ⊥) = λ r. d (q ∙ sym r) in
+        omega arith
     go false p = let d′ : (x ≡ n → ⊥) = eqb-false x n p in omega arith
 
 find : (f : ℕ → ℕ) (v k : ℕ) → ((a : ℕ) × (a < k) × (f a ≡ v)) ⊎ ((a : ℕ) → a < k → f a ≡ v → ⊥)

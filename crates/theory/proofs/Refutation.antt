@@ -11,11 +11,11 @@ use lib.Dec.{T, eqb}
 use borrow.Author.Tests.{eqb-true}
 use Rattle.formula.specs.Table.{Operator, Table, operator}
 use Rattle.lasso.specs.Lasso.{joined}
-use Rattle.theory.proofs.World.{Orbit, PositionSet, Sets, put, approximant, Part, holds, asks-leaf, Move, Move.within}
-use Rattle.theory.proofs.World.{Move.across, Path, Path.here, Path.step, Fair}
+use Rattle.theory.proofs.Semantics.{Lasso-positions, PositionSet, Sets, put, approximant, Part, holds, asks-leaf, Move, Move.within}
+use Rattle.theory.proofs.Semantics.{Move.across, Path, Path.here, Path.step, Locally-true}
 use Rattle.theory.proofs.Pigeon.{pigeon}
 
-module _ (t : Table) (c : Orbit) (ch : ℕ → ℕ → Bool) where
+module _ (t : Table) (c : Lasso-positions) (ch : ℕ → ℕ → Bool) where
   abbrev Way : ℕ → ℕ → ℕ → ℕ → ℕ → Type 0
   Way = Path t c ch
 
@@ -34,7 +34,7 @@ module _ (t : Table) (c : Orbit) (ch : ℕ → ℕ → Bool) where
     -- what is met is closed under moves, and its leaves are true
     pub record Consistent : Type 0 where
       pub inside : (x p : ℕ) → met x p → p < c .count
-      pub fair : (x p : ℕ) → met x p → Fair t c x p
+      pub fair : (x p : ℕ) → met x p → Locally-true t c x p
       pub goes : (x p y q : ℕ) → met x p → To x p y q → met y q
 
     -- a least fixpoint m that comes back to itself

@@ -9,7 +9,7 @@ use native.Mathlib.Decide.{ℕ-discrete, decLe}
 use lib.Dec.{eqb}
 use Rattle.formula.specs.Table.{Table}
 use Rattle.lasso.specs.Lasso.{joined}
-use Rattle.theory.proofs.World.{Orbit, PositionSet, Sets, put, approximant, Part, holds}
+use Rattle.theory.proofs.Semantics.{Lasso-positions, PositionSet, Sets, put, approximant, Part, holds}
 
 -- below n, s is inside t
 abbrev pub Sub : ℕ → PositionSet → PositionSet → Type 0
@@ -114,7 +114,7 @@ joined-mono true false b false d f g e = g e
 joined-mono false true b c d f g e = rw (f refl) (g e)
 joined-mono false false b c d f g e = absurd (false≢true e)
 
-module _ (t : Table) (c : Orbit) where
+module _ (t : Table) (c : Lasso-positions) where
   pub mono : {e : ℕ} (a : Part t e) (σ τ : Sets) → ((m : ℕ) → Sub (c .count) (σ m) (τ m)) → Sub (c .count) (holds t c a σ) (holds t c a τ)
   unfolding holds
   mono (Part.leaf l q) σ τ h = λ p l e. e

@@ -21,7 +21,7 @@ use Rattle.tableau.proofs.SaturationLaws.{saturate-length}
 use Rattle.tableau.proofs.TransitionLaws.{asks, next-is, Facts, facts}
 use Rattle.profile.specs.Cycle.{Rejecting}
 use Rattle.profile.proofs.TraceLaws.{next-operand}
-use Rattle.theory.proofs.World.{Orbit, Part, holds, Move, Move.within, Move.across, Path, Path.here, Path.step}
+use Rattle.theory.proofs.Semantics.{Lasso-positions, Part, holds, Move, Move.within, Move.across, Path, Path.here, Path.step}
 use Rattle.theory.proofs.Refutation.{Consistent, Rejected, Escape, along, refutation}
 use Rattle.theory.proofs.Agreement.{orbit}
 use Rattle.theory.proofs.TreeLaws.{Lawful}
@@ -43,7 +43,7 @@ module _ (t : Table) (law : Lawful t) (start hub : Subset) (fits : length start 
   abbrev all : List Transition
   all = stem ++ (s ∷ ss)
 
-  abbrev c : Orbit
+  abbrev c : Lasso-positions
   c = orbit (lasso-of stem (s ∷ ss)) (stem-short stem s ss)
 
   abbrev total : ℕ
@@ -62,7 +62,7 @@ module _ (t : Table) (law : Lawful t) (start hub : Subset) (fits : length start 
   ch x i = has (step-at i .choice) x
 
   -- x is in the saturated set at position i
-  record Met (x i : ℕ) : Type 0 where
+  record Met-on (x i : ℕ) : Type 0 where
     inside : i < total
     holds-it : T (has (saturate t (step-at i .choice) (node i)) x)
 
@@ -101,7 +101,7 @@ module _ (t : Table) (law : Lawful t) (start hub : Subset) (fits : length start 
       by (on e l) = ap node e ∙ node-suc p h
       by (round e l) = ap node e ∙ node-stem ∙ sym (ap node (l ∙ total-is) ∙ walk-end t whole) ∙ node-suc p h
 
-  follow : {x y i : ℕ} → Met x i → List·Memᴰ y (moves (operator t x) (ch x i)) → Met y i
+  follow : {x y i : ℕ} → Met-on x i → List·Memᴰ y (moves (operator t x) (ch x i)) → Met-on y i
   follow {x} {y} {i} h m =
       record {
         inside = h .inside;
@@ -109,7 +109,7 @@ module _ (t : Table) (law : Lawful t) (start hub : Subset) (fits : length start 
             (omega (arith, law .inside x y (ch x i) m .1, saturate-length t (step-at i .choice) (node i), node-length i));
       }
 
-  next-in : {x y i : ℕ} → Met x i → List·Memᴰ y (next-of (operator t x)) → In t (node (c .after i)) y
+  next-in : {x y i : ℕ} → Met-on x i → List·Memᴰ y (next-of (operator t x)) → In t (node (c .after i)) y
   next-in {x} {y} {i} h m =
       let l = law .next-inside x y m .1 in (
         subst⁻¹ (λ (v : Subset). T (has v y)) (node-after i (h .inside))
@@ -118,14 +118,14 @@ module _ (t : Table) (law : Lawful t) (start hub : Subset) (fits : length start 
         l,
       )
 
-  cross : {x y i : ℕ} → Met x i → List·Memᴰ y (next-of (operator t x)) → Met y (c .after i)
+  cross : {x y i : ℕ} → Met-on x i → List·Memᴰ y (next-of (operator t x)) → Met-on y (c .after i)
   cross {x} {y} {i} h m =
       let l = c .after-lt i (h .inside) in record { inside = l; holds-it = fact (c .after i) l .enters y (next-in h m .0) }
 
   letter-at : (i : ℕ) → c .letter i ≡ step-at i .letter
   letter-at i = List·getD-map (λ (s : Transition). s .letter) all i no-transition
 
-  consistent : Consistent t c ch Met
+  consistent : Consistent t c ch Met-on
   consistent =
       record {
         inside = λ x p h. h .inside;
@@ -134,14 +134,14 @@ module _ (t : Table) (law : Lawful t) (start hub : Subset) (fits : length start 
         goes = λ x p y q h m. goes h m;
       }
     where
-      goes : {x p y q : ℕ} → Met x p → Move t c ch x p y q → Met y q
-      goes {y = y} h (within m e) = subst⁻¹ (Met y) e (follow h m)
-      goes {y = y} h (across m e) = subst⁻¹ (Met y) e (cross h m)
+      goes : {x p y q : ℕ} → Met-on x p → Move t c ch x p y q → Met-on y q
+      goes {y = y} h (within m e) = subst⁻¹ (Met-on y) e (follow h m)
+      goes {y = y} h (across m e) = subst⁻¹ (Met-on y) e (cross h m)
 
   -- From x at p along moves to the end of a lap: the operand g of a next at the last position. The priority is that of what is passed.
   data Line : ℕ → ℕ → ℕ → ℕ → Type 0 where
     end : {p x g : ℕ} → List·Memᴰ g (next-of (operator t x)) → suc p ≡ total → Line p x (length t) g
-    next : {p x y u g : ℕ} → Met x p → List·Memᴰ y (next-of (operator t x)) → Line (c .after p) y u g → Line p x u g
+    next : {p x y u g : ℕ} → Met-on x p → List·Memᴰ y (next-of (operator t x)) → Line (c .after p) y u g → Line p x u g
     inner : {p x y u g : ℕ} → List·Memᴰ y (moves (operator t x) (ch x p)) → Line p y u g → Line p x (min (own t x) u) g
 
   -- Such a line, transition by transition: the rest of this one, the rest of the lap, and further laps.
@@ -236,7 +236,7 @@ module _ (t : Table) (law : Lawful t) (start hub : Subset) (fits : length start 
   slow-on e (inl h) = inl (omega arith)
   slow-on e (inr h) = inl (omega arith)
 
-  cut : {lo x p z k : ℕ} → Met x p → Path t c ch lo x p z k → Cut lo x p z k ⊎ Slow x p z k
+  cut : {lo x p z k : ℕ} → Met-on x p → Path t c ch lo x p z k → Cut lo x p z k ⊎ Slow x p z k
   cut h here = inr (inr (refl, omega arith))
   cut {lo} {x} {p} {z} {k} h (step {y = y} {q = q} m b a) =
       ⊎-elim (λ r. inl (longer m b r)) (slow m (after p (h .inside))) (cut (consistent .goes x p y q h m) a)
@@ -257,7 +257,7 @@ module _ (t : Table) (law : Lawful t) (start hub : Subset) (fits : length start 
 
   -- a path before a line
   module _ (lo : ℕ) (in-table : lo ≤ length t) (P : ℕ → Type 0) (keeps : (a u : ℕ) → lo ≤ a → P u → P (min a u)) where
-    prepend : {x p z k u g : ℕ} → Met x p → lo ≤ x → Path t c ch lo x p z k → Line k z u g → P u → (v : ℕ) × Line p x v g × P v
+    prepend : {x p z k u g : ℕ} → Met-on x p → lo ≤ x → Path t c ch lo x p z k → Line k z u g → P u → (v : ℕ) × Line p x v g × P v
     prepend {u = u} e h here a b = (u, a, b)
     prepend {x} {p} {z} {k} {u} {g} e h (step {y = y} {q = q} m b r) a d =
         go m (prepend {x = y} {p = q} (consistent .goes x p y q e m) b r a d)
@@ -269,14 +269,14 @@ module _ (t : Table) (law : Lawful t) (start hub : Subset) (fits : length start 
         go (across i j) f = (f .0, next e i (subst (λ (n : ℕ). Line n y (f .0) g) j (f .1)), f .2)
 
   -- No least fixpoint m comes back to itself.
-  module _ {m l j : ℕ} (is-least : operator t m ≡ Operator.fix false l) (under : m < l) (met : Met m j) where
+  module _ {m l j : ℕ} (is-least : operator t m ≡ Operator.fix false l) (under : m < l) (met : Met-on m j) where
     to-body : (a : Bool) → List·Memᴰ l (moves (operator t m) a)
     to-body a = subst⁻¹ (λ (o : Operator). List·Memᴰ l (moves o a)) is-least (List·Memᴰ·head refl)
 
     m-le : m ≤ length t
     m-le = omega (arith, law .inside m l true (to-body true))
 
-    met-body : Met l j
+    met-body : Met-on l j
     met-body = follow met (to-body (ch m j))
 
     -- from m to the end of the lap: nothing smaller than m is passed
@@ -290,7 +290,7 @@ module _ (t : Table) (law : Lawful t) (start hub : Subset) (fits : length start 
             subst (λ (u : ℕ). Line j m u g) (omega (arith, r .2)) (inner (to-body (ch m j)) (r .1))
 
     -- the whole path, turned to begin at the first position of the cycle
-    turned : (a : Cut m l j m j) → Met (a .g) (length stem) → Line (length stem) (a .g) m (a .g)
+    turned : (a : Cut m l j m j) → Met-on (a .g) (length stem) → Line (length stem) (a .g) m (a .g)
     turned a h = same (prepend m m-le (λ u. u ≡ m) (λ a u h k. omega arith) h (a .above) (a .rest) (to-end a) refl)
       where
         same : {p x g : ℕ} → (v : ℕ) × Line p x v g × (v ≡ m) → Line p x m g
@@ -298,13 +298,13 @@ module _ (t : Table) (law : Lawful t) (start hub : Subset) (fits : length start 
 
     crosses : Cut m l j m j → ⊥
     crosses a =
-        let met-x : Met (a .x′) (a .p′) = along t c ch Met consistent met-body (a .before) in
+        let met-x : Met-on (a .x′) (a .p′) = along t c ch Met-on consistent met-body (a .before) in
         let e : c .after (a .p′) ≡ length stem = ends (a .last) (after (a .p′) (met-x .inside)) in
         let in-g : In t (node (length stem)) (a .g) = subst (λ (i : ℕ). In t (node i) (a .g)) e (next-in met-x (a .is-next)) in
         accepts
         (record {
           triple = record { from = a .g; priority = m; to = a .g };
-          lap = laps-lap t law hub s ss (laps-of in-g (parts (turned a (subst (Met (a .g)) e (cross met-x (a .is-next))))));
+          lap = laps-lap t law hub s ss (laps-of in-g (parts (turned a (subst (Met-on (a .g)) e (cross met-x (a .is-next))))));
           back = refl;
           least = rw is-least tt;
         })
@@ -323,13 +323,13 @@ module _ (t : Table) (law : Lawful t) (start hub : Subset) (fits : length start 
   pub cycle-holds : (a : Part t 0) → holds t c a (λ m p. true) 0 ≡ true
   cycle-holds a = by (holds t c a (λ m p. true) 0) refl
     where
-      begins : Met 0 0
+      begins : Met-on 0 0
       begins = let l : 0 < total = omega (arith, (stem-short stem s ss)) in record { inside = l; holds-it = fact 0 l .enters 0 first }
 
       by : (b : Bool) → holds t c a (λ m p. true) 0 ≡ b → b ≡ true
       by true e = refl
       by false e =
           absurd
-          (⊎-elim (λ (x : Escape t c ch Met 0 (λ m p. true) 0). true≢false (x .fails))
-          (λ (x : Rejected t c ch Met). never-back (x .is-least) (x .under) (x .is-met) (x .around))
-          (refutation t c ch Met consistent a (λ m p. true) 0 begins e))
+          (⊎-elim (λ (x : Escape t c ch Met-on 0 (λ m p. true) 0). true≢false (x .fails))
+          (λ (x : Rejected t c ch Met-on). never-back (x .is-least) (x .under) (x .is-met) (x .around))
+          (refutation t c ch Met-on consistent a (λ m p. true) 0 begins e))

@@ -17,8 +17,8 @@ use Rattle.tableau.specs.Saturation.{moves}
 use Rattle.tableau.specs.Transition.{next-of}
 use Rattle.tableau.proofs.TransitionLaws.{asks}
 use Rattle.profile.specs.Profiles.{is-least}
-use Rattle.theory.proofs.World.{Orbit, PositionSet, Sets, put, approximant, Part, holds, asks-leaf, Move, Move.within}
-use Rattle.theory.proofs.World.{Move.across, Path, Path.here, Path.step, Fair}
+use Rattle.theory.proofs.Semantics.{Lasso-positions, PositionSet, Sets, put, approximant, Part, holds, asks-leaf, Move, Move.within}
+use Rattle.theory.proofs.Semantics.{Move.across, Path, Path.here, Path.step, Locally-true}
 use Rattle.theory.proofs.Settle.{Sub, mono, put-mono, settled}
 
 -- the first k below n with b k, or n
@@ -48,7 +48,7 @@ first-is (suc n) b h = go (b zero) refl h (first-is n (λ j. b (suc j)))
     go true e l f = e
     go false e l f = f (omega arith)
 
-module _ (t : Table) (c : Orbit) where
+module _ (t : Table) (c : Lasso-positions) where
   pub move-lt : {ch : ℕ → ℕ → Bool} {x p y q : ℕ} → p < c .count → Move t c ch x p y q → q < c .count
   move-lt h (within m e) = rw e h
   move-lt {p = p} h (across m e) = rw e (c .after-lt p h)
@@ -76,7 +76,7 @@ module _ (t : Table) (c : Orbit) where
     pub low : (y q : ℕ) → Out y q → y < first
     pub inside : (x p : ℕ) → won x p ≡ true → first ≤ x
     -- leaves are true; moves stay in the region or lead out; no least fixpoint comes back to itself
-    pub fair : (x p : ℕ) → p < c .count → won x p ≡ true → Fair t c x p
+    pub fair : (x p : ℕ) → p < c .count → won x p ≡ true → Locally-true t c x p
     pub goes : (x p y q : ℕ) → p < c .count → won x p ≡ true → Move t c ch x p y q → (won y q ≡ true) ⊎ Out y q
     pub good : (m l p : ℕ) → p < c .count → operator t m ≡ Operator.fix false l → m < l → won m p ≡ true → Path t c ch m l p m p → ⊥
 
@@ -144,15 +144,15 @@ module _ (t : Table) (c : Orbit) where
         let r = many-stay x p y q l v (omega arith) d in
         omega (arith, many-falls h (move-lt l d) (r .0) a)
 
-    many-keep : {m x p y q : ℕ} (k : ℕ) → first ≤ m → p < c .count → many-won x p ≡ true → rank x p ≤ k → k ≤ rank y q
+    many-filter : {m x p y q : ℕ} (k : ℕ) → first ≤ m → p < c .count → many-won x p ≡ true → rank x p ≤ k → k ≤ rank y q
         → Path t c many-ch m x p y q → Path t c (s k .ch) m x p y q
     unfolding many-ch
-    many-keep k h l v g g′ here = here
-    many-keep {x = x} {p = p} k h l v g g′ (step {y = y} {q = q} d b a) =
+    many-filter k h l v g g′ here = here
+    many-filter {x = x} {p = p} k h l v g g′ (step {y = y} {q = q} d b a) =
         let r = many-stay x p y q l v (omega arith) d in
         let l′ = move-lt l d in
         let f = many-falls h l′ (r .0) a in
-        step (move-by (ap (λ (i : ℕ). s i .ch x p) {x = rank x p} {y = k} (omega arith)) d) b (many-keep k h l′ (r .0) (omega arith) g′ a)
+        step (move-by (ap (λ (i : ℕ). s i .ch x p) {x = rank x p} {y = k} (omega arith)) d) b (many-filter k h l′ (r .0) (omega arith) g′ a)
 
     pub many : Strategy first (λ y q. (k : ℕ) × (k < n) × Out k y q)
     many =
@@ -167,7 +167,7 @@ module _ (t : Table) (c : Orbit) where
               let r = many-of m p v in
               let i = s (rank m p) .inside m p (r .0) in
               let d = many-stay m p l p h v (omega arith) (to-body e) in
-              s (rank m p) .good m l p h e g (r .0) (many-keep (rank m p) i h (d .0) (d .1) (omega arith) a);
+              s (rank m p) .good m l p h e g (r .0) (many-filter (rank m p) i h (d .0) (d .1) (omega arith) a);
         }
 
   -- What it takes to put one subformula e more before a strategy, won at the positions of at. Out′: where the strategy leads out to, which
@@ -179,7 +179,7 @@ module _ (t : Table) (c : Orbit) where
     agree : (x p : ℕ) → first ≤ x → ch x p ≡ s .ch x p
     low : (y q : ℕ) → Out y q → y < e
     back : (y q : ℕ) → Out′ y q → Out y q ⊎ ((y ≡ e) × (at q ≡ true))
-    fair : (p : ℕ) → p < c .count → at p ≡ true → Fair t c e p
+    fair : (p : ℕ) → p < c .count → at p ≡ true → Locally-true t c e p
     goes : (p y q : ℕ) → p < c .count → at p ≡ true → Move t c ch e p y q → (s .won y q ≡ true) ⊎ Out y q
     good : (l p : ℕ) → p < c .count → operator t e ≡ Operator.fix false l → at p ≡ true → Path t c ch e l p e p → ⊥
 
@@ -234,7 +234,7 @@ module _ (t : Table) (c : Orbit) where
           ch = n .ch;
           low = n .low;
           inside = λ x p v. ⊎-elim (λ r. omega arith) (λ r. omega (arith, n .under, s .inside x p r)) (ext-of x p v);
-          fair = λ x p l v. ⊎-elim (λ r. subst⁻¹ (λ (z : ℕ). Fair t c z p) (r .0) (n .fair p l (r .1))) (λ r. s .fair x p l r)
+          fair = λ x p l v. ⊎-elim (λ r. subst⁻¹ (λ (z : ℕ). Locally-true t c z p) (r .0) (n .fair p l (r .1))) (λ r. s .fair x p l r)
               (ext-of x p v);
           goes = λ x p y q l v m. ext-goes x p y q l (ext-of x p v) m;
           good = λ m l p h q g v a. ext-good m l p h q g (ext-of m p v) a;

@@ -23,7 +23,7 @@ use Rattle.tableau.specs.Run.{Along, Reachable}
 use Rattle.tableau.proofs.SaturationLaws.{inside-has, nothing-has, set-of, saturate-holds, saturate-length, saturate-closed}
 use Rattle.tableau.proofs.TransitionLaws.{facts}
 use Rattle.tableau.proofs.NodeLaws.{along-length, root-length, reachable-length}
-use Rattle.profile.specs.Traces.{Triple, Stand, triples}
+use Rattle.profile.specs.Traces.{Triple, TraceState, triples}
 use Rattle.profile.proofs.TraceLaws.{Goes, Trace, next-operand, triples-trace, trace-triples, triples-known}
 use Rattle.profile.proofs.RootLaws.{operands-after}
 use Rattle.theory.proofs.TreeLaws.{Lawful, lawful}
@@ -54,7 +54,7 @@ module _ (bytes : List ℕ) (f : Formula) (reads : parse bytes ≡ Reading.accep
         trace-triples t v (s .choice) (λ e k b i. law .inside e k b i .1) a l p (h .0) (h .1),
   )
 
-  goes-met : (v : Subset) {w : Subset} {e : ℕ} {s : Stand} → length v ≡ length t → T (has v e) → Goes t w e s
+  goes-met : (v : Subset) {w : Subset} {e : ℕ} {s : TraceState} → length v ≡ length t → T (has v e) → Goes t w e s
       → T (has (saturate t w v) (s .subformula))
   goes-met v {w} {e} q h Goes.begin = inside-has (saturate-holds t w v) e h
   goes-met v {w} q h (Goes.move {s} {m} g i) =

@@ -13,15 +13,15 @@ use borrow.Author.Tests.{eq-eqb, ne-eqb}
 use Rattle.formula.specs.Formula.{Leaf, Formula, size}
 use Rattle.formula.specs.Table.{Operator, Table, table, ends-from, operator, is-fix}
 use Rattle.formula.specs.Reading.{Scope}
-use Rattle.formula.specs.Stands.{Ranged, Guarded, Stands}
+use Rattle.formula.specs.Occurrence.{Ranged, Guarded, Occurs}
 use Rattle.formula.proofs.Limits.{size-some}
-use Rattle.formula.proofs.WellFormed.{sits-first, end-in, stands-left, stands-right, stands-next, stands-body, Single, Operands}
-use Rattle.formula.proofs.WellFormed.{Shaped, each-shaped, stands-whole, table-size}
+use Rattle.formula.proofs.WellFormed.{sits-first, end-in, occurs-left, occurs-right, occurs-next, occurs-body, Single, Operands}
+use Rattle.formula.proofs.WellFormed.{Shaped, each-shaped, occurs-whole, table-size}
 use Rattle.lasso.specs.Lasso.{Lasso, Positions, leaf-at, holds as lasso-holds}
 use Rattle.tableau.specs.Saturation.{moves}
 use Rattle.tableau.specs.Transition.{next-of}
 use Rattle.tableau.proofs.TransitionLaws.{next-is}
-use Rattle.theory.proofs.World.{PositionSet, Sets, put, Part, holds}
+use Rattle.theory.proofs.Semantics.{PositionSet, Sets, put, Part, holds}
 use Rattle.theory.proofs.Levels.{pair-moves, height, height-falls}
 use Rattle.theory.proofs.Agreement.{orbit, Agree, agree-map, agree-combine, agree-before, agree-rounds}
 
@@ -61,7 +61,7 @@ module _ (t : Table) (end : ℕ → ℕ) (count : ℕ) where
             (ne-eqb (getD binders d 0) e (λ z. omega (arith, below d (omega arith)))) (b .same i k);
       }
 
-  means : {e : ℕ} {scope : Scope} {binders : List ℕ} (f : Formula) → Stands (operator t) end count e scope binders f → Means e binders f
+  means : {e : ℕ} {scope : Scope} {binders : List ℕ} (f : Formula) → Occurs (operator t) end count e scope binders f → Means e binders f
   unfolding holds
   means (Formula.leaf l) h =
       record { part = Part.leaf l (sits-first (h .operators)); agrees = λ c k σ ρ m. agree-map (leaf-at l) (c .letters) }
@@ -71,20 +71,20 @@ module _ (t : Table) (end : ℕ → ℕ) (count : ℕ) where
         agrees = λ c k σ ρ m. m d (omega (arith, h .guarded .0, h .scoped));
       }
   means {e} {scope} {binders} (Formula.pair o a b) h =
-      let x = means a (stands-left (operator t) end count h) in
-      let y = means b (stands-right (operator t) end count h) in
+      let x = means a (occurs-left (operator t) end count h) in
+      let y = means b (occurs-right (operator t) end count h) in
       record {
         part = Part.pair o (sits-first (h .operators)) (omega arith) (omega arith) (x .part) (y .part);
         agrees = λ c k σ ρ m. agree-combine o (length (c .letters)) _ _ _ _ (x .agrees c k σ ρ m) (y .agrees c k σ ρ m);
       }
   means {e} {scope} {binders} (Formula.next a) h =
-      let x = means a (stands-next (operator t) end count h) in
+      let x = means a (occurs-next (operator t) end count h) in
       record {
         part = Part.next (sits-first (h .operators)) (omega arith) (x .part);
         agrees = λ c k σ ρ m. agree-before (c .stem) (length (c .letters)) k _ _ (x .agrees c k σ ρ m);
       }
   means {e} {scope} {binders} (Formula.fix g a) h =
-      let x = means a (stands-body (operator t) end count h) in
+      let x = means a (occurs-body (operator t) end count h) in
       record {
         part = Part.fix e g (sits-first (h .operators)) (omega arith) (x .part);
         agrees = λ c k σ ρ m.
@@ -102,8 +102,8 @@ module _ (f : Formula) (guarded : Guarded [] f) (ranged : Ranged f) where
   abbrev end : ℕ → ℕ
   end = end-in (ends-from 0 f)
 
-  whole : Stands (operator t) end (size f) 0 [] [] f
-  whole = stands-whole (operator t) end f (λ e i. refl) (λ e i. refl) guarded ranged
+  whole : Occurs (operator t) end (size f) 0 [] [] f
+  whole = occurs-whole (operator t) end f (λ e i. refl) (λ e i. refl) guarded ranged
 
   meaning : Means t end (size f) 0 [] f
   meaning = means t end (size f) f whole

@@ -83,10 +83,10 @@ module _ (t : Table) where
     pub is : n ≡ s ∷ ss
     pub walk : Walk (p .first) (s ∷ ss) (p .last)
     pub rest : Walk (s .to) ss (p .last)
-    pub carried : p .carried ≡ carry (s .to) (triples t (p .first) (s .choice)) ss
+    pub triple-set : p .triple-set ≡ carry (s .to) (triples t (p .first) (s .choice)) ss
 
   pub run-split : {p : Profile} {n : List Transition} → Run t p n → Split p n
-  run-split (Run.one {s = s} m) = record { s = s; ss = []; is = refl; walk = go m stop; rest = stop; carried = refl }
+  run-split (Run.one {s = s} m) = record { s = s; ss = []; is = refl; walk = go m stop; rest = stop; triple-set = refl }
   run-split (Run.more {p} {ss} {s} r m) =
       let q = run-split r in
       record {
@@ -95,7 +95,7 @@ module _ (t : Table) where
         is = ap (λ (l : List Transition). l ++ (s ∷ [])) (q .is);
         walk = walk-more (q .walk) m;
         rest = walk-more (q .rest) m;
-        carried =
-            ap (λ (l : List Triple). join t l (triples t (p .last) (s .choice))) (q .carried)
+        triple-set =
+            ap (λ (l : List Triple). join t l (triples t (p .last) (s .choice))) (q .triple-set)
             ∙ sym (carry-more (q .rest) (triples t (p .first) (q .s .choice)) s);
       }

@@ -16,10 +16,10 @@ use Rattle.formula.specs.Table.{Operator, is-fix}
 use Rattle.formula.specs.Rows.{operator-at, operators-of}
 use Rattle.formula.specs.Access.{decoded}
 use Rattle.formula.specs.declared.Operator as code
-use Rattle.tableau.specs.Promise.{table-of}
+use Rattle.tableau.specs.Inner.{table-of}
 use Rattle.profile.specs.Profiles.{is-least}
-use Rattle.coded.specs.Marks.{leasts}
-use Rattle.traces.specs.Promise.{fix-at, fix-rank, With-least}
+use Rattle.profile_tables.specs.Marks.{leasts}
+use Rattle.traces.specs.Inner.{fix-at, fix-rank, With-least}
 use Rattle.traces.proofs.RankLaws.{before-suc}
 
 -- what the mask says of the subformulas before e, and what is left

@@ -11,12 +11,12 @@ use Rattle.formula.specs.Rows.{operator-at, end-at}
 use Rattle.formula.specs.declared.Table.{Table}
 use Rattle.formula.proofs.Limits.{how-many, table-nexts, table-fixpoints, parse-limited}
 use Rattle.formula.proofs.WellFormed.{Operands}
-use Rattle.formula.proofs.RowLaws.{Held, held-shaped}
-use Rattle.tableau.specs.Promise.{table-of}
+use Rattle.formula.proofs.RowLaws.{Holds-formula, held-shaped}
+use Rattle.tableau.specs.Inner.{table-of}
 use Rattle.tableau.proofs.FormedLaws.{held-formed}
 use Rattle.tableau.proofs.NodeLaws.{operands-count}
-use Rattle.coded.specs.Marks.{leasts}
-use Rattle.traces.specs.Promise.{Limited}
+use Rattle.profile_tables.specs.Marks.{leasts}
+use Rattle.traces.specs.Inner.{Rows-limited}
 
 -- one Bool for each fixpoint
 leasts-are : (t : Operators) → length (leasts t) ≡ how-many is-fix t
@@ -36,8 +36,8 @@ next-behind operator end count e (Operator.pair o l r) h x q = absurd (true≢fa
 next-behind operator end count e (Operator.next g) h x q = omega (arith, x .first, x .inside)
 next-behind operator end count e (Operator.fix g l) h x q = absurd (true≢false (sym q))
 
-module _ {bytes : List ℕ} {t : Table} (h : Held bytes t) where
-  pub held-limited : Limited (t .rows) (t .count)
+module _ {bytes : List ℕ} {t : Table} (h : Holds-formula bytes t) where
+  pub held-limited : Rows-limited (t .rows) (t .count)
   held-limited =
       let limits = parse-limited bytes (h .formula) (h .parsed) in
       record {

@@ -9,14 +9,14 @@ use native.Mathlib.Decide.{ℕ-discrete}
 use native.Mathlib.Numerals.{add-one}
 use lib.ListN.{length, getD, set}
 use lib.Seq.{getD-set-same, getD-set-other}
-use Rattle.base.specs.Lists.{numbers}
+use Rattle.base.specs.Lists.{range}
 use Rattle.base.specs.Bits.{bit, word}
 use Rattle.base.proofs.WordLaws.{word-bit}
 use Rattle.tableau.specs.Saturation.{Subset, has}
-use Rattle.tableau.specs.Promise.{table-of}
-use Rattle.coded.specs.Triples.{those}
-use Rattle.coded.specs.Marks.{Marks, weighs, reached, row-of, blank, triples}
-use Rattle.traces.specs.Promise.{next-at, next-rank, Limited, Reached, Stored, Row-filled, Done, Empty, Done-to, Triples-of}
+use Rattle.tableau.specs.Inner.{table-of}
+use Rattle.profile_tables.specs.Triples.{those}
+use Rattle.profile_tables.specs.Marks.{Marks, priorities, reached, row-of, blank, triples}
+use Rattle.traces.specs.Inner.{next-at, next-rank, Rows-limited, Traces-reached, Stored, Row-filled, Done, Empty, Done-to, Triples-of}
 use Rattle.traces.proofs.RankLaws.{before-less, nexts-of, Next-in, nexts-at, nexts-all, operands-all, next-after}
 use Rattle.traces.proofs.RankLaws.{other-after, next-small}
 use Rattle.traces.proofs.MarkLaws.{marks-at, no-marks}
@@ -69,7 +69,7 @@ module _ (rows : List ℕ) (e f : ℕ) (marks t u : List ℕ) (s : Row-filled ro
       go false q = subst⁻¹ After (st .kept q) (row-skip (sym is ∙ q))
 
 -- the rows, one subformula more
-module _ (rows : List ℕ) (count choice node e : ℕ) (t : List ℕ) (limited : Limited rows count) (h : e < count)
+module _ (rows : List ℕ) (count choice node e : ℕ) (t : List ℕ) (limited : Rows-limited rows count) (h : e < count)
     (state : Done-to rows count choice node e t) where
   abbrev State : List ℕ → Type 0
   State u = Done-to rows count choice node (e + 1) u
@@ -87,7 +87,7 @@ module _ (rows : List ℕ) (count choice node e : ℕ) (t : List ℕ) (limited :
     -- what the definition has for the row of subformula i
     abbrev Cell : (v w : Subset) (i d : ℕ) → List ℕ → Type 0
     Cell v w i d u =
-        weighs (bit (getD u (next-rank rows i * 12 + next-rank rows d) 0))
+        priorities (bit (getD u (next-rank rows i * 12 + next-rank rows d) 0))
         ≡ cond (has v (suc i)) (getD (reached (table-of rows count) w (suc i)) d []) blank
 
     -- the row of e
@@ -114,26 +114,27 @@ module _ (rows : List ℕ) (count choice node e : ℕ) (t : List ℕ) (limited :
         (state .done)
         (λ i l k. state .empty i (omega (arith, next-after rows e o)) k)
 
-    pub put-row : (marks r : List ℕ) (f : ℕ) → f ≡ next-rank rows e → bit node (e + 1) ≡ true → Reached rows count choice (e + 1) marks
+    pub put-row : (marks r : List ℕ) (f : ℕ) → f ≡ next-rank rows e → bit node (e + 1) ≡ true
+        → Traces-reached rows count choice (e + 1) marks
         → Row-filled rows marks count f t r → State r
     put-row marks r f ef b m row =
         filled r
         (λ v w nv cw d k od.
-        ap (λ (j : ℕ). weighs (bit (getD r (j * 12 + next-rank rows d) 0))) (sym ef)
-        ∙ ap (λ (x : ℕ). weighs (bit x)) (row .filled d k od)
+        ap (λ (j : ℕ). priorities (bit (getD r (j * 12 + next-rank rows d) 0))) (sym ef)
+        ∙ ap (λ (x : ℕ). priorities (bit x)) (row .filled d k od)
         ∙ sym (marks-at count marks d k)
         ∙ ap (λ (l : Marks). getD l d []) (m w cw ∙ ap (reached (table-of rows count) w) (add-one e))
         ∙ sym (ap (λ (c : Bool). cond c (getD (reached (table-of rows count) w (suc e)) d []) blank) (held v nv true b)))
         (λ v w nv cw i d l oi k od.
         let less = before-less (next-at rows) i e l oi in
         let small = next-small limited d k od in
-        ap (λ (x : ℕ). weighs (bit x)) (row .others (next-rank rows i * 12 + next-rank rows d) .0 (omega arith))
+        ap (λ (x : ℕ). priorities (bit x)) (row .others (next-rank rows i * 12 + next-rank rows d) .0 (omega arith))
         ∙ state .done v w nv cw i d l oi k od)
         (λ i l k. row .others i .1 (omega (arith, next-after rows e o)) ∙ state .empty i (omega (arith, next-after rows e o)) k)
 
 -- a map over a list is a map over the numbers of its elements
 by-number : {A : Type 0} (F q : ℕ → A) (ns : List ℕ) (k : ℕ) → ((i : ℕ) → i < length ns → q (k + i) ≡ F (getD ns i 0))
-    → map q (numbers k (length ns)) ≡ map F ns
+    → map q (range k (length ns)) ≡ map F ns
 by-number F q [] k h = refl
 by-number F q (x ∷ ns) k h =
     let a : q k ≡ F x = ap q {x = k} {y = k + 0} (omega arith) ∙ h 0 (omega arith) in
@@ -141,27 +142,27 @@ by-number F q (x ∷ ns) k h =
     λ j. a j ∷ b j
 
 -- all rows
-pub all-done : (rows : List ℕ) (count choice node : ℕ) (t : List ℕ) → Limited rows count → Done rows count choice node count t
+pub all-done : (rows : List ℕ) (count choice node : ℕ) (t : List ℕ) → Rows-limited rows count → Done rows count choice node count t
     → Triples-of rows count choice node t
 unfolding triples those
 all-done rows count choice node t limited done v w nv cw =
     let ns = nexts-of rows 0 count in
-    let cell : ℕ → ℕ → List Bool = (λ f g. weighs (bit (getD t (f * 12 + g) 0))) in
-    ap (λ (k : ℕ). map (λ f. map (cell f) (numbers 0 k)) (numbers 0 k)) (operands-all rows count ∙ sym (nexts-all rows count))
-    ∙ by-number (λ e. row-of ns (has v (suc e)) (reached (table-of rows count) w (suc e))) (λ f. map (cell f) (numbers 0 (length ns))) ns 0
+    let cell : ℕ → ℕ → List Bool = (λ f g. priorities (bit (getD t (f * 12 + g) 0))) in
+    ap (λ (k : ℕ). map (λ f. map (cell f) (range 0 k)) (range 0 k)) (operands-all rows count ∙ sym (nexts-all rows count))
+    ∙ by-number (λ e. row-of ns (has v (suc e)) (reached (table-of rows count) w (suc e))) (λ f. map (cell f) (range 0 (length ns))) ns 0
     (λ i hi.
     by-number (λ d. cond (has v (suc (getD ns i 0))) (getD (reached (table-of rows count) w (suc (getD ns i 0))) d []) blank)
     (cell (0 + i)) ns 0
     (λ j hj. one i j (nexts-at rows 0 count i hi) (nexts-at rows 0 count j hj)))
   where
     one : (i j : ℕ) → Next-in rows 0 count i (getD (nexts-of rows 0 count) i 0) → Next-in rows 0 count j (getD (nexts-of rows 0 count) j 0)
-        → weighs (bit (getD t ((0 + i) * 12 + (0 + j)) 0))
+        → priorities (bit (getD t ((0 + i) * 12 + (0 + j)) 0))
         ≡ cond (has v (suc (getD (nexts-of rows 0 count) i 0)))
         (getD (reached (table-of rows count) w (suc (getD (nexts-of rows 0 count) i 0))) (getD (nexts-of rows 0 count) j 0) [])
         blank
     one i j a b =
         let e = getD (nexts-of rows 0 count) i 0 in
         let d = getD (nexts-of rows 0 count) j 0 in
-        ap (λ (k : ℕ). weighs (bit (getD t k 0))) {x = (0 + i) * 12 + (0 + j)} {y = next-rank rows e * 12 + next-rank rows d}
+        ap (λ (k : ℕ). priorities (bit (getD t k 0))) {x = (0 + i) * 12 + (0 + j)} {y = next-rank rows e * 12 + next-rank rows d}
         (omega (arith, a .rank, b .rank))
         ∙ done v w nv cw e d (omega (arith, a .high)) (a .is) (omega (arith, b .high)) (b .is)

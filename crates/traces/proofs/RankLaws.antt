@@ -13,10 +13,10 @@ use Rattle.formula.specs.Table.{Operator, Table, is-next}
 use Rattle.formula.specs.Rows.{operator-at, operators-of}
 use Rattle.tableau.specs.Transition.{next-of}
 use Rattle.tableau.specs.Nodes.{operands}
-use Rattle.tableau.specs.Promise.{table-of}
+use Rattle.tableau.specs.Inner.{table-of}
 use Rattle.profile.specs.Profiles.{is-least}
-use Rattle.coded.specs.Marks.{nexts-from, leasts}
-use Rattle.traces.specs.Promise.{before, next-at, fix-at, next-rank, fix-rank, Ranked, Limited, Ranks-of}
+use Rattle.profile_tables.specs.Marks.{nexts-from, leasts}
+use Rattle.traces.specs.Inner.{before, next-at, fix-at, next-rank, fix-rank, Ranked, Rows-limited, Ranks-of}
 
 -- a number that counts where a test holds
 count-one : (b : Bool) (k : ℕ) → cond b (suc k) k ≡ k + cond b 1 0
@@ -166,7 +166,7 @@ module _ (rows : List ℕ) where
     fixes-all = omega (arith, fixes-length 0 count, ap (fix-rank rows) {x = 0 + count} {y = count} (omega arith))
 
 -- ranks are small
-module _ {rows : List ℕ} {count : ℕ} (limited : Limited rows count) (e : ℕ) (h : e < count) where
+module _ {rows : List ℕ} {count : ℕ} (limited : Rows-limited rows count) (e : ℕ) (h : e < count) where
   pub next-small : next-at rows e ≡ true → next-rank rows e < 12
   next-small o = omega (arith, before-less (next-at rows) e count h o, operands-all rows count, limited .few-nexts)
 

@@ -10,11 +10,12 @@ ghost use lib.ListN.{length, getD};
 ghost use Rattle.base.specs.Bits.{bit};
 ghost use Rattle.formula.specs.Rows.{operator-at};
 ghost use Rattle.formula.specs.Access.{Placed};
-ghost use Rattle.tableau.specs.Promise.{table-of, Formed};
+ghost use Rattle.tableau.specs.Inner.{table-of, Formed};
 ghost use Rattle.profile.specs.Profiles.{is-least};
-ghost use Rattle.coded.specs.Marks.{leasts};
-ghost use Rattle.traces.specs.Promise.{fix-at, fix-rank, Limited, Ranked, Fixes-ranked, Nexts-ranked, Ranks-of, Marked, Passed};
-ghost use Rattle.traces.specs.Promise.{Swept-marks, Reached, Stored, Row-filled, Done-to, Row-asked, Triples-of, With-least};
+ghost use Rattle.profile_tables.specs.Marks.{leasts};
+ghost use Rattle.traces.specs.Inner.{fix-at, fix-rank, Rows-limited, Ranked, Fixes-ranked, Nexts-ranked, Ranks-of, Priorities-marked};
+ghost use Rattle.traces.specs.Inner.{Passed-on};
+ghost use Rattle.traces.specs.Inner.{Swept-marks, Traces-reached, Stored, Row-filled, Done-to, Row-asked, Triples-of, With-least};
 
 // The ranks of the subformulas: how many next, or fixpoints, begin before each one; and how many next there are in all.
 pub struct Ranks {
@@ -50,7 +51,7 @@ pub fn ranked(rows: &[u8; 144], count: usize) -> Ranks
 // behind a reference.
 fn mark(marks: &mut [u8], s: Subformula, w: u8)
     requires { ⌜ s .0 < length (now marks) ⌝ }
-    ensures { λ r. ⌜ Marked (s .0 ∷ []) w (now (marks .entry)) (now (marks .exit)) ⌝ }
+    ensures { λ r. ⌜ Priorities-marked (s .0 ∷ []) w (now (marks .entry)) (now (marks .exit)) ⌝ }
 {
     let e = s.0;
     marks[e] = marks[e] | w;
@@ -67,7 +68,7 @@ fn bit8(k: usize) -> u8
 fn passing(rows: &[u8; 144], fix: &[u8; 48], choice: u64, s: Subformula, marks: &mut [u8; 48])
     requires { ⌜ Placed (now rows) (s .0) ⌝ }
     requires { ⌜ (fix-at (now rows) (s .0) ≡ true → getD (now fix) (s .0) 0 < 8) ⌝ }
-    ensures { λ r. ⌜ Passed (operator-at (now (rows .entry)) (s .0)) (bit choice (s .0)) (s .0) (getD (now (fix .entry)) (s .0) 0)
+    ensures { λ r. ⌜ Passed-on (operator-at (now (rows .entry)) (s .0)) (bit choice (s .0)) (s .0) (getD (now (fix .entry)) (s .0) 0)
         (now (marks .entry)) (now (marks .exit)) ⌝ }
 {
     let e = s.0;
@@ -132,7 +133,7 @@ fn same48(a: &[u8; 48], b: &[u8; 48]) -> bool
 fn reaching(rows: &[u8; 144], count: usize, fix: &[u8; 48], choice: u64, s: Subformula) -> [u8; 48]
     requires { ⌜ Fixes-ranked (now rows) count (now fix) ⌝ }
     requires { ⌜ s .0 < 48 ⌝ }
-    ensures { λ r. ⌜ Reached (now (rows .entry)) count choice (s .0) r ⌝ }
+    ensures { λ r. ⌜ Traces-reached (now (rows .entry)) count choice (s .0) r ⌝ }
 {
     let f = s.0;
     let mut w = [0u8; 48];
@@ -150,7 +151,7 @@ fn reaching(rows: &[u8; 144], count: usize, fix: &[u8; 48], choice: u64, s: Subf
 }
 
 // Stores the byte (f, g), where there is one to store.
-fn place(t: &mut [u8], on: bool, f: usize, g: usize, w: u8)
+fn put_if(t: &mut [u8], on: bool, f: usize, g: usize, w: u8)
     requires { ⌜ f < 12 ⌝ }
     requires { ⌜ (on ≡ true → f * 12 + g < length (now t)) ⌝ }
     ensures { λ r. ⌜ Stored on (f * 12 + g) w (now (t .entry)) (now (t .exit)) ⌝ }
@@ -177,7 +178,7 @@ fn triple_row(
     let mut e = 0;
     while e < count {
         let on = formula::is_next(rows, Subformula(e));
-        place(t, on, f, base::wide(next[e]), marks[e]);
+        put_if(t, on, f, base::wide(next[e]), marks[e]);
         e += 1;
     }
 }
@@ -210,7 +211,7 @@ fn with_row(
 
 // The triples of the transition of a node under a choice.
 pub fn triples_of(rows: &[u8; 144], count: usize, r: Ranks, choice: u64, node: u64) -> [u8; 144]
-    requires { ⌜ Limited (now rows) count ⌝ }
+    requires { ⌜ Rows-limited (now rows) count ⌝ }
     requires { ⌜ Ranks-of (now rows) count r ⌝ }
     ensures { λ t. ⌜ Triples-of (now (rows .entry)) count choice node t ⌝ }
 {
@@ -255,7 +256,7 @@ fn with_least(mask: u8, least: bool, k: usize) -> u8
 
 // The priorities that are least fixpoints.
 pub fn least_mask(rows: &[u8; 144], count: usize, fix: &[u8; 48]) -> u8
-    requires { ⌜ Limited (now rows) count ⌝ }
+    requires { ⌜ Rows-limited (now rows) count ⌝ }
     requires { ⌜ Ranked (fix-rank (now rows)) count (now fix) ⌝ }
     ensures { λ r. ⌜ ((i : ℕ) → bit r i ≡ getD (leasts (table-of (now (rows .entry)) count)) i false) ⌝ }
 {

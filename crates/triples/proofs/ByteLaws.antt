@@ -14,9 +14,9 @@ use Rattle.base.proofs.TestLaws.{not-of-T, same-truth}
 use Rattle.base.proofs.BitLaws.{bit-or, bit-and}
 use Rattle.base.proofs.WordLaws.{no-bit}
 use Rattle.base.proofs.ShiftLaws.{bit-shift, bit-high, same-low-bits}
-use Rattle.coded.specs.Triples.{some, smaller}
-use Rattle.coded.proofs.TriplesLaws.{some-of, some-in, smaller-in, smaller-of}
-use Rattle.triples.specs.Promise.{Bits, above}
+use Rattle.profile_tables.specs.Triples.{some, smaller}
+use Rattle.profile_tables.proofs.TriplesLaws.{some-of, some-in, smaller-in, smaller-of}
+use Rattle.triples.specs.Inner.{Bits, above}
 
 -- v has k exactly if u has k or a number less than s above it
 record Near (u v : ℕ → Bool) (s : ℕ) : Type 0 where

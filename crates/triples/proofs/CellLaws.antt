@@ -11,13 +11,13 @@ use lib.Dec.{T}
 use lib.Bits.{bitAnd}
 use lib.ListN.{length, getD, set}
 use lib.Seq.{getD-set-same, getD-set-other}
-use Rattle.base.specs.Lists.{repeat}
+use Rattle.base.specs.Lists.{iterate}
 use Rattle.base.specs.Bits.{bit}
 use Rattle.base.proofs.BoolLaws.{of-T, to-T}
-use Rattle.base.proofs.ListLaws.{repeat-stays}
-use Rattle.coded.specs.Triples.{Triples, some, holds, same-triples, join, either, lap, laps, rejecting}
-use Rattle.coded.proofs.TriplesLaws.{some-in, some-same, holds-those, those-same, same-those, other-those, same-triples-sound}
-use Rattle.triples.specs.Promise.{bytes, bytes-from, bits, triples-in, triples-at, Same-row, Decides}
+use Rattle.base.proofs.ListLaws.{iterate-stays}
+use Rattle.profile_tables.specs.Triples.{Triples, some, holds, same-triples, join, either, lap, laps, rejecting}
+use Rattle.profile_tables.proofs.TriplesLaws.{some-in, some-same, holds-those, those-same, same-those, other-those, same-triples-sound}
+use Rattle.triples.specs.Inner.{bytes, bytes-from, bits, triples-in, triples-at, Same-row, Decides}
 use Rattle.triples.proofs.ByteLaws.{met, met-none, met-some}
 
 -- bytes at a place and from 0 on
@@ -58,7 +58,7 @@ module _ (n : ℕ) (a : List ℕ) where
 
   -- s is on the way to the laps, with that many rounds left
   abbrev pub On-way : List ℕ → ℕ → Type 0
-  On-way s left = laps n base ≡ repeat left (lap n base) (triples-in n s)
+  On-way s left = laps n base ≡ iterate left (lap n base) (triples-in n s)
 
   -- m is s with one lap more
   abbrev pub Lapped : List ℕ → List ℕ → Type 0
@@ -72,8 +72,8 @@ module _ (n : ℕ) (a : List ℕ) where
   unfolding lap
   laps-more s m (suc left) h e q =
       e
-      ∙ ap (repeat left (lap n base)) (sym q)
-      ∙ ap (λ (k : ℕ). repeat k (lap n base) (triples-in n m)) {x = left} {y = suc left - 1} (omega arith)
+      ∙ ap (iterate left (lap n base)) (sym q)
+      ∙ ap (λ (k : ℕ). iterate k (lap n base) (triples-in n m)) {x = left} {y = suc left - 1} (omega arith)
   laps-more s m zero h e q = absurd (omega arith)
 
   pub laps-still : (s m : List ℕ) (left : ℕ) → On-way s left → Lapped s m → n ≤ 12 → true ≡ same-triples (triples-at n m 0) (triples-in n s)
@@ -83,7 +83,7 @@ module _ (n : ℕ) (a : List ℕ) where
       let still : triples-in n m ≡ triples-in n s =
       triples-at-0 n m h ∙ same-triples-sound (triples-at n m 0) (triples-in n s)
       (to-T (same-triples (triples-at n m 0) (triples-in n s)) (sym same)) in
-      sym (e ∙ repeat-stays left (lap n base) (triples-in n s) (sym q ∙ still))
+      sym (e ∙ iterate-stays left (lap n base) (triples-in n s) (sym q ∙ still))
 
   pub laps-end : (s : List ℕ) (left : ℕ) → left ≤ 0 → On-way s left → triples-in n s ≡ laps n base
   laps-end s zero h e = sym e

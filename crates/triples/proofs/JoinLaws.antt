@@ -11,9 +11,9 @@ use lib.ListN.{length, getD, set}
 use lib.Seq.{getD-set-same, getD-set-other}
 use Rattle.base.specs.Bits.{bit}
 use Rattle.base.proofs.WordLaws.{no-bit}
-use Rattle.coded.specs.Triples.{join, either}
-use Rattle.coded.proofs.TriplesLaws.{those-same, join-those, either-those}
-use Rattle.triples.specs.Promise.{bytes, bits, triples-in, Bits, one-way, by-way, Row-with}
+use Rattle.profile_tables.specs.Triples.{join, either}
+use Rattle.profile_tables.proofs.TriplesLaws.{those-same, join-those, either-those}
+use Rattle.triples.specs.Inner.{bytes, bits, triples-in, Bits, one-way, by-way, Row-with}
 
 -- nothing is added
 pub row-stays : (t : List ℕ) (f k : ℕ) (q : (x g : ℕ) → Bool) → ((x g : ℕ) → x < 8 → g < k → q x g ≡ false) → Row-with t f k q t

@@ -4,8 +4,8 @@ ghost use mathlib.Core.Path.{_≡_};
 ghost use Prim.Native.Nat.{ℕ, _+_, _≤_, _<_};
 ghost use lib.ListN.{length, getD};
 ghost use Rattle.base.specs.Bits.{bit};
-ghost use Rattle.coded.specs.Triples.{smaller, same-triples, join, either, laps, rejecting};
-ghost use Rattle.triples.specs.Promise.{triples-in, triples-at, Bits, above, one-way, by-way, Row-with, Same-row, Decides};
+ghost use Rattle.profile_tables.specs.Triples.{smaller, same-triples, join, either, laps, rejecting};
+ghost use Rattle.triples.specs.Inner.{triples-in, triples-at, Bits, above, one-way, by-way, Row-with, Same-row, Decides};
 
 // The priorities with all smaller ones.
 fn down(w: u8) -> u8

@@ -65,7 +65,7 @@ fn noted(truth: Truth, words: &[u64], count: usize, shown: bool) {
 
 fn told(truth: Truth, words: &[u64]) {
     match truth {
-        Truth::Told(_) => hex_words(words),
+        Truth::Holds(_) => hex_words(words),
         Truth::Refused(code) => say::refused(code),
         Truth::Unread(why) => say::unread(why),
     }
@@ -91,7 +91,7 @@ fn hex_word(i: usize, word: u64) {
 // A refusal tells no truth.
 fn note(truth: Truth) {
     match truth {
-        Truth::Told(yes) => told_so(yes),
+        Truth::Holds(yes) => told_so(yes),
         Truth::Refused(_) => {}
         Truth::Unread(_) => {}
     }

@@ -1,5 +1,5 @@
 -- Labels along a chain of parents. An item's are its parent's and then its own (`labels-at`); so whatever lists go on by these labels are
--- the labels (`labels-are`). They are counted from the last item to the first (`Counted`). Assumes nothing.
+-- the labels (`labels-are`). They are counted from the last item to the first (`Chain-counted`). Assumes nothing.
 use mathlib.Core.Path.{_≡_, sym, ap, _∙_}
 use mathlib.Core.List.{List, [], _∷_, _++_}
 use Prim.Native.Nat.{ℕ, zero, suc, _+_, _-_, _≤_, _<_}
@@ -48,19 +48,19 @@ module _ {K : Type 0} (of : ℕ → Numbered ℕ K) where
         ∙ sym (onward i (omega arith))
 
 -- The labels up to item top - 1 are being counted: n so far, and those up to item at - 1 to go.
-pub record Counted {K : Type 0} (of : ℕ → Numbered ℕ K) (top n at : ℕ) : Type 0 where
+pub record Chain-counted {K : Type 0} (of : ℕ → Numbered ℕ K) (top n at : ℕ) : Type 0 where
   pub low : at ≤ top
   pub sum : n + length (labels of at) ≡ length (labels of top)
 
 module _ {K : Type 0} (of : ℕ → Numbered ℕ K) where
-  pub counted-start : (top : ℕ) {at : ℕ} → at ≡ top → Counted of top 0 at
+  pub counted-start : (top : ℕ) {at : ℕ} → at ≡ top → Chain-counted of top 0 at
   counted-start top e = record { low = omega arith; sum = omega (arith, ap (λ (k : ℕ). length (labels of k)) e) }
 
-  module _ {top n at : ℕ} (linked : Linked of top) (c : Counted of top n at) where
+  module _ {top n at : ℕ} (linked : Linked of top) (c : Chain-counted of top n at) where
     pub counted-room : n ≤ top
     counted-room = omega (arith, c .sum, labels-short of top)
 
-    pub counted-next : 0 < at → {up : ℕ} → up ≡ of (at - 1) .parent → Counted of top (n + 1) up
+    pub counted-next : 0 < at → {up : ℕ} → up ≡ of (at - 1) .parent → Chain-counted of top (n + 1) up
     counted-next h {up} e =
         record {
           low = omega (arith, parent-less of linked at h (c .low), c .low);

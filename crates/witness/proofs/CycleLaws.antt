@@ -8,14 +8,14 @@ use lib.ListN.{length}
 use Rattle.base.specs.Spread.{Linked}
 use Rattle.base.proofs.At.{At}
 use Rattle.formula.specs.Table.{Table}
-use Rattle.coded.proofs.RunLaws.{Listed}
-use Rattle.coded.proofs.AgreeLaws.{letters-of, Agrees, Agreed}
-use Rattle.runs.specs.Stored.{stored, record-of}
-use Rattle.runs.specs.declared.Shelf.{Shelf}
-use Rattle.runs.proofs.GrowLaws.{stored-length, record-at}
+use Rattle.profile_tables.proofs.RunLaws.{Item-listed}
+use Rattle.profile_tables.proofs.AgreeLaws.{letters-of, Profiles-agree, Agreed}
+use Rattle.profile_search.specs.Stored.{stored, record-of}
+use Rattle.profile_search.specs.declared.Store.{Store}
+use Rattle.profile_search.proofs.GrowLaws.{stored-length, record-at}
 use Rattle.witness.specs.Letters.{cycle-letters}
 
-module _ (s : Shelf) (area : List ℕ) (P : ℕ) {t : Table} {ys : List Listed} (a : Agrees t (stored s area P) ys) where
+module _ (s : Store) (area : List ℕ) (P : ℕ) {t : Table} {ys : List Item-listed} (a : Profiles-agree t (stored s area P) ys) where
   stands : (i : ℕ) → i < length (stored s area P) → At (stored s area P) i (record-of s area i)
   stands i h = record-at s area P i (omega (arith, stored-length s area P))
 

@@ -12,7 +12,7 @@ use Rattle.tableau.specs.Transition.{Transition}
 use Rattle.tableau.specs.Nodes.{nodes}
 use Rattle.tableau.specs.Origins.{way-letters, parent-at, letter-at, Origins}
 use Rattle.tableau.proofs.NodeLaws.{nodes-first}
-use Rattle.witness.specs.Letters.{node-item, stem-letters, Noted}
+use Rattle.witness.specs.Letters.{node-item, stem-letters, Stem-noted}
 use Rattle.witness.proofs.ChainLaws.{labels-are}
 
 -- the way to the root is empty
@@ -33,7 +33,7 @@ module _ {t : Table} {o : List ℕ} {n : ℕ} (origins : Origins t o n) (j : ℕ
   linked i h = omega (arith, origins .is (suc i) (omega arith) (omega arith) .before)
 
   -- notes with room for them lead to smaller numbers
-  pub origins-noted : 2 * n ≤ length o → Noted o j
+  pub origins-noted : 2 * n ≤ length o → Stem-noted o j
   origins-noted room = record { room = omega arith; linked = linked }
 
   -- Theorem: the letters along the notes are those of the way.

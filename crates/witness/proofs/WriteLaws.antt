@@ -6,9 +6,10 @@ use Prim.Native.Nat.{ℕ, zero, suc, _+_, _-_, _≤_, _<_}
 use native.Mathlib.Omega.{arith}
 use lib.ListN.{length, length-append, length-set, set}
 use Rattle.base.specs.Spread.{Numbered, Linked}
-use Rattle.runs.specs.Stored.{record-of, first-of}
-use Rattle.runs.specs.declared.Shelf.{Shelf}
-use Rattle.witness.specs.Letters.{labels, node-item, stem-letters, cycle-letters, over, written, Fits, Ready, Written}
+use Rattle.profile_search.specs.Stored.{record-of, first-of}
+use Rattle.profile_search.specs.declared.Store.{Store}
+use Rattle.witness.specs.Letters.{labels, node-item, stem-letters, cycle-letters, over, written, Letters-fit, Witness-ready}
+use Rattle.witness.specs.Letters.{Witness-written}
 use Rattle.witness.proofs.ChainLaws.{labels-short, labels-at, parent-less, length-at}
 
 -- nothing written
@@ -110,7 +111,8 @@ module _ {K : Type 0} {of : ℕ → Numbered ℕ K} {from top at left : ℕ} {be
       })
 
 -- A stem of which n letters are counted, to the first node of profile p, and a cycle of m letters behind it.
-module _ {o : List ℕ} {s : Shelf} {area : List ℕ} {p len j n m : ℕ} (ready : Ready o s area p len) (first-is : j ≡ first-of s area p)
+module _ {o : List ℕ} {s : Store} {area : List ℕ} {p len j n m : ℕ} (ready : Witness-ready o s area p len)
+    (first-is : j ≡ first-of s area p)
     (stem-is : n ≡ length (stem-letters o j)) (cycle-is : m ≡ length (cycle-letters s area p)) where
   stem-low : n ≤ first-of s area p
   stem-low = omega (arith, labels-short (node-item o) j)
@@ -118,16 +120,16 @@ module _ {o : List ℕ} {s : Shelf} {area : List ℕ} {p len j n m : ℕ} (ready
   cycle-low : m ≤ suc p
   cycle-low = omega (arith, labels-short (record-of s area) (suc p))
 
-  pub stem-fits : Fits (stem-letters o j) n 0 len
+  pub stem-fits : Letters-fit (stem-letters o j) n 0 len
   stem-fits = record { count-is = stem-is; room = omega (arith, stem-low, ready .room) }
 
-  pub cycle-fits : {len′ : ℕ} → len′ ≡ len → Fits (cycle-letters s area p) m n len′
+  pub cycle-fits : {len′ : ℕ} → len′ ≡ len → Letters-fit (cycle-letters s area p) m n len′
   cycle-fits e = record { count-is = cycle-is; room = omega (arith, stem-low, cycle-low, ready .room) }
 
   -- Theorem: the stem and then the cycle, written, are the witness of profile p.
   pub all-written : {before mid after : List ℕ} → len ≡ length before → mid ≡ written 0 (stem-letters o j) before
       → after ≡ written n (cycle-letters s area p) mid
-      → Written o s area p before after (record { stem = n; cycle = m })
+      → Witness-written o s area p before after (record { stem = n; cycle = m })
   all-written {before} {mid} {after} l a b =
       record {
         stem-is = stem-is ∙ ap (λ (k : ℕ). length (stem-letters o k)) first-is;

@@ -1,12 +1,13 @@
 // The letters of a witness, written along what the searches note: of each node, and of each profile, what it goes on from and by which
 // letter. A chain of parents is followed twice: once to count its letters, and once to write them, the last first.
 use lasso::Position;
-use runs::Shelf;
+use profile_search::Store;
 use tableau::NodeNumber;
 ghost use mathlib.Core.Path.{_≡_};
 ghost use Prim.Native.Nat.{_+_, _*_, _<_};
 ghost use lib.ListN.{length, set};
-ghost use Rattle.witness.specs.Letters.{Origin-of, stem-letters, cycle-letters, written, Noted, Kept, Fits, Ready, Written};
+ghost use Rattle.witness.specs.Letters.{Origin-of, stem-letters, cycle-letters, written, Stem-noted, Cycle-kept, Letters-fit};
+ghost use Rattle.witness.specs.Letters.{Witness-ready, Witness-written};
 
 // The root's number.
 const ROOT: usize = 0;
@@ -59,7 +60,7 @@ fn origin_of(origins: &[u16], node: NodeNumber) -> Origin
 
 // How many letters the stem to a node has.
 fn stem_length(origins: &[u16], node: NodeNumber) -> usize
-    requires { ⌜ Noted (now origins) (node .0) ⌝ }
+    requires { ⌜ Stem-noted (now origins) (node .0) ⌝ }
     ensures { λ r. ⌜ r ≡ length (stem-letters (now (origins .entry)) (node .0)) ⌝ }
 {
     let mut n = 0usize;
@@ -74,8 +75,8 @@ fn stem_length(origins: &[u16], node: NodeNumber) -> usize
 
 // Writes the n letters of the stem to a node from position 0 on, the last first.
 fn write_stem(origins: &[u16], node: NodeNumber, letters: &mut [u16], n: usize)
-    requires { ⌜ Noted (now origins) (node .0) ⌝ }
-    requires { ⌜ Fits (stem-letters (now origins) (node .0)) n 0 (length (now letters)) ⌝ }
+    requires { ⌜ Stem-noted (now origins) (node .0) ⌝ }
+    requires { ⌜ Letters-fit (stem-letters (now origins) (node .0)) n 0 (length (now letters)) ⌝ }
     ensures { λ r. ⌜ now (letters .exit) ≡ written 0 (stem-letters (now (origins .entry)) (node .0)) (now (letters .entry)) ⌝ }
 {
     let mut at = node.0;
@@ -89,48 +90,48 @@ fn write_stem(origins: &[u16], node: NodeNumber, letters: &mut [u16], n: usize)
 }
 
 // How many letters the cycle of profile p has.
-fn cycle_length(area: &[u8], shelf: Shelf, p: usize) -> usize
-    requires { ⌜ Kept shelf (now area) p ⌝ }
-    ensures { λ r. ⌜ r ≡ length (cycle-letters shelf (now (area .entry)) p) ⌝ }
+fn cycle_length(area: &[u8], store: Store, p: usize) -> usize
+    requires { ⌜ Cycle-kept store (now area) p ⌝ }
+    ensures { λ r. ⌜ r ≡ length (cycle-letters store (now (area .entry)) p) ⌝ }
 {
     let mut n = 0usize;
     let mut at = p + 1;
     while 0 < at {
         n += 1;
-        let e = runs::ends_of(area, shelf, at - 1);
+        let e = profile_search::header_of(area, store, at - 1);
         at = e.parent;
     }
     n
 }
 
 // Writes the n letters of the cycle of profile p from a position on, the last first.
-fn write_cycle(area: &[u8], shelf: Shelf, p: usize, letters: &mut [u16], from: Position, n: usize)
-    requires { ⌜ Kept shelf (now area) p ⌝ }
-    requires { ⌜ Fits (cycle-letters shelf (now area) p) n (from .0) (length (now letters)) ⌝ }
-    ensures { λ r. ⌜ now (letters .exit) ≡ written (from .0) (cycle-letters shelf (now (area .entry)) p) (now (letters .entry)) ⌝ }
+fn write_cycle(area: &[u8], store: Store, p: usize, letters: &mut [u16], from: Position, n: usize)
+    requires { ⌜ Cycle-kept store (now area) p ⌝ }
+    requires { ⌜ Letters-fit (cycle-letters store (now area) p) n (from .0) (length (now letters)) ⌝ }
+    ensures { λ r. ⌜ now (letters .exit) ≡ written (from .0) (cycle-letters store (now (area .entry)) p) (now (letters .entry)) ⌝ }
 {
     let start = from.0;
     let mut at = p + 1;
     let mut left = n;
     while 0 < at {
         left -= 1;
-        let e = runs::ends_of(area, shelf, at - 1);
+        let e = profile_search::header_of(area, store, at - 1);
         put(letters, Position(start + left), narrow(e.letter));
         at = e.parent;
     }
 }
 
 // Writes the witness of profile p: the stem to its first node, and behind it the profile's cycle.
-pub fn write(origins: &[u16], area: &[u8], shelf: Shelf, p: usize, letters: &mut [u16]) -> Lengths
-    requires { ⌜ Ready (now origins) shelf (now area) p (length (now letters)) ⌝ }
-    ensures { λ r. ⌜ Written (now (origins .entry)) shelf (now (area .entry)) p (now (letters .entry)) (now (letters .exit)) r ⌝ }
+pub fn write(origins: &[u16], area: &[u8], store: Store, p: usize, letters: &mut [u16]) -> Lengths
+    requires { ⌜ Witness-ready (now origins) store (now area) p (length (now letters)) ⌝ }
+    ensures { λ r. ⌜ Witness-written (now (origins .entry)) store (now (area .entry)) p (now (letters .entry)) (now (letters .exit)) r ⌝ }
 {
-    let e = runs::ends_of(area, shelf, p);
+    let e = profile_search::header_of(area, store, p);
     let first = e.first;
     let stem = stem_length(origins, first);
-    let cycle = cycle_length(area, shelf, p);
+    let cycle = cycle_length(area, store, p);
     write_stem(origins, first, letters, stem);
-    write_cycle(area, shelf, p, letters, Position(stem), cycle);
+    write_cycle(area, store, p, letters, Position(stem), cycle);
     Lengths {
         stem: stem,
         cycle: cycle,

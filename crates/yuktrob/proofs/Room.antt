@@ -6,10 +6,10 @@ use Prim.Native.Nat.{ℕ, _≤_}
 use native.Mathlib.Omega.{arith}
 use lib.ListN.{length, take}
 use Rattle.text.specs.Text.{buffer}
-use Rattle.verdicts.specs.Texts.{program-text}
-use Rattle.verdicts.specs.Shown.{Shown}
+use Rattle.verdict_text.specs.Texts.{program-text}
+use Rattle.verdict_text.specs.Shown.{Shown}
 use Rattle.text.proofs.Writing.{stands}
-use Rattle.verdicts.proofs.Lengths.{program-short}
+use Rattle.verdict_text.proofs.Lengths.{program-short}
 
 -- Theorem: the bytes in front of the end are the text of the verdict and the witness, whole.
 pub prints : {bytes out out′ : List ℕ} {room places r : ℕ} (d : Shown program-text bytes 256 300 room places (buffer out 0) (buffer out′ r))

@@ -5,13 +5,14 @@ use Prim.Native.Nat.{ℕ, _≤_}
 use lib.ListN.{length, take}
 use Rattle.text.specs.Text.{buffer}
 use Rattle.decision.specs.Verdict.{workspace-size, witness-size}
-use Rattle.verdicts.specs.Texts.{program-text}
-use Rattle.verdicts.specs.Shown.{Shown}
+use Rattle.verdict_text.specs.Texts.{program-text}
+use Rattle.verdict_text.specs.Shown.{Shown}
 
--- The capacities of MEANING 6.1.
+-- The capacities of MEANING 6.1: so many nodes,
 abbrev pub nodes : ℕ
 nodes = 256
 
+-- so many profiles.
 abbrev pub profiles : ℕ
 profiles = 300
 

@@ -28,5 +28,5 @@ fn decided(out: &mut [u8], bytes: &[u8]) -> usize
     let mut workspace = [0u8; WORKSPACE];
     let mut letters = [0u16; LETTERS];
     let verdict = decision::decide(bytes, NODES, PROFILES, &mut workspace, &mut letters);
-    verdicts::program_text(out, verdict, &letters)
+    verdict_text::program_text(out, verdict, &letters)
 }

@@ -5,8 +5,8 @@ use Prim.Native.Nat.{ℕ, _+_, _*_, _/_, _%_, _≤_, _<_}
 use native.Mathlib.Omega.{arith}
 use native.Mathlib.Nat.{mod-eq-of-lt, div-eq-of-lt, add-mul-mod-self-left, add-mul-div-left}
 use Rattle.formula.specs.Table.{Operator}
-use Rattle.formula.specs.Rows.{command-of}
-use Rattle.yuktrob_c.specs.Numbers.{number, found, Small}
+use Rattle.formula.specs.Rows.{opcode-byte}
+use Rattle.yuktrob_c.specs.Numbers.{number, found, Letters-16}
 use Rattle.yuktrob_c.specs.Entry.{argument-of, packed}
 
 module _ (a b m : ℕ) (h : a < b) where
@@ -34,7 +34,8 @@ pub record Apart (n met stem cycle K P : ℕ) : Type 0 where
   pub nodes-are : n / 34359738368 % 8192 ≡ K
   pub profiles-are : n / 281474976710656 % 8192 ≡ P
 
-pub found-apart : (met stem cycle K P : ℕ) → met ≤ 1 → Small stem cycle K P → Apart (number 0 (found met stem cycle K P)) met stem cycle K P
+pub found-apart : (met stem cycle K P : ℕ) → met ≤ 1 → Letters-16 stem cycle K P
+    → Apart (number 0 (found met stem cycle K P)) met stem cycle K P
 found-apart met stem cycle K P h s =
     let counts = K + 8192 * P in
     let around = cycle + 8192 * counts in
@@ -61,11 +62,11 @@ pub record EntryApart (n command argument end : ℕ) : Type 0 where
   pub argument-is : n / 65536 % 256 ≡ argument
   pub end-is : n / 16777216 % 256 ≡ end
 
-pub entry-apart : (o : Operator) (end : ℕ) → command-of o < 256 → argument-of o < 256 → end < 256
-    → EntryApart (number 0 (packed o end)) (command-of o) (argument-of o) end
+pub entry-apart : (o : Operator) (end : ℕ) → opcode-byte o < 256 → argument-of o < 256 → end < 256
+    → EntryApart (number 0 (packed o end)) (opcode-byte o) (argument-of o) end
 entry-apart o end h i j =
     let n = number 0 (packed o end) in
-    let c = command-of o in
+    let c = opcode-byte o in
     let a = argument-of o in
     record {
       refusal = low 0 256 (packed o end) (omega arith);

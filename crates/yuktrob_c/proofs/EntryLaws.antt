@@ -7,7 +7,7 @@ use Prim.Native.Nat.{ℕ, _+_, _≤_, _<_}
 use native.Mathlib.Omega.{arith}
 use lib.ListN.{length, getD}
 use borrow.Author.Tests.{lt-ltb, le-ltb}
-use Rattle.base.specs.Lists.{numbers}
+use Rattle.base.specs.Lists.{range}
 use Rattle.base.proofs.NumberLaws.{values-length, values-at}
 use Rattle.formula.specs.Formula.{Leaf}
 use Rattle.formula.specs.Table.{Operator, operator}
@@ -51,7 +51,7 @@ module _ (t : Table) (e r : ℕ) where
       (ap (λ (n : ℕ). e + n) (at (length-at (t .rows)) 0) ∙ sym q))
       ∙ sym (ap (chosen _) (lt-ltb e (length (operators-of (t .rows) 0 (t .count))) (omega (arith, count))))
     where
-      at : {A : Type 0} (g : ℕ → A) (d : A) → getD (map g (numbers 0 (t .count))) e d ≡ g e
+      at : {A : Type 0} (g : ℕ → A) (d : A) → getD (map g (range 0 (t .count))) e d ≡ g e
       at g d = values-at g 0 (t .count) e d l ∙ ap g (omega arith)
 
 -- what callers of the reader have of an accepted formula

@@ -9,18 +9,19 @@ use Rattle.formula.proofs.Early.{parse-early}
 use Rattle.formula.specs.Reading.{Reading, parse}
 use Rattle.lasso.specs.Lasso.{Lasso, labelling, meets}
 use Rattle.lasso.specs.Truth.{Truth, asked, after-reading, truth}
-use Rattle.lasso.specs.Answer.{answer}
+use Rattle.lasso.specs.Contract.{answer}
 use Rattle.lasso.specs.declared.Truth as code
 use Rattle.lasso.proofs.TruthLaws.{truth-asked}
 use Rattle.yuktrob_c.specs.Numbers.{TruthFits}
 
-abbrev Fits : Truth → Type 0
-Fits t = TruthFits (answer t)
+abbrev Number-fits : Truth → Type 0
+Number-fits t = TruthFits (answer t)
 
 -- what the questions after reading come to has no place
-asked-fits : (c : Lasso) (room : ℕ) (f : Formula) → Fits (asked c room f)
+asked-fits : (c : Lasso) (room : ℕ) (f : Formula) → Number-fits (asked c room f)
 asked-fits c room f =
-    every-outcome Fits tt (λ _. every-outcome Fits tt (λ _. every-outcome Fits tt (λ _ o e. subst⁻¹ Fits e tt))) (asked c room f)
+    every-outcome Number-fits tt (λ _. every-outcome Number-fits tt (λ _. every-outcome Number-fits tt (λ _ o e. subst⁻¹ Number-fits e tt)))
+    (asked c room f)
     (truth-asked c room f)
 
 after-fits : (bytes : List ℕ) (c : Lasso) (room : ℕ) (x : Reading Formula) → parse bytes ≡ x → TruthFits (answer (after-reading c room x))

@@ -4,13 +4,13 @@ use mathlib.Core.Path.{_≡_, refl, ap, _∙_}
 use mathlib.Core.List.{List}
 use Prim.Native.Nat.{ℕ}
 use native.Mathlib.Omega.{arith}
-use Rattle.decision.specs.Promise.{Decided}
+use Rattle.decision.specs.Contract.{Decided}
 use Rattle.decision.specs.declared.Verdict as code
 use Rattle.decision.specs.declared.Verdict.the-variants.{Satisfiable, Unsatisfiable, Refused, Unread}
-use Rattle.decision.proofs.Bounds.{Sized, Bounded, decided-bounded}
-use Rattle.yuktrob_c.specs.Numbers.{Small, VerdictFits, verdict-number, answer-of}
+use Rattle.decision.proofs.Bounds.{Answer-sized, Bounded, decided-bounded}
+use Rattle.yuktrob_c.specs.Numbers.{Letters-16, VerdictFits, verdict-number, answer-of}
 
-small : {N M stem cycle K P : ℕ} → Sized N M stem cycle K P → Small stem cycle K P
+small : {N M stem cycle K P : ℕ} → Answer-sized N M stem cycle K P → Letters-16 stem cycle K P
 small s =
     let c = s .capacity in
     record {

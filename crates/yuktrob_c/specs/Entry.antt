@@ -6,7 +6,7 @@ use lib.ListN.{length, getD}
 use Rattle.formula.specs.Formula.{Leaf}
 use Rattle.formula.specs.Table.{Operator, Entries, operator}
 use Rattle.formula.specs.Reading.{Reading}
-use Rattle.formula.specs.Rows.{command-of}
+use Rattle.formula.specs.Rows.{opcode-byte}
 use Rattle.yuktrob_c.specs.Numbers.{number, refusal-number}
 
 -- the signal, the variable's fixpoint, or the second operand; 0 for a command without one. A first operand is the entry after its command.
@@ -20,7 +20,7 @@ argument-of (Operator.fix g b) = 0
 
 -- the command, its argument and the number after its last entry, with 8 bits each, the first lowest
 abbrev pub packed : Operator → (end : ℕ) → ℕ
-packed o end = command-of o + 256 * (argument-of o + 256 * end)
+packed o end = opcode-byte o + 256 * (argument-of o + 256 * end)
 
 -- A refusal of reading as it is; an entry that is not there is 0, which is no command.
 abbrev pub entry-number : Reading Entries → (e : ℕ) → ℕ

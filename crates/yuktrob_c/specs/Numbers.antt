@@ -11,7 +11,7 @@ use Rattle.formula.specs.declared.Refusal.{Refusal}
 use Rattle.lasso.specs.declared.Truth.{Truth}
 use Rattle.lasso.specs.declared.Truth.the-variants as truth
 use Rattle.decision.specs.Verdict.{max-nodes, max-profiles, verdict}
-use Rattle.decision.specs.Promise.{says}
+use Rattle.decision.specs.Contract.{says}
 use Rattle.decision.specs.declared.Verdict.{Verdict}
 use Rattle.decision.specs.declared.Verdict.the-variants as decision
 
@@ -30,7 +30,7 @@ reading-number (Reading.accepted x) = number 0 (length (x .operators))
 
 -- truth: 1 for true, 0 for false; a refusal of reading, or another, which carries nothing (MEANING 7.1)
 abbrev pub truth-number : Truth → ℕ
-truth-number (truth.Told b) = number 0 (cond b 1 0)
+truth-number (truth.Holds b) = number 0 (cond b 1 0)
 truth-number (truth.Refused code) = number code 0
 truth-number (truth.Unread why) = refusal-number why
 
@@ -50,7 +50,7 @@ abbrev pub answer-of : (bytes : List ℕ) (N M : ℕ) (workspace buffer : List �
 answer-of bytes N M workspace buffer = says (verdict N M (length workspace) (length buffer) bytes)
 
 -- Why the numbers fit into 64 bits: by question 11 and MEANING 5.6 the sizes of a verdict have room in 13 bits each.
-pub record Small (stem cycle K P : ℕ) : Type 0 where
+pub record Letters-16 (stem cycle K P : ℕ) : Type 0 where
   pub stem-fits : stem < max-nodes
   pub cycle-fits : cycle ≤ max-profiles
   pub nodes-fit : K ≤ max-nodes
@@ -62,13 +62,13 @@ Early why = place-of why ≤ 97
 
 -- of truth's answer,
 abbrev pub TruthFits : Truth → Type 0
-TruthFits (truth.Told b) = Unit {0}
+TruthFits (truth.Holds b) = Unit {0}
 TruthFits (truth.Refused code) = Unit {0}
 TruthFits (truth.Unread why) = Early why
 
 -- and of the decision's, whose sizes are small, too
 abbrev pub VerdictFits : Verdict → Type 0
-VerdictFits (decision.Satisfiable stem cycle K P) = Small stem cycle K P
-VerdictFits (decision.Unsatisfiable K P) = Small 0 0 K P
+VerdictFits (decision.Satisfiable stem cycle K P) = Letters-16 stem cycle K P
+VerdictFits (decision.Unsatisfiable K P) = Letters-16 0 0 K P
 VerdictFits (decision.Refused code) = Unit {0}
 VerdictFits (decision.Unread why) = Early why

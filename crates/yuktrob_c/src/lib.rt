@@ -13,9 +13,9 @@ ghost use Rattle.formula.specs.Reading.{Reading, reading};
 ghost use Rattle.formula.specs.Rows.{entries-of};
 ghost use Rattle.formula.specs.Access.{decoded, Fits, Readable};
 ghost use Rattle.lasso.specs.Truth.{truth, written};
-ghost use Rattle.lasso.specs.Answer.{lasso, answer};
-ghost use Rattle.decision.specs.Promise.{Decided};
-ghost use Rattle.yuktrob_c.specs.Numbers.{number, refusal-number, Small, Early, TruthFits, VerdictFits};
+ghost use Rattle.lasso.specs.Contract.{lasso, answer};
+ghost use Rattle.decision.specs.Contract.{Decided};
+ghost use Rattle.yuktrob_c.specs.Numbers.{number, refusal-number, Letters-16, Early, TruthFits, VerdictFits};
 ghost use Rattle.yuktrob_c.specs.Numbers.{reading-number, truth-number, found, verdict-number, answer-of};
 ghost use Rattle.yuktrob_c.specs.Entry.{argument-of, packed, entry-number};
 
@@ -42,14 +42,14 @@ fn truth_number(t: Truth) -> u64
     match t {
         Truth::Unread(why) => refusal_number(why),
         Truth::Refused(code) => number(code, 0),
-        Truth::Told(on) => number(0, base::one_if(on)),
+        Truth::Holds(on) => number(0, base::one_if(on)),
     }
 }
 
 // A verdict with its sizes.
 fn found(met: usize, stem: usize, cycle: usize, nodes: usize, profiles: usize) -> u64
     requires { ⌜ met ≤ 1 ⌝ }
-    requires { ⌜ Small stem cycle nodes profiles ⌝ }
+    requires { ⌜ Letters-16 stem cycle nodes profiles ⌝ }
     ensures { λ r. ⌜ r ≡ number 0 (found met stem cycle nodes profiles) ⌝ }
 {
     let sizes = stem + 8192 * (cycle + 8192 * (nodes + 8192 * profiles));

@@ -1,12 +1,12 @@
--- `base::number_at` reads from the highest byte down: each turn is one byte more (`Reading`).
-use Rattle.base.proofs.BytesLaws.{Reading, read-none, read-more, read-fits, read-all}
+-- `base::number_at` reads from the highest byte down: each turn is one byte more (`Reading-bytes`).
+use Rattle.base.proofs.BytesLaws.{Reading-bytes, read-none, read-more, read-fits, read-all}
 use borrow.Author.Needs.{needs}
 use native.Mathlib.Omega.{arith}
 use Rattle.base.proofs.number_at.Statement.{statement}
 use Rattle.base.proofs.number_at.Tie as tie
 
 abbrev Inv-loop : tie.InvT-loop
-Inv-loop area at width x₀ i₀ x i = Reading width area at i x
+Inv-loop area at width x₀ i₀ x i = Reading-bytes width area at i x
 
 abbrev μ-loop : tie.MeasureT-loop
 μ-loop area at width x₀ i₀ x i = i

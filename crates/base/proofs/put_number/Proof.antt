@@ -1,13 +1,13 @@
--- `base::put_number` writes from the lowest byte up: each turn is one byte more (`Writing`).
+-- `base::put_number` writes from the lowest byte up: each turn is one byte more (`Writing-bytes`).
 use Prim.Native.Nat.{_-_}
-use Rattle.base.proofs.BytesLaws.{Writing, write-none, write-more, write-all}
+use Rattle.base.proofs.BytesLaws.{Writing-bytes, write-none, write-more, write-all}
 use borrow.Author.Needs.{needs}
 use native.Mathlib.Omega.{arith}
 use Rattle.base.proofs.put_number.Statement.{statement}
 use Rattle.base.proofs.put_number.Tie as tie
 
 abbrev Inv-loop : tie.InvT-loop
-Inv-loop area₀ at width x left₀ i₀ area left i = Writing width area₀ at x i left area
+Inv-loop area₀ at width x left₀ i₀ area left i = Writing-bytes width area₀ at x i left area
 
 abbrev μ-loop : tie.MeasureT-loop
 μ-loop area₀ at width x left₀ i₀ area left i = width - i

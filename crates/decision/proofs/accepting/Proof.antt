@@ -6,26 +6,26 @@ use mathlib.Core.List.{List}
 use native.Mathlib.Omega.{arith}
 use borrow.Author.Needs.{needs}
 use Rattle.base.specs.Bits.{bit}
-use Rattle.runs.specs.Stored.{record-of}
-use Rattle.runs.specs.declared.Shelf.{Shelf}
+use Rattle.profile_search.specs.Stored.{record-of}
+use Rattle.profile_search.specs.declared.Store.{Store}
 use Rattle.decision.specs.Searched.{accepts}
 use Rattle.decision.proofs.AcceptingLaws.{Trying, try-start, try-found, try-next, try-none}
 use Rattle.decision.proofs.accepting.Statement.{statement}
 use Rattle.decision.proofs.accepting.Tie as tie
 
-abbrev test : List ℕ → Shelf → ℕ → ℕ → Bool
-test area shelf mask i = accepts (bit mask) (shelf .n) (record-of shelf area i)
+abbrev test : List ℕ → Store → ℕ → ℕ → Bool
+test area store mask i = accepts (bit mask) (store .n) (record-of store area i)
 
 abbrev Inv-loop : tie.InvT-loop
-Inv-loop area shelf count mask p₀ p = Trying (test area shelf mask) count p
+Inv-loop area store count mask p₀ p = Trying (test area store mask) count p
 
 abbrev μ-loop : tie.MeasureT-loop
-μ-loop area shelf count mask p₀ p = count - p
+μ-loop area store count mask p₀ p = count - p
 
 loop-holds : tie.Need-loop-holds Inv-loop μ-loop
 loop-holds c =
     let u = c .before in
-    try-start (test (u .args .area .now) (u .args .shelf) (u .args .mask)) (u .args .count)
+    try-start (test (u .args .area .now) (u .args .store) (u .args .mask)) (u .args .count)
 
 is-accepting-requires : tie.Need-is-accepting-requires Inv-loop μ-loop
 is-accepting-requires c κs =

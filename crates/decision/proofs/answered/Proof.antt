@@ -4,9 +4,9 @@ use Prim.Native.Nat.{ℕ}
 use mathlib.Core.Path.{_≡_, sym, ap, _∙_}
 use borrow.Author.Needs.{needs}
 use Rattle.base.specs.Bits.{bit}
-use Rattle.tableau.specs.Promise.{table-of}
-use Rattle.coded.specs.Runs.{accepting}
-use Rattle.runs.specs.Stored.{record-of}
+use Rattle.tableau.specs.Inner.{table-of}
+use Rattle.profile_tables.specs.Runs.{accepting}
+use Rattle.profile_search.specs.Stored.{record-of}
 use Rattle.decision.specs.Searched.{number-in, accepts}
 use Rattle.decision.proofs.AcceptingLaws.{accepts-same}
 use Rattle.decision.proofs.ConcludeLaws.{witness-ready, witness-answers, none-answers}
@@ -15,13 +15,13 @@ use Rattle.decision.proofs.answered.Tie as tie
 
 -- the code's test is the definition's
 same : (c : tie.After-accepting) (i : ℕ) → let u = c .before .before .before .before .before .args in
-    accepts (bit (c .before .least-mask .result)) (u .shelf .n) (record-of (u .shelf) (u .area .now) i)
-    ≡ accepting (table-of (u .rows .now) (u .count)) (record-of (u .shelf) (u .area .now) i)
+    accepts (bit (c .before .least-mask .result)) (u .store .n) (record-of (u .store) (u .area .now) i)
+    ≡ accepting (table-of (u .rows .now) (u .count)) (record-of (u .store) (u .area .now) i)
 same c i =
     let u = c .before .before .before .before .before in
     let a = u .args in
-    accepts-same (table-of (a .rows .now) (a .count)) (a .shelf .n) (bit (c .before .least-mask .result))
-    (record-of (a .shelf) (a .area .now) i) (u .pre .0 .operands-are) (c .before .least-mask .ensures)
+    accepts-same (table-of (a .rows .now) (a .count)) (a .store .n) (bit (c .before .least-mask .result))
+    (record-of (a .store) (a .area .now) i) (u .pre .0 .operands-are) (c .before .least-mask .ensures)
 
 least-mask-requires : tie.Need-least-mask-requires
 least-mask-requires c κs = search needs

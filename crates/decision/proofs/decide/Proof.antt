@@ -15,19 +15,20 @@ enum-known-outcome c = search needs
 enum-told : tie.Need-enum-told
 enum-told c = search needs
 
-lent-requires : tie.Need-lent-requires
-lent-requires c κs =
+ask-capacities-requires : tie.Need-ask-capacities-requires
+ask-capacities-requires c κs =
     let read = c .before .before .before .before .before .read in
     let enum-told = c .before .before .enum-told in
     let u = c .before .before .before .before .before .before .before .before .before in
-    held-decoded (reading-held (u .args .s .now) (read .result) (read .ensures .0) (enum-told .given .1))
+    held-decoded (reading-held (u .args .bytes .now) (read .result) (read .ensures .0) (enum-told .given .1))
 
 returns : tie.Need-returns
 returns c =
     let read = c .before .before .before .before .read in
     let u = c .before .before .before .before .before .before .before .before in
-    unread-decided (u .args .s .now) (u .args .n) (u .args .m) (u .args .workspace .now) (u .args .letters .now)
-    (reading-refused (u .args .s .now) (read .result) (read .ensures .0) (c .before .outcome .given .1))
+    unread-decided (u .args .bytes .now) (u .args .node-capacity) (u .args .profile-capacity) (u .args .workspace .now)
+    (u .args .witness .now)
+    (reading-refused (u .args .bytes .now) (read .result) (read .ensures .0) (c .before .outcome .given .1))
 
 same-length : tie.Need-same-length
 same-length c = search needs
@@ -39,10 +40,11 @@ returns-2 : tie.Need-returns-2
 returns-2 c =
     let read = c .before .before .before .before .before .before .before .before .before .before .read in
     let enum-told = c .before .before .before .before .before .before .before .enum-told in
-    let lent = c .before .before .before .before .lent in
+    let ask-capacities = c .before .before .before .before .ask-capacities in
     let u = c .before .before .before .before .before .before .before .before .before .before .before .before .before .before in
-    held-decided (u .args .s .now) (u .args .n) (u .args .m) (u .args .workspace .now) (u .args .letters .now)
-    (reading-held (u .args .s .now) (read .result) (read .ensures .0) (enum-told .given .1)) (lent .ensures)
+    held-decided (u .args .bytes .now) (u .args .node-capacity) (u .args .profile-capacity) (u .args .workspace .now)
+    (u .args .witness .now)
+    (reading-held (u .args .bytes .now) (read .result) (read .ensures .0) (enum-told .given .1)) (ask-capacities .ensures)
 
 pub decide-spec : {M : Type 1} → statement M
 decide-spec =
@@ -51,7 +53,7 @@ decide-spec =
     read-requires
     enum-known-outcome
     enum-told
-    lent-requires
+    ask-capacities-requires
     returns
     same-length
     same-length-2

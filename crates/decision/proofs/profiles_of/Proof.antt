@@ -3,10 +3,10 @@
 use mathlib.Core.Path.{subst⁻¹, _∙_}
 use native.Mathlib.Omega.{arith}
 use borrow.Author.Needs.{needs}
-use Rattle.tableau.specs.Promise.{table-of}
-use Rattle.runs.specs.Stored.{Lent}
-use Rattle.runs.specs.Singles.{nodes-in}
-use Rattle.runs.proofs.RisingLaws.{ones-rising}
+use Rattle.tableau.specs.Inner.{table-of}
+use Rattle.profile_search.specs.Stored.{Store-fits}
+use Rattle.profile_search.specs.Singles.{nodes-in}
+use Rattle.profile_search.proofs.RisingLaws.{singles-rising}
 use Rattle.decision.proofs.SearchedLaws.{profiles-full, profiles-all}
 use Rattle.decision.proofs.profiles_of.Statement.{statement}
 use Rattle.decision.proofs.profiles_of.Tie as tie
@@ -31,11 +31,11 @@ profiles-requires c κs =
     let g = singles .ensures in
     let room = c .before .if1 .left in (
       record {
-        lent = subst⁻¹ (Lent (s .args .shelf)) (g .elsewhere .same-length) (s .pre .lent);
+        fits = subst⁻¹ (Store-fits (s .args .store)) (g .elsewhere .same-length) (s .pre .fits);
         room = room;
         chained = g .chained room;
       },
-      ones-rising (table-of (s .args .rows .now) (s .args .count))
+      singles-rising (table-of (s .args .rows .now) (s .args .count))
           (nodes-in (s .args .count) (s .args .area .now) (s .args .nodes)) g room,
     )
 

@@ -5,7 +5,7 @@ use mathlib.Core.List.{List}
 use lib.ListN.{length}
 use native.Mathlib.Omega.{arith}
 use borrow.Author.Needs.{needs}
-use Rattle.decision.proofs.SearchedLaws.{nodes-14, Behind, given, profiles-15, all-profiled, buffer-room, answer-on}
+use Rattle.decision.proofs.SearchedLaws.{nodes-14, Store-behind, given, profiles-15, all-profiled, buffer-room, answer-on}
 use Rattle.decision.proofs.searched.Statement.{statement}
 use Rattle.decision.proofs.searched.Tie as tie
 
@@ -27,8 +27,8 @@ returns c =
 ranked-requires : tie.Need-ranked-requires
 ranked-requires c κs = search needs
 
-shelf-of-requires : tie.Need-shelf-of-requires
-shelf-of-requires c κs = search needs
+store-of-requires : tie.Need-store-of-requires
+store-of-requires c κs = search needs
 
 -- what the search of nodes leaves in the workspace, and its notes
 abbrev area-of : tie.After-nodes → List ℕ
@@ -37,12 +37,12 @@ area-of c = c .nodes .last .1 .1 .0
 abbrev notes-of : tie.After-nodes → List ℕ
 notes-of c = c .nodes .last .1 .1 .1 .1 .0
 
--- the nodes have room, and the shelf stands behind them
-behind : (c : tie.After-shelf-of) →
+-- the nodes have room, and the store stands behind them
+behind : (c : tie.After-store-of) →
     let nodes = c .before .before .before .before .before .before in
     let u = nodes .before .before .before .before .before in
-    Behind (u .args .rows .now) (u .args .count) (u .args .node-capacity) (u .args .profile-capacity) (length (u .args .letters .now))
-    (u .args .area .now) (area-of nodes) (notes-of nodes) (nodes .nodes .result) (c .before .ranked .result) (c .shelf-of .result)
+    Store-behind (u .args .rows .now) (u .args .count) (u .args .node-capacity) (u .args .profile-capacity) (length (u .args .letters .now))
+    (u .args .area .now) (area-of nodes) (notes-of nodes) (nodes .nodes .result) (c .before .ranked .result) (c .store-of .result)
 behind c =
     let nodes = c .before .before .before .before .before .before in
     let u = nodes .before .before .before .before .before in
@@ -55,7 +55,7 @@ behind c =
       notes-are = nodes .nodes .ensures .1 (omega (arith, if1 .left));
       notes-room = omega (arith, u .pre .1 .capacity .few-nodes);
       ranks = c .before .ranked .ensures;
-      shelf-is = c .shelf-of .ensures;
+      store-is = c .store-of .ensures;
     }
 
 profiles-of-requires : tie.Need-profiles-of-requires
@@ -67,9 +67,9 @@ same-length-2 c = search needs
 returns-2 : tie.Need-returns-2
 returns-2 c =
     let profiles-of = c .before .before .before in
-    let shelf-of = profiles-of .before .before in
-    let start = shelf-of .before .before .before .before .before .before .before .before .before .before .before in
-    profiles-15 (behind shelf-of) (profiles-of .profiles-of .ensures) (c .if2 .taken) (start .args .letters .now)
+    let store-of = profiles-of .before .before in
+    let start = store-of .before .before .before .before .before .before .before .before .before .before .before in
+    profiles-15 (behind store-of) (profiles-of .profiles-of .ensures) (c .if2 .taken) (start .args .letters .now)
 
 slice-aggregate-answered : tie.Need-slice-aggregate-answered
 slice-aggregate-answered c = search needs
@@ -105,7 +105,7 @@ searched-spec =
     same-length
     returns
     ranked-requires
-    shelf-of-requires
+    store-of-requires
     profiles-of-requires
     same-length-2
     returns-2

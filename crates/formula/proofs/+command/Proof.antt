@@ -7,7 +7,7 @@ use lib.ListN.{length}
 use borrow.Fn.Kinds.{In}
 use borrow.Fn.PlainCycle.{Measures, is, falls, and}
 use Rattle.formula.specs.Reading.{formula}
-use Rattle.formula.specs.Promise.{Opened}
+use Rattle.formula.specs.Inner.{Opened}
 use Rattle.formula.proofs.CodeFormula.{further-trans, agrees-from}
 use Rattle.formula.proofs.CodeCommand.{opened-of, ready-on, may-enter, ready-inside, is-behind, command-further, stopped-command}
 use Rattle.formula.proofs.CodeCommand.{opened-command, unary-command, refused-command, pair-command}

@@ -3,7 +3,7 @@
 use native.Mathlib.Omega.{arith}
 use borrow.Author.Needs.{needs}
 use Rattle.formula.specs.Reading.{formula}
-use Rattle.formula.specs.Promise.{enclosing}
+use Rattle.formula.specs.Inner.{enclosing}
 use Rattle.formula.proofs.CodeFormula.{constant-leaf, byte-of, argued-leaf, refused-leaf}
 use Rattle.formula.proofs.leaf.Statement.{statement}
 use Rattle.formula.proofs.leaf.Tie as tie

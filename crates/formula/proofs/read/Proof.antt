@@ -40,7 +40,7 @@ use denote.Triple.Table.{entered, cited}
 use denote.Triple.Walked.{says, Stays, stay-none-slice, walkOf, goes-none-slice, Walks, ends-at, walked, walk-meets}
 use denote.Exit.{yes}
 use denote.Triple.Clauses.{Clauses, ensured, lasts}
-use Rattle.formula.specs.Promise.{Answered}
+use Rattle.formula.specs.Inner.{Read-from}
 use Rattle.formula.specs.declared.Reader.{Reader}
 use Rattle.formula.specs.declared.Reading.{Reading}
 use Rattle.formula.proofs.CodeWhole.{clauses-of}
@@ -151,16 +151,16 @@ module _ {M : Type 1} (𝓤 : URA M) (H : Heap 𝓤) (A : Atoms 𝓤) (W : Given
     Ensured r = ensured 𝓤 H A read-from.ended (read-from.clauses 𝓤 H A mem run) (κ, tt) (r, tt) tt
 
     abbrev Said : Reader → Reading → Type 0
-    Said r = Answered (now (r .src)) (r .at)
+    Said r = Read-from (now (r .src)) (r .at)
 
     read-from-said : (r : Reader) (t : Reading) → ent 𝓤 (Ensured r t) (fact 𝓤 (Said r t))
     read-from-said r t = exE 𝓤 _ (λ ws. snd∗ 𝓤 (sem 𝓤 H A (lasts read-from.ended (κ, tt) (r, tt) ws)) (fact 𝓤 (Said r t)))
 
-    at-start : (r : Reader) (t : Reading) → First r → Said r t → Answered (now s) 0 t
+    at-start : (r : Reader) (t : Reading) → First r → Said r t → Read-from (now s) 0 t
     at-start r t e a =
-        subst (λ (i : ℕ). Answered (now s) i t) (e .1) (subst (λ (x : RefT (List ℕ)). Answered (now x) (r .at) t) (e .0) a)
+        subst (λ (i : ℕ). Read-from (now s) i t) (e .1) (subst (λ (x : RefT (List ℕ)). Read-from (now x) (r .at) t) (e .0) a)
 
-    exits : (t : Reading) (u : Val) → Answered (now s) 0 t → ent 𝓤 (⋆ 𝓤 H A (‵ (S.the-row .own t (u ∷ [])) ∷ token ∷ ‵ Own ∷ [])) (Post u)
+    exits : (t : Reading) (u : Val) → Read-from (now s) 0 t → ent 𝓤 (⋆ 𝓤 H A (‵ (S.the-row .own t (u ∷ [])) ∷ token ∷ ‵ Own ∷ [])) (Post u)
     exits t u e =
         qed W (‵ (S.the-row .own t (u ∷ [])) ∷ token ∷ ‵ Own ∷ []) ∵
         suffices ! _ (ends-at 𝓤 H A read.ended stayed clauses W here u t (tt, tt) (tt, tt)) $

@@ -46,7 +46,7 @@ use denote.Triple.Table.{entered, cited}
 use denote.Triple.Walked.{says, Stays, stay-none, walkOf, goes-none, Walks, ends-at, walked, walk-meets}
 use denote.Exit.{yes}
 use denote.Triple.Clauses.{Clauses, ensured, lasts}
-use Rattle.formula.specs.Promise.{Answered}
+use Rattle.formula.specs.Inner.{Read-from}
 use Rattle.formula.specs.declared.Reader.{Reader}
 use Rattle.formula.specs.declared.Reading.{Reading}
 use Rattle.formula.proofs.Reader as T
@@ -107,7 +107,7 @@ module _ {M : Type 1} (𝓤 : URA M) (H : Heap 𝓤) (A : Atoms 𝓤) (W : Given
     Entry = onEntry 𝓤 H A read-from.signature (κ, tt) (q, tt) (d, tt) (mach ∷ [], tt)
 
     abbrev Said : Reading → Type 0
-    Said = Answered (now (d .src)) (d .at)
+    Said = Read-from (now (d .src)) (d .at)
 
     abbrev here : walkOf 𝓤 H A read-from.ended stayed clauses .Ghost
     here = (((κ, tt), (q, tt), tt, (d, tt), (mach ∷ [], tt)), tt)

@@ -1,7 +1,7 @@
 -- `formula::within` answers question 4: each return is the limit of the kind that the tests before it have settled. Assumes nothing.
 use mathlib.Core.Path.{sym, _∙_}
 use borrow.Author.Tests.{eq-eqb, ne-eqb, lt-ltb, le-ltb}
-use Rattle.formula.specs.Promise.{point}
+use Rattle.formula.specs.Inner.{point}
 use Rattle.formula.proofs.CodeOpcodes.{limit}
 use Rattle.formula.proofs.within.Statement.{statement}
 use Rattle.formula.proofs.within.Tie as tie

@@ -8,7 +8,7 @@ use mathlib.Core.Bool.{false, true≢false, false≢true}
 use mathlib.Core.List.{List}
 use borrow.Author.Count.{below-more}
 use Rattle.formula.specs.Rows.{operator-at, end-at}
-use Rattle.lasso.specs.Promise.{outside-of}
+use Rattle.lasso.specs.Inner.{outside-of}
 use Rattle.lasso.proofs.CodeWritten.{few, held-inside, held-placed}
 use Rattle.lasso.proofs.closed.Statement.{statement}
 use Rattle.lasso.proofs.closed.Tie as tie

@@ -5,7 +5,7 @@ use mathlib.Core.Path.{refl}
 use mathlib.Core.Bool.{Bool}
 use mathlib.Core.List.{List}
 use Prim.Native.Nat.{ℕ, _-_, _≤_}
-use Rattle.lasso.specs.Promise.{Filled}
+use Rattle.lasso.specs.Inner.{Bits-filled}
 use Rattle.lasso.proofs.CodeSweep.{changed-none, changed-put, changed-end}
 use Rattle.lasso.proofs.fill.Statement.{statement}
 use Rattle.lasso.proofs.fill.Tie as tie
@@ -13,7 +13,7 @@ use Rattle.lasso.proofs.fill.Tie as tie
 -- the first i words are filled
 record Invariant (w : List ℕ) (n mask : ℕ) (on : Bool) (v : List ℕ) (i : ℕ) : Type 0 where
   pub few : i ≤ n
-  pub filled : Filled i mask on w v
+  pub filled : Bits-filled i mask on w v
 
 abbrev Inv-loop : tie.InvT-loop
 Inv-loop words₀ n mask on i₀ words i = Invariant words₀ n mask on words i

@@ -7,14 +7,14 @@ use mathlib.Core.List.{List}
 use Prim.Native.Nat.{ℕ, _-_}
 use Rattle.formula.specs.Rows.{end-at}
 use Rattle.lasso.proofs.CodeWritten.{few, held-end, held-inside}
-use Rattle.lasso.proofs.CodeOpen.{inside-some, Opening, opening-first, opening-past, opening-more, opening-end}
+use Rattle.lasso.proofs.CodeOpen.{inside-some, Opens, opening-first, opening-past, opening-more, opening-end}
 use Rattle.lasso.proofs.open_in.Statement.{statement}
 use Rattle.lasso.proofs.open_in.Tie as tie
 
 -- what the loop keeps: where e ends, and what is found before k
 record Invariant (rows : List ℕ) (e end k mask : ℕ) : Type 0 where
   pub last : end ≡ end-at rows e
-  pub opening : Opening rows e k mask
+  pub opening : Opens rows e k mask
 
 abbrev Inv-loop : tie.InvT-loop
 Inv-loop rows e end mask₀ k₀ mask k = Invariant rows e end k mask

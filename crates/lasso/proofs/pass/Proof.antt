@@ -7,8 +7,8 @@ use mathlib.Core.List.{List}
 use Prim.Native.Nat.{ℕ, _≤_}
 use lib.ListN.{length}
 use Rattle.lasso.specs.Lasso.{Lasso}
-use Rattle.lasso.specs.Answer.{lasso}
-use Rattle.lasso.specs.Promise.{Passed}
+use Rattle.lasso.specs.Contract.{lasso}
+use Rattle.lasso.specs.Inner.{Pass-made}
 use Rattle.lasso.proofs.CodePass.{passed-none, passed-more}
 use Rattle.lasso.proofs.pass.Statement.{statement}
 use Rattle.lasso.proofs.pass.Tie as tie
@@ -16,7 +16,7 @@ use Rattle.lasso.proofs.pass.Tie as tie
 -- the positions from i on are passed
 record Invariant (rows : List ℕ) (c : Lasso) (list : List ℕ) (count : ℕ) (g : Bool) (w v : List ℕ) (i : ℕ) : Type 0 where
   pub few : i ≤ length (c .letters)
-  pub passed : Passed rows c list count g w v
+  pub passed : Pass-made rows c list count g w v
 
 abbrev Inv-loop : tie.InvT-loop
 Inv-loop rows letters stem words₀ list count greatest all i₀ words i =

@@ -1,8 +1,8 @@
 -- `lasso::passes`: passes one behind the other keep the promise of one. Assumes nothing.
 use borrow.Author.Needs.{needs}
 use native.Mathlib.Omega.{arith}
-use Rattle.lasso.specs.Answer.{lasso}
-use Rattle.lasso.specs.Promise.{Passed}
+use Rattle.lasso.specs.Contract.{lasso}
+use Rattle.lasso.specs.Inner.{Pass-made}
 use Rattle.lasso.proofs.CodeWritten.{same-room}
 use Rattle.lasso.proofs.CodePass.{passed-none, passed-then}
 use Rattle.lasso.proofs.passes.Statement.{statement}
@@ -10,7 +10,7 @@ use Rattle.lasso.proofs.passes.Tie as tie
 
 abbrev Inv-loop : tie.InvT-loop
 Inv-loop rows letters stem words₀ list count greatest left₀ words left =
-    Passed rows (lasso letters stem) list count greatest words₀ words
+    Pass-made rows (lasso letters stem) list count greatest words₀ words
 
 abbrev μ-loop : tie.MeasureT-loop
 μ-loop rows letters stem words₀ list count greatest left₀ words left = left

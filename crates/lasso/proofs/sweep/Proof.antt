@@ -10,8 +10,8 @@ use lib.ListN.{length}
 use Rattle.formula.specs.Rows.{operator-at}
 use Rattle.formula.specs.Access.{Fits}
 use Rattle.lasso.specs.Lasso.{Lasso}
-use Rattle.lasso.specs.Answer.{lasso}
-use Rattle.lasso.specs.Promise.{local-at, Swept}
+use Rattle.lasso.specs.Contract.{lasso}
+use Rattle.lasso.specs.Inner.{local-at, Swept}
 use Rattle.lasso.proofs.CodeWritten.{few, held-placed, shaped}
 use Rattle.lasso.proofs.CodeSweep.{changed-none, changed-put, changed-end, still-more, as-before}
 use Rattle.lasso.proofs.sweep.Statement.{statement}

@@ -6,7 +6,7 @@ use mathlib.Core.Bool.{Bool}
 use mathlib.Core.List.{List}
 use Prim.Native.Nat.{ℕ, _-_, _≤_}
 use Rattle.formula.specs.Access.{Fits, Placed}
-use Rattle.lasso.specs.Promise.{Turned}
+use Rattle.lasso.specs.Inner.{Turned}
 use Rattle.lasso.proofs.CodePass.{turned-none, turned-more, turned-end}
 use Rattle.lasso.proofs.turned.Statement.{statement}
 use Rattle.lasso.proofs.turned.Tie as tie

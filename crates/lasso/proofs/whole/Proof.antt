@@ -2,7 +2,7 @@
 -- Assumes nothing.
 use borrow.Author.Needs.{needs}
 use native.Mathlib.Omega.{arith}
-use Rattle.lasso.specs.Answer.{lasso}
+use Rattle.lasso.specs.Contract.{lasso}
 use Rattle.lasso.proofs.CodeWritten.{held-inside, same-room}
 use Rattle.lasso.proofs.CodeWords.{Labelling, labelling-none, labelling-more, labelling-all, answered}
 use Rattle.lasso.proofs.whole.Statement.{statement}

@@ -1,7 +1,7 @@
 -- `tableau::by_word` is the definition's transition under a choice word: a word that the test tells has none.
 use mathlib.Core.Path.{sym, _∙_}
 use Rattle.tableau.proofs.UnmetLaws.{unmet-nowhere}
-use Rattle.tableau.proofs.StepLaws.{stepped-none, stepped-choice}
+use Rattle.tableau.proofs.TargetLaws.{stepped-none, stepped-choice}
 use borrow.Author.Needs.{needs}
 use Rattle.tableau.proofs.by_word.Statement.{statement}
 use Rattle.tableau.proofs.by_word.Tie as tie

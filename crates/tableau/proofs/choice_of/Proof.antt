@@ -3,7 +3,7 @@
 use mathlib.Core.Path.{sym, _∙_}
 use mathlib.Core.Logic.{⊎-elim}
 use mathlib.Core.List.{List}
-use Rattle.tableau.proofs.LoopLaws.{Chosen, chosen-none, chosen-or, chosen-other, chosen-all}
+use Rattle.tableau.proofs.LoopLaws.{Choice-so-far, chosen-none, chosen-or, chosen-other, chosen-all}
 use borrow.Author.Needs.{needs}
 use native.Mathlib.Omega.{arith}
 use Prim.Native.Nat.{ℕ, _-_, _≤_}
@@ -13,7 +13,7 @@ use Rattle.tableau.proofs.choice_of.Tie as tie
 -- the first e rows' part of the choice
 record Choosing (rows : List ℕ) (count e x choice left : ℕ) : Type 0 where
   passed : e ≤ count
-  chosen : Chosen rows e x choice left
+  chosen : Choice-so-far rows e x choice left
 
 abbrev Inv-loop : tie.InvT-loop
 Inv-loop rows count choice-word choice₀ left₀ e₀ choice left e = Choosing rows count e choice-word choice left

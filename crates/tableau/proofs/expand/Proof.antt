@@ -6,7 +6,7 @@ use mathlib.Core.List.{List}
 use native.Mathlib.Omega.{arith}
 use Prim.Native.Nat.{ℕ, _+_, _-_, _≤_}
 use lib.ListN.{length}
-use Rattle.tableau.specs.Area.{Marked}
+use Rattle.tableau.specs.Area.{Slots-marked}
 use Rattle.tableau.proofs.NodeLoop.{Expanding, expand-start, expand-turn, expand-end}
 use borrow.Author.Needs.{needs}
 use Rattle.tableau.proofs.expand.Statement.{statement}
@@ -20,7 +20,7 @@ record Turned (rows : List ℕ) (count i from known capacity end : ℕ) (area₀
   turn : word ≤ end
   same-area : length area ≡ length area₀
   same-notes : length o ≡ length o₀
-  marked : all ≤ capacity → Marked all area slots
+  marked : all ≤ capacity → Slots-marked all area slots
   reached : Expanding rows count i from known capacity area₀ o₀ all word area o
 
 abbrev Inv-loop : tie.InvT-loop

@@ -8,8 +8,8 @@ use Rattle.tableau.proofs.follow.Tie as tie
 enum-told : tie.Need-enum-told
 enum-told c = c .match .keys1
 
-enum-known-step : tie.Need-enum-known-step
-enum-known-step c = c .match .keys2
+enum-known-target : tie.Need-enum-known-target
+enum-known-target c = c .match .keys2
 
 add-requires : tie.Need-add-requires
 add-requires c κs = search needs
@@ -28,9 +28,9 @@ same-length-2 c = search needs
 returns-2 : tie.Need-returns-2
 returns-2 c =
     let start = c .before .before .before .before .before .before .before .before .before .before .before .before .before in
-    let step = c .before .before .before .before .before .before .before .before .before .step in
+    let target = c .before .before .before .before .before .before .before .before .before .target in
     let add = c .before .before .before .before .add in
-    (follow-some (start .args .number) (step .given .1) (start .pre .0 .room .fits) (add .ensures .0), add .ensures .1)
+    (follow-some (start .args .number) (target .given .1) (start .pre .0 .room .fits) (add .ensures .0), add .ensures .1)
 
 pub follow-spec : {M : Type 1} → statement M
-follow-spec = tie.close (tie.spec enum-told enum-known-step add-requires returns same-length same-length-2 returns-2)
+follow-spec = tie.close (tie.spec enum-told enum-known-target add-requires returns same-length same-length-2 returns-2)

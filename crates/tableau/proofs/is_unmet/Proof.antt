@@ -5,7 +5,7 @@ use Prim.Native.Nat.{ℕ, _-_, _≤_, _<_}
 use native.Mathlib.Omega.{arith}
 use borrow.Author.Needs.{needs}
 use lib.Bits.{bitAnd}
-use Rattle.tableau.specs.Promise.{unmet-at}
+use Rattle.tableau.specs.Inner.{unmet-at}
 use Rattle.tableau.proofs.UnmetLaws.{none-more, some-unmet, none-unmet}
 use Rattle.tableau.proofs.is_unmet.Statement.{statement}
 use Rattle.tableau.proofs.is_unmet.Tie as tie

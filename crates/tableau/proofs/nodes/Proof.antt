@@ -5,7 +5,7 @@ use mathlib.Core.List.{List}
 use native.Mathlib.Omega.{arith}
 use Prim.Native.Nat.{ℕ, _+_, _-_, _≤_}
 use lib.ListN.{length, length-replicate}
-use Rattle.tableau.specs.Area.{Marked, Added}
+use Rattle.tableau.specs.Area.{Slots-marked, Node-added}
 use Rattle.tableau.proofs.NodeLoop.{Finding, find-start, find-turn, find-end, find-origins, find-full}
 use Rattle.tableau.proofs.SlotLaws.{marked-none}
 use borrow.Author.Needs.{needs}
@@ -19,8 +19,8 @@ record Turned (rows : List ℕ) (count capacity : ℕ) (area₀ o₀ : List ℕ)
   high : known ≤ capacity + 1
   same-area : length area ≡ length area₀
   same-notes : length notes ≡ length o₀
-  marked : known ≤ capacity → Marked known area slots
-  found : (a o : List ℕ) → Added 0 capacity (record { set = 1; from = record { 0 = 0 }; letter = 0 }) a o area₀ o₀ known₀
+  marked : known ≤ capacity → Slots-marked known area slots
+  found : (a o : List ℕ) → Node-added 0 capacity (record { set = 1; from = record { 0 = 0 }; letter = 0 }) a o area₀ o₀ known₀
       → Finding rows count capacity known i a area notes
 
 abbrev Inv-loop : tie.InvT-loop

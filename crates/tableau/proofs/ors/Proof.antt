@@ -2,7 +2,7 @@
 use mathlib.Core.Logic.{⊎-elim}
 use mathlib.Core.List.{List}
 use Rattle.tableau.specs.Transition.{ors}
-use Rattle.tableau.specs.Promise.{table-of}
+use Rattle.tableau.specs.Inner.{table-of}
 use Rattle.tableau.proofs.LoopLaws.{ors-one, ors-same, at-end}
 use borrow.Author.Needs.{needs}
 use native.Mathlib.Omega.{arith}

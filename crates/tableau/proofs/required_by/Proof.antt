@@ -1,7 +1,7 @@
 -- `tableau::required_by` is what the operators of a set require, in rising order: each turn passes over the rows whose bits are clear, up
 -- to the lowest bit that is left, and takes the operator of that row.
 use Rattle.tableau.proofs.RowLaws.{placed}
-use Rattle.tableau.proofs.LoopLaws.{Passed, passed-none, passed-below, passed-more, passed-all}
+use Rattle.tableau.proofs.LoopLaws.{Bits-passed, passed-none, passed-below, passed-more, passed-all}
 use borrow.Author.Needs.{needs}
 use native.Mathlib.Omega.{arith}
 use lib.Pow.{pow-pos}
@@ -9,7 +9,7 @@ use Rattle.tableau.proofs.required_by.Statement.{statement}
 use Rattle.tableau.proofs.required_by.Tie as tie
 
 abbrev Inv-loop : tie.InvT-loop
-Inv-loop rows count set all₀ rest₀ all rest = Passed rows count set rest all
+Inv-loop rows count set all₀ rest₀ all rest = Bits-passed rows count set rest all
 
 abbrev μ-loop : tie.MeasureT-loop
 μ-loop rows count set all₀ rest₀ all rest = rest

@@ -1,5 +1,5 @@
 -- `tableau::transition` is the definition's transition: the choice is met, and what the saturated set requires can be.
-use Rattle.tableau.proofs.StepLaws.{step-unmet, step-false, step-clash, step-some}
+use Rattle.tableau.proofs.TargetLaws.{target-unmet, target-false, target-clash, target-some}
 use borrow.Author.Needs.{needs}
 use Rattle.tableau.proofs.transition.Statement.{statement}
 use Rattle.tableau.proofs.transition.Tie as tie
@@ -8,7 +8,7 @@ saturated-requires : tie.Need-saturated-requires
 saturated-requires c κs = search needs
 
 returns : tie.Need-returns
-returns c = step-unmet (c .before .saturated .ensures) (c .if1 .taken)
+returns c = target-unmet (c .before .saturated .ensures) (c .if1 .taken)
 
 required-by-requires : tie.Need-required-by-requires
 required-by-requires c κs = search needs
@@ -18,7 +18,7 @@ returns-2 c =
     let start = c .before .before .before .before in
     let saturated = c .before .before .before .saturated in
     let if1 = c .before .before .if1 in
-    step-false (start .pre) (saturated .ensures) (c .before .required-by .ensures) (if1 .left) (c .if2 .taken)
+    target-false (start .pre) (saturated .ensures) (c .before .required-by .ensures) (if1 .left) (c .if2 .taken)
 
 returns-3 : tie.Need-returns-3
 returns-3 c =
@@ -27,7 +27,7 @@ returns-3 c =
     let required-by = c .before .before .before .required-by in
     let if1 = c .before .before .before .before .if1 in
     let if2 = c .before .before .if2 in
-    step-clash (start .pre) (saturated .ensures) (required-by .ensures) (if1 .left) (if2 .left) (c .if3 .taken)
+    target-clash (start .pre) (saturated .ensures) (required-by .ensures) (if1 .left) (if2 .left) (c .if3 .taken)
 
 returns-4 : tie.Need-returns-4
 returns-4 c =
@@ -36,7 +36,7 @@ returns-4 c =
     let required-by = c .before .before .before .required-by in
     let if1 = c .before .before .before .before .if1 in
     let if2 = c .before .before .if2 in
-    step-some (start .pre) (saturated .ensures) (required-by .ensures) (if1 .left) (if2 .left) (c .if3 .left)
+    target-some (start .pre) (saturated .ensures) (required-by .ensures) (if1 .left) (if2 .left) (c .if3 .left)
 
 pub transition-spec : {M : Type 1} → statement M
 transition-spec =

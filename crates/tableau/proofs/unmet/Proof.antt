@@ -6,14 +6,14 @@ use Prim.Native.Nat.{ℕ, _-_, _≤_}
 use native.Mathlib.Omega.{arith}
 use borrow.Author.Needs.{needs}
 use lib.Pow.{pow-pos}
-use Rattle.tableau.proofs.UnmetLaws.{Entries, unmet-start, unmet-turn}
+use Rattle.tableau.proofs.UnmetLaws.{Unmet-entries, unmet-start, unmet-turn}
 use Rattle.tableau.proofs.unmet.Statement.{statement}
 use Rattle.tableau.proofs.unmet.Tie as tie
 
 -- the entries are right, and those of the first j ors are by pick
 record Entries-to (rows : List ℕ) (count node n j : ℕ) (bits : List ℕ) : Type 0 where
   passed : j ≤ n
-  entries : Entries rows count node bits
+  entries : Unmet-entries rows count node bits
 
 abbrev Inv-loop : tie.InvT-loop
 Inv-loop rows count node n all never bits₀ j₀ bits j = Entries-to rows count node n j bits

@@ -4,13 +4,13 @@ use Prim.Native.Nat.{_-_}
 use lib.ListN.{length, take}
 use Rattle.text.specs.Text.{buffer, each, letter-text}
 use Rattle.text.proofs.Each.{one-member-more, all-members}
-use Rattle.text.proofs.Writing.{Passed, none-passed, one-passed, keeps-length}
+use Rattle.text.proofs.Writing.{Members-passed, none-passed, one-passed, keeps-length}
 use Rattle.text.proofs.letters.Statement.{statement}
 use Rattle.text.proofs.letters.Tie as tie
 
 abbrev Inv-loop : tie.InvT-loop
 Inv-loop out₀ start letters front back at₀ i₀ out at i =
-    Passed (length letters) i (each (letter-text front back) (take i letters)) (buffer out₀ start) (buffer out at)
+    Members-passed (length letters) i (each (letter-text front back) (take i letters)) (buffer out₀ start) (buffer out at)
 
 abbrev μ-loop : tie.MeasureT-loop
 μ-loop out₀ start letters front back at₀ i₀ out at i = length letters - i

@@ -3,12 +3,12 @@ use borrow.Author.Needs.{needs}
 use Prim.Native.Nat.{_-_}
 use lib.ListN.{length, take}
 use Rattle.text.specs.Text.{buffer}
-use Rattle.text.proofs.Writing.{Passed, none-passed, one-passed, one-byte-more, all, keeps-length}
+use Rattle.text.proofs.Writing.{Members-passed, none-passed, one-passed, one-byte-more, all, keeps-length}
 use Rattle.text.proofs.put_all.Statement.{statement}
 use Rattle.text.proofs.put_all.Tie as tie
 
 abbrev Inv-loop : tie.InvT-loop
-Inv-loop out₀ at text next₀ i₀ out next i = Passed (length text) i (take i text) (buffer out₀ at) (buffer out next)
+Inv-loop out₀ at text next₀ i₀ out next i = Members-passed (length text) i (take i text) (buffer out₀ at) (buffer out next)
 
 abbrev μ-loop : tie.MeasureT-loop
 μ-loop out₀ at text next₀ i₀ out next i = length text - i

@@ -4,7 +4,7 @@ use mathlib.Core.List.{List}
 use Prim.Native.Nat.{ℕ, _-_, _≤_}
 use native.Mathlib.Omega.{arith}
 use borrow.Author.Needs.{needs}
-use Rattle.traces.specs.Promise.{Row-filled}
+use Rattle.traces.specs.Inner.{Row-filled}
 use Rattle.traces.proofs.RankLaws.{next-small}
 use Rattle.traces.proofs.NextLaws.{row-more}
 use Rattle.traces.proofs.triple_row.Statement.{statement}
@@ -36,12 +36,12 @@ element-copy-out-wide c = omega (arith, c .before .before .before .before .pre .
 wide-requires : tie.Need-wide-requires Inv-loop μ-loop
 wide-requires c κs = search needs
 
-element-copy-out-place : tie.Need-element-copy-out-place Inv-loop μ-loop
-element-copy-out-place c = omega (arith, c .before .before .before .before .before .before .pre .0 .limited .formed .few)
+element-copy-out-put-if : tie.Need-element-copy-out-put-if Inv-loop μ-loop
+element-copy-out-put-if c = omega (arith, c .before .before .before .before .before .before .pre .0 .limited .formed .few)
 
-place-requires : tie.Need-place-requires Inv-loop μ-loop
-place-requires c κs =
-    let lent = c .before .before .before .place-arg in
+put-if-requires : tie.Need-put-if-requires Inv-loop μ-loop
+put-if-requires c κs =
+    let lent = c .before .before .before .put-if-arg in
     let next = c .before .before .before .before .is-next in
     let in-table = c .before .before .before .before .before .loop-test .taken in
     let loop = c .before .before .before .before .before .before .loop in
@@ -66,7 +66,7 @@ loop-less c = search needs
 loop-again : tie.Need-loop-again Inv-loop μ-loop
 loop-again c =
     let wide = c .before .before .wide in
-    let lent = c .before .before .before .before .place-arg in
+    let lent = c .before .before .before .before .put-if-arg in
     let next = c .before .before .before .before .before .is-next in
     let in-table = c .before .before .before .before .before .before .loop-test .taken in
     let loop = c .before .before .before .before .before .before .before .loop in
@@ -75,9 +75,9 @@ loop-again c =
       passed = omega arith;
       row =
           row-more (start .args .rows .now) (loop .e) (start .args .f) (start .args .marks .now) (start .args .t .now) (loop .t)
-          (loop .inv .row) (wide .result) (c .place .last .0) (lent .given .0 .1)
+          (loop .inv .row) (wide .result) (c .put-if .last .0) (lent .given .0 .1)
           (wide .ensures ∙ start .pre .0 .ranked (loop .e) in-table) (start .pre .1)
-          (next-small (start .pre .0 .limited) (loop .e) in-table) (next .ensures) (c .place .ensures);
+          (next-small (start .pre .0 .limited) (loop .e) in-table) (next .ensures) (c .put-if .ensures);
     }
 
 returns : tie.Need-returns Inv-loop μ-loop
@@ -95,8 +95,8 @@ triple-row-spec =
     is-next-requires
     element-copy-out-wide
     wide-requires
-    element-copy-out-place
-    place-requires
+    element-copy-out-put-if
+    put-if-requires
     add-e
     loop-less
     loop-again

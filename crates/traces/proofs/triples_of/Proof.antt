@@ -4,7 +4,7 @@ use Prim.Native.Nat.{ℕ, _-_, _≤_}
 use native.Mathlib.Omega.{arith}
 use borrow.Author.Needs.{needs}
 use lib.ListN.{getD-replicate}
-use Rattle.traces.specs.Promise.{Done-to}
+use Rattle.traces.specs.Inner.{Done-to}
 use Rattle.traces.proofs.NextLaws.{all-done}
 use Rattle.traces.proofs.triples_of.Statement.{statement}
 use Rattle.traces.proofs.triples_of.Tie as tie

@@ -8,8 +8,8 @@ use borrow.Author.Needs.{needs}
 use lib.ListN.{getD}
 use mir.Val.{Fits}
 use mir.Syntax.{w8}
-use Rattle.coded.specs.Triples.{laps, some}
-use Rattle.triples.specs.Promise.{triples-in, triples-at}
+use Rattle.profile_tables.specs.Triples.{laps, some}
+use Rattle.triples.specs.Inner.{triples-in, triples-at}
 use Rattle.triples.proofs.CellLaws.{triples-copied, diagonal, rejecting-diagonal, rejecting-found, diagonal-more}
 use Rattle.triples.proofs.is_rejecting.Statement.{statement}
 use Rattle.triples.proofs.is_rejecting.Tie as tie

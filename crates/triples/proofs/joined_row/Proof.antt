@@ -4,7 +4,7 @@ use Prim.Native.Nat.{_-_, _≤_}
 use native.Mathlib.Omega.{arith}
 use native.Mathlib.Nat.{le-antisymm}
 use borrow.Author.Needs.{needs}
-use Rattle.triples.specs.Promise.{by-way, Row-with}
+use Rattle.triples.specs.Inner.{by-way, Row-with}
 use Rattle.triples.proofs.JoinLaws.{row-stays, row-way}
 use Rattle.triples.proofs.joined_row.Statement.{statement}
 use Rattle.triples.proofs.joined_row.Tie as tie

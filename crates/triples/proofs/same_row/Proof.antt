@@ -4,7 +4,7 @@ use native.Mathlib.Omega.{arith}
 use borrow.Author.Needs.{needs}
 use borrow.Author.Count.{below-more}
 use borrow.Author.Tests.{not-true, not-false}
-use Rattle.triples.specs.Promise.{Same-row}
+use Rattle.triples.specs.Inner.{Same-row}
 use Rattle.triples.proofs.CellLaws.{decides-no, decides-yes}
 use Rattle.triples.proofs.same_row.Statement.{statement}
 use Rattle.triples.proofs.same_row.Tie as tie

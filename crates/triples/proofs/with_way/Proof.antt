@@ -6,7 +6,7 @@ use native.Mathlib.Omega.{arith}
 use native.Mathlib.Nat.{le-antisymm}
 use borrow.Author.Needs.{needs}
 use lib.ListN.{length, length-set}
-use Rattle.triples.specs.Promise.{one-way, Row-with}
+use Rattle.triples.specs.Inner.{one-way, Row-with}
 use Rattle.triples.proofs.ByteLaws.{none-smaller, or-bits}
 use Rattle.triples.proofs.JoinLaws.{row-stays, row-store}
 use Rattle.triples.proofs.with_way.Statement.{statement}

@@ -2,13 +2,13 @@
 use mathlib.Core.Path.{refl}
 use native.Mathlib.Omega.{arith}
 use Rattle.witness.specs.Letters.{node-item}
-use Rattle.witness.proofs.ChainLaws.{Counted, counted-start, counted-room, counted-next, counted-less, counted-end}
+use Rattle.witness.proofs.ChainLaws.{Chain-counted, counted-start, counted-room, counted-next, counted-less, counted-end}
 use Rattle.witness.proofs.StemLaws.{note-parent}
 use Rattle.witness.proofs.stem_length.Statement.{statement}
 use Rattle.witness.proofs.stem_length.Tie as tie
 
 abbrev Inv-loop : tie.InvT-loop
-Inv-loop origins n₀ at₀ n at = Counted (node-item origins) at₀ n at
+Inv-loop origins n₀ at₀ n at = Chain-counted (node-item origins) at₀ n at
 
 abbrev μ-loop : tie.MeasureT-loop
 μ-loop origins n₀ at₀ n at = at

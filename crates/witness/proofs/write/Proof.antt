@@ -2,19 +2,19 @@
 use mathlib.Core.Path.{refl, subst⁻¹}
 use native.Mathlib.Omega.{arith}
 use borrow.Author.Needs.{needs}
-use Rattle.witness.specs.Letters.{Noted}
+use Rattle.witness.specs.Letters.{Stem-noted}
 use Rattle.witness.proofs.WriteLaws.{stem-fits, cycle-fits, all-written}
 use Rattle.witness.proofs.write.Statement.{statement}
 use Rattle.witness.proofs.write.Tie as tie
 
 -- the notes of the first node
-noted : (c : tie.After-ends-of) → Noted (c .before .before .before .before .args .origins .now) (c .ends-of .result .first .0)
+noted : (c : tie.After-header-of) → Stem-noted (c .before .before .before .before .args .origins .now) (c .header-of .result .first .0)
 noted c =
     let u = c .before .before .before .before in
-    subst⁻¹ (Noted (u .args .origins .now)) (c .ends-of .ensures .first) (u .pre .noted)
+    subst⁻¹ (Stem-noted (u .args .origins .now)) (c .header-of .ensures .first) (u .pre .noted)
 
-ends-of-requires : tie.Need-ends-of-requires
-ends-of-requires c κs = search needs
+header-of-requires : tie.Need-header-of-requires
+header-of-requires c κs = search needs
 
 stem-length-requires : tie.Need-stem-length-requires
 stem-length-requires c κs = noted (c .before)
@@ -24,19 +24,19 @@ cycle-length-requires c κs = search needs
 
 write-stem-requires : tie.Need-write-stem-requires
 write-stem-requires c κs =
-    let ends-of = c .before .before .before .before in
-    let ready = ends-of .before .before .before .before .pre in
+    let header-of = c .before .before .before .before in
+    let ready = header-of .before .before .before .before .pre in
     let stem-is = c .before .before .stem-length .ensures in
     let cycle-is = c .before .cycle-length .ensures in
-    (noted ends-of, stem-fits ready (ends-of .ends-of .ensures .first) stem-is cycle-is)
+    (noted header-of, stem-fits ready (header-of .header-of .ensures .first) stem-is cycle-is)
 
 write-cycle-requires : tie.Need-write-cycle-requires
 write-cycle-requires c κs =
-    let ends-of = c .before .before .before .before .before .before .before .before in
-    let ready = ends-of .before .before .before .before .pre in
+    let header-of = c .before .before .before .before .before .before .before .before in
+    let ready = header-of .before .before .before .before .pre in
     let stem-is = c .before .before .before .before .before .before .stem-length .ensures in
     let cycle-is = c .before .before .before .before .before .cycle-length .ensures in
-    (ready .kept, cycle-fits ready (ends-of .ends-of .ensures .first) stem-is cycle-is (omega arith))
+    (ready .kept, cycle-fits ready (header-of .header-of .ensures .first) stem-is cycle-is (omega arith))
 
 same-length : tie.Need-same-length
 same-length c = search needs
@@ -44,18 +44,18 @@ same-length c = search needs
 returns : tie.Need-returns
 returns c =
     let stem-length = c .before .before .before .before .before .before .before .before .before in
-    let ends-of = stem-length .before .before in
-    let ready = ends-of .before .before .before .before .pre in
+    let header-of = stem-length .before .before in
+    let ready = header-of .before .before .before .before .pre in
     let cycle-is = c .before .before .before .before .before .before .before .before .cycle-length .ensures in
     let stem-there = c .before .before .before .before .before .before .write-stem .ensures in
     let cycle-there = c .before .before .write-cycle .ensures in
-    all-written ready (ends-of .ends-of .ensures .first) (stem-length .stem-length .ensures) cycle-is refl stem-there cycle-there
+    all-written ready (header-of .header-of .ensures .first) (stem-length .stem-length .ensures) cycle-is refl stem-there cycle-there
 
 pub write-spec : {M : Type 1} → statement M
 write-spec =
     tie.close
     (tie.spec
-    ends-of-requires
+    header-of-requires
     stem-length-requires
     cycle-length-requires
     write-stem-requires

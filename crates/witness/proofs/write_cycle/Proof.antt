@@ -4,16 +4,16 @@ use mathlib.Core.Path.{refl, _∙_}
 use Prim.Native.Nat.{suc}
 use native.Mathlib.Omega.{arith}
 use borrow.Author.Needs.{needs}
-use Rattle.runs.specs.Stored.{record-of}
+use Rattle.profile_search.specs.Stored.{record-of}
 use Rattle.witness.proofs.WriteLaws.{Backward, back-start, back-end, Turn, turn-some, turn-room, turn-index, turn-less, turn-next}
 use Rattle.witness.proofs.write_cycle.Statement.{statement}
 use Rattle.witness.proofs.write_cycle.Tie as tie
 
 abbrev Inv-loop : tie.InvT-loop
-Inv-loop area shelf p letters₀ n start at₀ left₀ letters at left = Backward (record-of shelf area) start (suc p) at left letters₀ letters
+Inv-loop area store p letters₀ n start at₀ left₀ letters at left = Backward (record-of store area) start (suc p) at left letters₀ letters
 
 abbrev μ-loop : tie.MeasureT-loop
-μ-loop area shelf p letters₀ n start at₀ left₀ letters at left = at
+μ-loop area store p letters₀ n start at₀ left₀ letters at left = at
 
 add-at : tie.Need-add-at Inv-loop μ-loop
 add-at c = search needs
@@ -21,14 +21,14 @@ add-at c = search needs
 loop-holds : tie.Need-loop-holds Inv-loop μ-loop
 loop-holds c =
     let u = c .before .before in
-    back-start (record-of (u .args .shelf) (u .args .area .now)) (u .args .from .0) (suc (u .args .p)) (u .args .letters .now)
+    back-start (record-of (u .args .store) (u .args .area .now)) (u .args .from .0) (suc (u .args .p)) (u .args .letters .now)
     (omega arith) (u .pre .1 .count-is)
 
 -- what is known at each turn
 turn : (c : tie.In-loop Inv-loop μ-loop) →
     let u = c .before .before .before .before in
     let l = c .before .loop in
-    Turn (record-of (u .args .shelf) (u .args .area .now)) (u .args .from .0) (suc (u .args .p)) (l .at) (l .left)
+    Turn (record-of (u .args .store) (u .args .area .now)) (u .args .from .0) (suc (u .args .p)) (l .at) (l .left)
     (u .args .letters .now) (l .letters)
 turn c =
     let u = c .before .before .before .before in
@@ -42,19 +42,19 @@ turn c =
 sub-left : tie.Need-sub-left Inv-loop μ-loop
 sub-left c = omega (arith, turn-some (turn c))
 
-sub-ends-of : tie.Need-sub-ends-of Inv-loop μ-loop
-sub-ends-of c = search needs
+sub-header-of : tie.Need-sub-header-of Inv-loop μ-loop
+sub-header-of c = search needs
 
-ends-of-requires : tie.Need-ends-of-requires Inv-loop μ-loop
-ends-of-requires c κs =
+header-of-requires : tie.Need-header-of-requires Inv-loop μ-loop
+header-of-requires c κs =
     let u = c .before .before .before .before in
-    (u .pre .0 .lent, omega (arith, c .before .loop .inv .low, u .pre .0 .below))
+    (u .pre .0 .fits, omega (arith, c .before .loop .inv .low, u .pre .0 .below))
 
 add-t12 : tie.Need-add-t12 Inv-loop μ-loop
 add-t12 c = record { fits = omega (arith, turn-room (turn (c .before .before)), turn-some (turn (c .before .before))) }
 
 narrow-requires : tie.Need-narrow-requires Inv-loop μ-loop
-narrow-requires c κs = c .before .ends-of .ensures .small .letter
+narrow-requires c κs = c .before .header-of .ensures .small .letter
 
 put-requires : tie.Need-put-requires Inv-loop μ-loop
 put-requires c κs = turn-index (turn (c .before .before .before)) refl
@@ -62,13 +62,13 @@ put-requires c κs = turn-index (turn (c .before .before .before)) refl
 loop-less : tie.Need-loop-less Inv-loop μ-loop
 loop-less c =
     let in-loop = c .before .before .before .before .before .before in
-    let ends = c .before .before .before .before .before .ends-of .ensures in
+    let ends = c .before .before .before .before .before .header-of .ensures in
     turn-less (turn in-loop) (ends .parent)
 
 loop-again : tie.Need-loop-again Inv-loop μ-loop
 loop-again c =
     let in-loop = c .before .before .before .before .before .before in
-    let ends = c .before .before .before .before .before .ends-of .ensures in
+    let ends = c .before .before .before .before .before .header-of .ensures in
     let narrow = c .before .before .before .narrow .ensures in
     turn-next (turn in-loop) refl (ends .parent) (narrow ∙ ends .letter) (c .before .before .put .ensures)
 
@@ -87,8 +87,8 @@ write-cycle-spec =
     add-at
     loop-holds
     sub-left
-    sub-ends-of
-    ends-of-requires
+    sub-header-of
+    header-of-requires
     add-t12
     narrow-requires
     put-requires

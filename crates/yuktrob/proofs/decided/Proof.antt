@@ -2,8 +2,8 @@
 -- nothing.
 use borrow.Author.Needs.{needs}
 use Rattle.text.proofs.Writing.{place-within}
-use Rattle.verdicts.specs.Texts.{program-text}
-use Rattle.verdicts.proofs.Showing.{shows}
+use Rattle.verdict_text.specs.Texts.{program-text}
+use Rattle.verdict_text.proofs.Showing.{shows}
 use Prim.Native.Nat.{ℕ, zero-le}
 use Rattle.io.proofs.Counting.{counts}
 use lib.ListN.{length-replicate}

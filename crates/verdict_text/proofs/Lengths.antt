@@ -1,0 +1,106 @@
+-- How long the text of a verdict is. A number below 1,000 has three digits and a letter four, so a witness takes seven bytes a position;
+-- with room for 256 nodes and 300 profiles every text is shorter than 4,096 bytes. Assumes nothing.
+use mathlib.Core.Path.{_≡_, refl, ap, subst, subst⁻¹, _∙_}
+use mathlib.Core.List.{List, [], _∷_, _++_, append-assoc, List·Memᴰ·head, List·Memᴰ·tail}
+use Prim.Native.Nat.{ℕ, _+_, _*_, _≤_, _<_}
+use native.Mathlib.Omega.{arith}
+use lib.ListN.{length, length-append, take, drop}
+use lib.Seq.{take-append-seam, drop-append-seam}
+use Rattle.text.specs.Text.{hex, number-text, each, letter-text}
+use Rattle.text.proofs.Numerals.{few-digits}
+use Rattle.formula.specs.Refusal.{code-of, place-of}
+use Rattle.decision.specs.Verdict.{Verdict, verdict}
+use Rattle.decision.specs.Contract.{says, Buffered, Decided}
+use Rattle.decision.specs.declared.Verdict as code
+use Rattle.decision.specs.declared.Verdict.the-variants.{Satisfiable, Unsatisfiable, Refused, Unread}
+use Rattle.decision.proofs.Bounds.{Bounded, decided-bounded, Letters-small, Letters-parted, witness-parted}
+use Rattle.verdict_text.specs.Texts.{refused-text, verdict-text, lasso-text, program-text}
+
+-- a number behind a text
+numbered : (k : ℕ) (text : List ℕ) (n : ℕ) → length text ≤ k → n < 1000 → length (text ++ number-text n) ≤ k + 4
+numbered k text n h l = omega (arith, few-digits 10 (omega arith) 2 {width = 1} {n = n} l (omega arith), length-append text (number-text n))
+
+refused-short : (code : ℕ) → code ≤ 15 → length (refused-text code) ≤ 11
+refused-short code h = numbered 7 (82 ∷ 69 ∷ 70 ∷ 85 ∷ 83 ∷ 69 ∷ 68 ∷ []) code (omega arith) (omega arith)
+
+-- the texts of verdicts, without the witness
+verdict-short : (v : code.Verdict) → Bounded 256 300 v → length (verdict-text v) ≤ 19
+verdict-short (Satisfiable stem cycle K P) s =
+    let a = (77 ∷ 69 ∷ 84 ∷ []) ++ number-text stem in
+    let b = a ++ number-text cycle in
+    let ha : length a ≤ 7 = numbered 3 (77 ∷ 69 ∷ 84 ∷ []) stem (omega arith) (omega (arith, s .stem-few)) in
+    let hb : length b ≤ 11 = numbered 7 a cycle ha (omega (arith, s .cycle-few)) in
+    numbered 15 (b ++ number-text K) P (numbered 11 b K hb (omega (arith, s .nodes-few))) (omega (arith, s .profiles-few))
+verdict-short (Unsatisfiable K P) s =
+    let a = (78 ∷ 79 ∷ 84 ∷ []) ++ number-text K in
+    let ha : length a ≤ 7 = numbered 3 (78 ∷ 79 ∷ 84 ∷ []) K (omega arith) (omega (arith, s .nodes-few)) in
+    numbered 15 a P (omega arith) (omega (arith, s .profiles-few))
+verdict-short (Refused code) h = omega (arith, refused-short code h)
+verdict-short (Unread why) (h, k) =
+    let refused = refused-text (code-of why) in
+    let short = refused-short (code-of why) (omega arith) in
+    numbered 15 (refused ++ (32 ∷ 97 ∷ 116 ∷ [])) (place-of why)
+    (omega (arith, short, length-append refused (32 ∷ 97 ∷ 116 ∷ []))) (omega arith)
+
+-- some letters
+module _ (front back : List ℕ) (h : length front + length back ≤ 3) where
+  letter-short : (x : ℕ) → x < 65536 → length (letter-text front back x) ≤ 7
+  letter-short x k =
+      omega (
+        arith,
+        few-digits 16 (omega arith) 3 {width = 4} {n = x} k (omega arith),
+        length-append (front ++ hex 4 x) back,
+        length-append front (hex 4 x),
+      )
+
+  letters-short : (xs : List ℕ) → Letters-small xs → length (each (letter-text front back) xs) ≤ 7 * length xs
+  letters-short [] k = omega arith
+  letters-short (x ∷ xs) k =
+      omega (
+        arith,
+        letter-short x (k x (List·Memᴰ·head refl)),
+        letters-short xs (λ y i. k y (List·Memᴰ·tail i)),
+        length-append (letter-text front back x) (each (letter-text front back) xs),
+      )
+
+-- the two parts of the witness in the buffer
+parts : (f g : ℕ → List ℕ) (xs ys zs : List ℕ) {stem cycle : ℕ} {l : List ℕ} → stem ≡ length xs → cycle ≡ length ys → l ≡ xs ++ (ys ++ zs)
+    → each f (take stem (drop 0 l)) ++ each g (take cycle (drop stem l)) ≡ each f xs ++ each g ys
+parts f g xs ys zs p q e = rw (p, q, e, take-append-seam xs (ys ++ zs), drop-append-seam xs (ys ++ zs), take-append-seam ys zs) refl
+
+lasso-short : {stem cycle : ℕ} (K P : ℕ) {letters l : List ℕ} (rest : List ℕ) → Letters-parted stem cycle letters → l ≡ letters ++ rest
+    → length (lasso-text (Satisfiable stem cycle K P) l (83 ∷ 32 ∷ []) (76 ∷ 32 ∷ []) (10 ∷ [])) ≤ 7 * (stem + cycle)
+lasso-short {stem} {cycle} K P rest w e =
+    let xs = w .before in
+    let ys = w .around in
+    subst⁻¹ (λ (m : List ℕ). length m ≤ 7 * (stem + cycle))
+    (parts (letter-text (83 ∷ 32 ∷ []) (10 ∷ [])) (letter-text (76 ∷ 32 ∷ []) (10 ∷ [])) xs ys rest (w .stem-is) (w .cycle-is)
+    (e ∙ ap (λ (m : List ℕ). m ++ rest) (w .parts) ∙ append-assoc xs ys rest))
+    (omega (
+      arith,
+      w .stem-is,
+      w .cycle-is,
+      length-append (each (letter-text (83 ∷ 32 ∷ []) (10 ∷ [])) xs) (each (letter-text (76 ∷ 32 ∷ []) (10 ∷ [])) ys),
+      letters-short (83 ∷ 32 ∷ []) (10 ∷ []) (omega arith) xs (w .before-small),
+      letters-short (76 ∷ 32 ∷ []) (10 ∷ []) (omega arith) ys (w .around-small),
+    ))
+
+line-and : (line rest : List ℕ) → length line ≤ 19 → length rest ≤ 3885 → length (line ++ (10 ∷ []) ++ rest) ≤ 4095
+line-and line rest h k = omega (arith, length-append (line ++ (10 ∷ [])) rest, length-append line (10 ∷ []))
+
+program-by : (bytes b b′ : List ℕ) (o : Verdict) → Bounded 256 300 (says o) → Buffered bytes o b b′ → length (program-text (says o) b′)
+    ≤ 4095
+program-by bytes b b′ (Verdict.unread why) h k = line-and (verdict-text (Unread why)) [] (verdict-short (Unread why) h) (omega arith)
+program-by bytes b b′ (Verdict.refused c) h k = line-and (verdict-text (Refused c)) [] (verdict-short (Refused c) h) (omega arith)
+program-by bytes b b′ (Verdict.satisfiable stem cycle K P letters) h k =
+    line-and (verdict-text (Satisfiable stem cycle K P)) _ (verdict-short (Satisfiable stem cycle K P) h)
+    (omega (arith, h .stem-few, h .cycle-few, lasso-short K P (drop (stem + cycle) b) (witness-parted (k .met .witness)) (k .filled)))
+program-by bytes b b′ (Verdict.unsatisfiable K P) h k = line-and (verdict-text (Unsatisfiable K P)) []
+    (verdict-short (Unsatisfiable K P) h) (omega arith)
+
+-- Theorem: what the program prints has fewer than 4,096 bytes.
+pub program-short : {bytes w w′ b b′ : List ℕ} {v : code.Verdict} → Decided bytes 256 300 w w′ b b′ v → length (program-text v b′) ≤ 4095
+program-short {bytes} {w} {b} {b′} d =
+    subst⁻¹ (λ (v : code.Verdict). length (program-text v b′) ≤ 4095) (d .answered)
+    (program-by bytes b b′ (verdict 256 300 (length w) (length b) bytes) (subst (Bounded 256 300) (d .answered) (decided-bounded d))
+    (d .buffered))

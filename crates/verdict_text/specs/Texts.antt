@@ -1,0 +1,45 @@
+-- The texts of verdicts and refusals: MEANING 6.2. Assumes nothing.
+use mathlib.Core.List.{List, [], _∷_, _++_}
+use Prim.Native.Nat.{ℕ}
+use lib.ListN.{take, drop}
+use Rattle.text.specs.Text.{number-text, each, letter-text}
+use Rattle.formula.specs.Refusal.{code-of, place-of}
+use Rattle.formula.specs.declared.Refusal.{Refusal}
+use Rattle.decision.specs.declared.Verdict.{Verdict}
+use Rattle.decision.specs.declared.Verdict.the-variants.{Satisfiable, Unsatisfiable, Refused, Unread}
+
+-- The line of a verdict, without its end: that of MET,
+abbrev pub met-text : (stem cycle K P : ℕ) → List ℕ
+met-text stem cycle K P = (77 ∷ 69 ∷ 84 ∷ []) ++ number-text stem ++ number-text cycle ++ number-text K ++ number-text P
+
+-- that of NOT,
+abbrev pub not-text : (K P : ℕ) → List ℕ
+not-text K P = (78 ∷ 79 ∷ 84 ∷ []) ++ number-text K ++ number-text P
+
+-- that of a refusal by its number alone,
+abbrev pub refused-text : ℕ → List ℕ
+refused-text code = (82 ∷ 69 ∷ 70 ∷ 85 ∷ 83 ∷ 69 ∷ 68 ∷ []) ++ number-text code
+
+-- that of a refusal of reading,
+abbrev pub unread-text : Refusal → List ℕ
+unread-text why = refused-text (code-of why) ++ (32 ∷ 97 ∷ 116 ∷ []) ++ number-text (place-of why)
+
+-- and which of them it is.
+abbrev pub verdict-text : Verdict → List ℕ
+verdict-text (Satisfiable stem cycle K P) = met-text stem cycle K P
+verdict-text (Unsatisfiable K P) = not-text K P
+verdict-text (Refused code) = refused-text code
+verdict-text (Unread why) = unread-text why
+
+-- The letters of the witness, which stand at the buffer's start: those of the stem behind one text, those of the cycle behind another,
+-- and a third behind both.
+abbrev pub lasso-text : Verdict → (letters stem-front cycle-front back : List ℕ) → List ℕ
+lasso-text (Satisfiable stem cycle K P) letters stem-front cycle-front back =
+    each (letter-text stem-front back) (take stem (drop 0 letters)) ++ each (letter-text cycle-front back) (take cycle (drop stem letters))
+lasso-text (Unsatisfiable K P) letters stem-front cycle-front back = []
+lasso-text (Refused code) letters stem-front cycle-front back = []
+lasso-text (Unread why) letters stem-front cycle-front back = []
+
+-- All that the program prints: the line of the verdict, and one for each letter of a witness.
+abbrev pub program-text : Verdict → List ℕ → List ℕ
+program-text v letters = verdict-text v ++ (10 ∷ []) ++ lasso-text v letters (83 ∷ 32 ∷ []) (76 ∷ 32 ∷ []) (10 ∷ [])
