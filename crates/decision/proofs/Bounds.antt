@@ -1,6 +1,6 @@
 -- How large the numbers of a verdict are. Where one is given N bounds K and M bounds P, a witness has fewer than K positions
--- before its cycle and at most P in it, and its letters have sixteen bits; a refusal's number is at most 15, and the place of a refusal of
--- reading at most 97. Assumes nothing.
+-- before its cycle and at most P in it, and its letters have sixteen bits; a refusal's number is at most 15, and the places of a refusal
+-- of reading at most 97. Assumes nothing.
 use mathlib.Core.Path.{_≡_, refl, sym, subst⁻¹, _∙_}
 use mathlib.Core.Logic.{inl, inr}
 use mathlib.Core.List.{List, [], _∷_, _++_, map, map-append, List·Memᴰ, List·Memᴰ·not-nil, List·Memᴰ·eq-of-singleton}
@@ -11,7 +11,7 @@ use lib.ListN.{length, length-map}
 use Rattle.base.proofs.AskLaws.{Asked, every-outcome}
 use Rattle.formula.specs.Formula.{Formula}
 use Rattle.formula.specs.Table.{Table}
-use Rattle.formula.specs.Refusal.{code-of, place-of}
+use Rattle.formula.specs.Refusal.{code-of, Places-within}
 use Rattle.formula.specs.Reading.{Reading, parse}
 use Rattle.formula.proofs.Fuel.{parse-stopped}
 use Rattle.formula.proofs.Early.{parse-early}
@@ -39,7 +39,7 @@ abbrev pub Bounded : (N M : ℕ) → code.Verdict → Type 0
 Bounded N M (Satisfiable stem cycle K P) = Answer-sized N M stem cycle K P
 Bounded N M (Unsatisfiable K P) = Answer-sized N M 0 0 K P
 Bounded N M (Refused code) = code ≤ 15
-Bounded N M (Unread why) = (code-of why ≤ 9) × (place-of why ≤ 97)
+Bounded N M (Unread why) = (code-of why ≤ 9) × Places-within 97 why
 
 module _ {N M : ℕ} where
   asked-bounded : {Question : Type 0} {code : ℕ} {After : Verdict → Type 0} → code ≤ 15
@@ -63,7 +63,7 @@ module _ {N M : ℕ} where
   answered-bounded : {workspace buffer : ℕ} (bytes : List ℕ) {r : Reading Formula} → parse bytes ≡ r → (o : Verdict)
       → Verdict-cases N M workspace buffer r o
       → Bounded N M (says o)
-  answered-bounded bytes e o Verdict-cases.unread = (parse-stopped bytes e .known, parse-early bytes e)
+  answered-bounded bytes e o (Verdict-cases.unread {why}) = (parse-stopped bytes e .known, parse-early bytes why e)
   answered-bounded bytes e o (Verdict-cases.read d) =
       asked-bounded (omega arith)
       (λ c. asked-bounded (omega arith)

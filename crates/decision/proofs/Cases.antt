@@ -3,6 +3,7 @@
 use mathlib.Core.Path.{_≡_, refl}
 use mathlib.Core.List.{List, [], _∷_, map}
 use Prim.Native.Nat.{ℕ}
+use Rattle.formula.specs.Refusal.{unguarded}
 use Rattle.decision.specs.Verdict.{Verdict, verdict}
 
 pub record Case : Type 0 where
@@ -25,6 +26,9 @@ starred =
     ∷ is (0x0A ∷ 0x07 ∷ 0x03 ∷ 0x00 ∷ 0x07 ∷ 0x08 ∷ 0x04 ∷ 0x00 ∷ 0x08 ∷ 0x08 ∷ 0x05 ∷ 0x00 ∷ [])
     (Verdict.satisfiable 1 2 3 5 (1 ∷ 0 ∷ 1 ∷ []))
     ∷ is (0x0A ∷ 0x07 ∷ 0x09 ∷ 0x08 ∷ 0x08 ∷ 0x05 ∷ 0x00 ∷ 0x08 ∷ 0x05 ∷ 0x00 ∷ []) (Verdict.unsatisfiable 3 6)
+    ∷ is (0x09 ∷ 0x05 ∷ 0x00 ∷ []) (Verdict.unread (unguarded 0 2))
+    ∷ is (0x08 ∷ 0x09 ∷ 0x05 ∷ 0x00 ∷ []) (Verdict.unread (unguarded 1 3))
+    ∷ is (0x0A ∷ 0x09 ∷ 0x06 ∷ 0x03 ∷ 0x00 ∷ 0x05 ∷ 0x01 ∷ []) (Verdict.unread (unguarded 0 6))
     ∷ []
 
 pub starred-cases : map (λ (c : Case). verdict 256 300 59648 556 (c .bytes)) starred ≡ map (λ (c : Case). c .outcome) starred

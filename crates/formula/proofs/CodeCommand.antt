@@ -3,7 +3,7 @@
 -- Assumes nothing.
 use mathlib.Core.Path.{_≡_, refl, sym, ap, subst}
 use mathlib.Core.List.{List}
-use Prim.Native.Nat.{ℕ, zero, suc, _+_, _≤_, _<_}
+use Prim.Native.Nat.{ℕ, zero, suc, _+_, _-_, _≤_, _<_}
 use native.Mathlib.Omega.{arith}
 use native.Mathlib.Decide.{decLt}
 use lib.Dec.{eqb}
@@ -35,12 +35,12 @@ ready-on f w = record { limits = f .limits; depth = omega (arith, f .more, w .de
 module _ {s : List ℕ} {h x : Head} {scope : Scope} {op : ℕ} (o : Opened s h op x) (w : Scope-ready h scope) where
   pub may-enter : Inside-ready scope (h .count) op
   may-enter = record {
-    place = omega (arith, o .count, o .further .limits .commands);
+    number = omega (arith, o .count, o .further .limits .commands);
     guarded = w .guarded;
     room = λ l. omega (arith, w .depth, o .deeper l, o .further .limits .fixpoints);
   }
 
-  pub ready-inside : {e : ℕ} {inner : Scope} → Operand-scope scope e op inner → Scope-ready x inner
+  pub ready-inside : {e place : ℕ} {inner : Scope} → Operand-scope scope e place op inner → Scope-ready x inner
   ready-inside a = record {
     limits = o .further .limits;
     depth = a .depth (x .fixpoints) (omega (arith, w .depth, o .further .more)) (λ l. omega (arith, w .depth, o .deeper l));
@@ -69,7 +69,7 @@ module _ {s : List ℕ} {h : Head} {rows : List ℕ} (scope : Scope) {op : ℕ} 
   opened-command {r} f zero l = absurd (omega (arith, o .inside))
   opened-command {r} f (suc k) l = rw (o .left k (enclosing scope)) (f k (omega (arith, o .at)))
 
-  module _ {inner : Scope} {p : Parsed} (around : Operand-scope scope (h .count) op inner) (first : Command s x rows inner p) where
+  module _ {inner : Scope} {p : Parsed} (around : Operand-scope scope (h .count) (h .at) op inner) (first : Command s x rows inner p) where
     -- the first operand's answer, by the scope that the definition gives it
     operand : (fixpoints : Enclosing) (bs : List ℕ) → Encloses fixpoints bs inner → (k : ℕ) → length s ≤ x .at + k →
         Agrees s (h .count + 1) x bs rows p (formula k fixpoints (point s x))
@@ -83,6 +83,7 @@ module _ {s : List ℕ} {h : Head} {rows : List ℕ} (scope : Scope) {op : ℕ} 
             Agrees s (h .count) h (binders scope) rows r (operands (formula k) (enclosing scope) (opcode op) (point s x))
         by k m (yes q) =
             let is = fix-opcode op q (o .known) in
+            let there : x .at - 1 ≡ h .at = omega (arith, o .at) in
             rw is (unary (Formula.fix (eqb op 10))
             (λ a. record {
               rows = refl;
@@ -92,7 +93,7 @@ module _ {s : List ℕ} {h : Head} {rows : List ℕ} (scope : Scope) {op : ℕ} 
               operators = refl;
               lengths = refl;
             })
-            (o .further) (operand _ _ (around .fix q) k m) c)
+            (o .further) (operand _ _ (rw there (around .fix q)) k m) c)
         by k m (no q) =
             let eight : op ≡ 8 = omega arith in
             let is : opcode op ≡ Opcode.next = ap opcode eight in

@@ -7,18 +7,19 @@ use Prim.Native.Nat.{ℕ, zero, suc, _+_, _-_, _≤_, _<_}
 use native.Mathlib.Omega.{arith}
 use native.Mathlib.Numerals.{add-one}
 use native.Mathlib.Decide.{decLt}
-use lib.Dec.{eqb, ltb}
+use lib.Dec.{eqb}
 use lib.ListN.{length, getD, drop, drop-of-length-le}
 use lib.Seq.{drop-cons}
 use borrow.Author.Tests.{lt-ltb, le-ltb, le-leb, lt-leb}
 use Rattle.formula.specs.Formula.{Leaf, Formula}
 use Rattle.formula.specs.Table.{Operator}
-use Rattle.formula.specs.Refusal.{at-byte}
+use Rattle.formula.specs.Refusal.{at-byte, unguarded}
 use Rattle.formula.specs.Reading.{Opcode, opcode, known, within, counted, Read, Reader, Scope as Enclosing, operands, formula}
+use Rattle.formula.specs.Reading.{outside}
 use Rattle.formula.specs.declared.Head.{Head}
 use Rattle.formula.specs.declared.Scope.{Scope}
-use Rattle.formula.specs.Inner.{point, behind, enclosing, binders, Limits, Further, Room-for, Operator-counted, Refuses, Opened}
-use Rattle.formula.specs.Inner.{Argued}
+use Rattle.formula.specs.Inner.{point, behind, enclosing-at, enclosing, binders, Limits, Further, Room-for, Operator-counted, Refuses}
+use Rattle.formula.specs.Inner.{Opened, Argued}
 use Rattle.formula.proofs.CodeOpcodes.{known-opcode, signal-opcode, signal-byte}
 use Rattle.formula.proofs.CodeScope.{inward-length, inward-at}
 use Rattle.formula.proofs.CodeFormula.{further-trans}
@@ -148,15 +149,17 @@ module _ (s : List ℕ) (h : Head) (op : ℕ) (scope : Scope) (self : Enclosing 
 
       module _ (bound : next-byte s h < scope .depth) where
         -- question 8
-        pub not-guarded : scope .guarded ≤ scope .depth - 1 - next-byte s h → answer ≡ Read.refused (at-byte 8 (h .at))
-        not-guarded l =
+        pub not-guarded : (up : ℕ) → up ≡ next-byte s h → scope .guarded ≤ scope .depth - 1 - up →
+            answer ≡ Read.refused (unguarded (getD (scope .places) (scope .depth - 1 - up) 0) (h .at))
+        not-guarded up same l =
             rw (
               variable,
               here s h inside,
               inward-length,
               lt-ltb (next-byte s h) (scope .depth) bound,
-              inward-at (λ d. ltb d (scope .guarded)) (scope .depth) (next-byte s h) false bound,
-              le-ltb (scope .depth - 1 - next-byte s h) (scope .guarded) l,
+              inward-at (enclosing-at scope) (scope .depth) (next-byte s h) outside bound,
+              ← same,
+              le-ltb (scope .depth - 1 - up) (scope .guarded) l,
               place,
             )
 
@@ -170,7 +173,7 @@ module _ (s : List ℕ) (h : Head) (op : ℕ) (scope : Scope) (self : Enclosing 
             here s h inside,
             inward-length,
             lt-ltb (next-byte s h) (scope .depth) bound,
-            inward-at (λ d. ltb d (scope .guarded)) (scope .depth) (next-byte s h) false bound,
+            inward-at (enclosing-at scope) (scope .depth) (next-byte s h) outside bound,
             lt-ltb (scope .depth - 1 - next-byte s h) (scope .guarded) (omega arith),
             q,
           );

@@ -5,7 +5,7 @@ use mathlib.Core.List.{List, [], _∷_, _++_, map}
 use Prim.Native.Nat.{ℕ, zero, suc}
 use lib.ListN.{replicate}
 use Rattle.formula.specs.Formula.{Leaf, Formula}
-use Rattle.formula.specs.Refusal.{at-byte}
+use Rattle.formula.specs.Refusal.{at-byte, unguarded}
 use Rattle.formula.specs.Reading.{Reading, parse}
 
 pub record Example : Type 0 where
@@ -31,12 +31,13 @@ table =
     ∷ is (0x03 ∷ 0x0F ∷ []) (Reading.accepted (Formula.leaf (Leaf.signal true 15)))
     ∷ is (0x06 ∷ 0x01 ∷ []) (refused 1 2)
     ∷ is (0x05 ∷ 0x00 ∷ []) (refused 7 1)
-    ∷ is (0x09 ∷ 0x05 ∷ 0x00 ∷ []) (refused 8 2)
+    ∷ is (0x09 ∷ 0x05 ∷ 0x00 ∷ []) (Reading.refused (unguarded 0 2))
     ∷ is (0x01 ∷ 0x01 ∷ []) (refused 9 1)
     ∷ is (replicate 49 0x07) (refused 3 48)
     ∷ is (replicate 13 0x08) (refused 4 12)
     ∷ is (replicate 12 0x08 ++ (0x01 ∷ [])) (Reading.accepted (nexts 12))
-    ∷ is (0x08 ∷ 0x09 ∷ 0x05 ∷ 0x00 ∷ []) (refused 8 3)
+    ∷ is (0x08 ∷ 0x09 ∷ 0x05 ∷ 0x00 ∷ []) (Reading.refused (unguarded 1 3))
+    ∷ is (0x0A ∷ 0x09 ∷ 0x06 ∷ 0x03 ∷ 0x00 ∷ 0x05 ∷ 0x01 ∷ []) (Reading.refused (unguarded 0 6))
     ∷ []
 
 pub examples : map (λ (x : Example). parse (x .bytes)) table ≡ map (λ (x : Example). x .outcome) table

@@ -1,12 +1,15 @@
 pub mod Examples
 pub mod Commands
 pub mod RefusalLaws
+pub mod ScopeLaws
 pub mod Alike
 pub mod Fuel
 pub mod Prefix
-pub mod Early
 pub mod From
 pub mod Derivation
+pub mod Spelling
+pub mod NamedBinder
+pub mod Early
 pub mod Limits
 pub mod Closed
 pub mod Guarded

@@ -42,7 +42,7 @@ looks-in =
           look-in s h (96 - h .at) (h .left) l (rw e at (r .agree)) (omega arith) (r .place) (r .few);
       count = λ o n f h l c r. record { place = omega (arith, r .place); few = omega arith; agree = r .agree };
       fewer = λ h l r. record { place = omega (arith, r .place); few = r .few; agree = r .agree };
-      refuse = λ s h x y code c r. tt;
+      refuse = λ s h x y why c r. tt;
     }
 
 ended-alike : {R : Head → List ℕ → Type 0} (f : Formula) (h : Head) {x y : List ℕ} → Look Any R h x y → ended f h x ≡ ended f (over h y) y

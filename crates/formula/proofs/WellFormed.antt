@@ -14,9 +14,9 @@ use lib.Seq.{getD-append-add}
 use Rattle.base.proofs.ListLaws as base
 use Rattle.formula.specs.Formula.{Leaf, Formula, size}
 use Rattle.formula.specs.Table.{Operator, Table, table-from, table, ends-from, lengths}
-use Rattle.formula.specs.Reading.{Scope, Reading, parse}
+use Rattle.formula.specs.Reading.{Reading, parse}
 use Rattle.formula.specs.Occurrence as specs
-use Rattle.formula.specs.Occurrence.{Listed-from, nothing, Guarded, Ranged}
+use Rattle.formula.specs.Occurrence.{Listed-from, nothing, Guards, Guarded, Ranged}
 use Rattle.formula.proofs.Closed.{length-table}
 use Rattle.formula.proofs.Limits.{size-some, parse-limited}
 use Rattle.formula.proofs.Guarded.{parse-guarded}
@@ -116,7 +116,7 @@ module _ (operator : ℕ → Operator) (end : ℕ → ℕ) (count : ℕ) where
   abbrev Binds : (m lo hi : ℕ) → (guarded : Bool) → Type 0
   Binds = specs.Binds operator end count
 
-  abbrev Occurs : (e : ℕ) → Scope → (binders : List ℕ) → Formula → Type 0
+  abbrev Occurs : (e : ℕ) → Guards → (binders : List ℕ) → Formula → Type 0
   Occurs = specs.Occurs operator end count
 
   ends-first : (e : ℕ) (f : Formula) → Listed-from 0 end e (ends-from e f) → end e ≡ e + size f
@@ -126,7 +126,7 @@ module _ (operator : ℕ → Operator) (end : ℕ → ℕ) (count : ℕ) where
   ends-first e (Formula.next a) h = sits-first h
   ends-first e (Formula.fix g a) h = sits-first h
 
-  pub occurs-end : {e : ℕ} {scope : Scope} {binders : List ℕ} {f : Formula} → Occurs e scope binders f → end e ≡ e + size f
+  pub occurs-end : {e : ℕ} {guards : Guards} {binders : List ℕ} {f : Formula} → Occurs e guards binders f → end e ≡ e + size f
   occurs-end {e} {f = f} h = ends-first e f (h .bounds)
 
   binds-in : {m lo hi : ℕ} {g : Bool} (from to : ℕ) → lo ≤ from → to ≤ hi → Binds m lo hi g → Binds m from to g
@@ -147,8 +147,8 @@ module _ (operator : ℕ → Operator) (end : ℕ → ℕ) (count : ℕ) where
       }
 
   -- the operands of what stands at e stand at their numbers
-  module _ {e : ℕ} {scope : Scope} {binders : List ℕ} where
-    pub occurs-left : {o : Bool} {a b : Formula} → Occurs e scope binders (Formula.pair o a b) → Occurs (e + 1) scope binders a
+  module _ {e : ℕ} {guards : Guards} {binders : List ℕ} where
+    pub occurs-left : {o : Bool} {a b : Formula} → Occurs e guards binders (Formula.pair o a b) → Occurs (e + 1) guards binders a
     occurs-left {a = a} {b = b} h =
         record {
           operators = sits-left (table-from (e + 1) binders a) _ (sits-rest (h .operators));
@@ -160,7 +160,7 @@ module _ (operator : ℕ → Operator) (end : ℕ → ℕ) (count : ℕ) where
           enclosed = λ d i. binds-in (e + 1) (e + 1 + size a) (omega arith) (omega arith) (h .enclosed d i);
         }
 
-    pub occurs-right : {o : Bool} {a b : Formula} → Occurs e scope binders (Formula.pair o a b) → Occurs (e + 1 + size a) scope binders b
+    pub occurs-right : {o : Bool} {a b : Formula} → Occurs e guards binders (Formula.pair o a b) → Occurs (e + 1 + size a) guards binders b
     occurs-right {a = a} {b = b} h =
         record {
           operators = sits-right (size a) (table-from (e + 1) binders a) _ (length-table (e + 1) binders a) (sits-rest (h .operators));
@@ -172,7 +172,7 @@ module _ (operator : ℕ → Operator) (end : ℕ → ℕ) (count : ℕ) where
           enclosed = λ d i. binds-in (e + 1 + size a) (e + 1 + size a + size b) (omega arith) (omega arith) (h .enclosed d i);
         }
 
-    pub occurs-next : {a : Formula} → Occurs e scope binders (Formula.next a) → Occurs (e + 1) (map (λ _. true) scope) binders a
+    pub occurs-next : {a : Formula} → Occurs e guards binders (Formula.next a) → Occurs (e + 1) (map (λ _. true) guards) binders a
     occurs-next {a = a} h =
         record {
           operators = sits-rest (h .operators);
@@ -180,7 +180,7 @@ module _ (operator : ℕ → Operator) (end : ℕ → ℕ) (count : ℕ) where
           fits = omega (arith, h .fits);
           guarded = h .guarded;
           ranged = h .ranged;
-          scoped = length-map scope (λ _. true) ∙ h .scoped;
+          scoped = length-map guards (λ _. true) ∙ h .scoped;
           enclosed = λ d i.
               let b = h .enclosed d i in
               record {
@@ -198,7 +198,7 @@ module _ (operator : ℕ → Operator) (end : ℕ → ℕ) (count : ℕ) where
               };
         }
 
-    pub occurs-body : {g : Bool} {a : Formula} → Occurs e scope binders (Formula.fix g a) → Occurs (e + 1) (false ∷ scope) (e ∷ binders) a
+    pub occurs-body : {g : Bool} {a : Formula} → Occurs e guards binders (Formula.fix g a) → Occurs (e + 1) (false ∷ guards) (e ∷ binders) a
     occurs-body {a = a} h =
         record {
           operators = sits-rest (h .operators);
@@ -210,7 +210,7 @@ module _ (operator : ℕ → Operator) (end : ℕ → ℕ) (count : ℕ) where
           enclosed = λ d. inner d;
         }
       where
-        inner : (d : ℕ) → d < suc (length binders) → Binds (getD (e ∷ binders) d 0) (e + 1) (e + 1 + size a) (getD (false ∷ scope) d false)
+        inner : (d : ℕ) → d < suc (length binders) → Binds (getD (e ∷ binders) d 0) (e + 1) (e + 1 + size a) (getD (false ∷ guards) d false)
         inner zero i =
             record {
               before = omega arith;
@@ -222,22 +222,22 @@ module _ (operator : ℕ → Operator) (end : ℕ → ℕ) (count : ℕ) where
 
   -- a number with the subformula that stands there
   pub record Located (e : ℕ) : Type 0 where
-    pub scope : Scope
+    pub guards : Guards
     pub binders : List ℕ
     pub subformula : Formula
-    pub stands : Occurs e scope binders subformula
+    pub stands : Occurs e guards binders subformula
 
   abbrev Each : ℕ → ℕ → Type 0
   Each lo hi = (x : ℕ) → lo ≤ x → x < hi → Located x
 
-  each-first : {e n : ℕ} {scope : Scope} {binders : List ℕ} {f : Formula} → Occurs e scope binders f → Each (e + 1) n → Each e n
-  each-first {e} {n} {scope} {binders} {f} h more x i j = by (decLt e x)
+  each-first : {e n : ℕ} {guards : Guards} {binders : List ℕ} {f : Formula} → Occurs e guards binders f → Each (e + 1) n → Each e n
+  each-first {e} {n} {guards} {binders} {f} h more x i j = by (decLt e x)
     where
       by : Dec (e < x) → Located x
       by (yes l) = more x (omega arith) j
       by (no l) =
           let q : x ≡ e = omega arith in
-          rw q (record { scope = scope; binders = binders; subformula = f; stands = h })
+          rw q (record { guards = guards; binders = binders; subformula = f; stands = h })
 
   each-join : {lo m hi : ℕ} → Each lo m → Each m hi → Each lo hi
   each-join {lo} {m} {hi} a b x i j = by (decLt x m)
@@ -252,7 +252,7 @@ module _ (operator : ℕ → Operator) (end : ℕ → ℕ) (count : ℕ) where
   none : (lo hi : ℕ) → hi ≤ lo → Each lo hi
   none lo hi l x i j = absurd (omega arith)
 
-  each : {e : ℕ} {scope : Scope} {binders : List ℕ} (f : Formula) → Occurs e scope binders f → Each e (e + size f)
+  each : {e : ℕ} {guards : Guards} {binders : List ℕ} (f : Formula) → Occurs e guards binders f → Each e (e + size f)
   each {e} (Formula.leaf l) h = each-first h (none (e + 1) (e + 1) (omega arith))
   each {e} (Formula.variable d) h = each-first h (none (e + 1) (e + 1) (omega arith))
   each {e} (Formula.pair o a b) h =
@@ -261,11 +261,11 @@ module _ (operator : ℕ → Operator) (end : ℕ → ℕ) (count : ℕ) where
   each {e} (Formula.fix g a) h = each-to (e + (1 + size a)) (omega arith) (each-first h (each a (occurs-body h)))
 
   -- every number from e up to the end of what stands there
-  pub located : {e : ℕ} {scope : Scope} {binders : List ℕ} {f : Formula} → Occurs e scope binders f → (x : ℕ) → e ≤ x → x < end e
+  pub located : {e : ℕ} {guards : Guards} {binders : List ℕ} {f : Formula} → Occurs e guards binders f → (x : ℕ) → e ≤ x → x < end e
       → Located x
   located {e} {f = f} h = each-to (end e) (occurs-end h) (each f h)
 
-  pub occurs-nested : {e : ℕ} {scope : Scope} {binders : List ℕ} {f : Formula} → Occurs e scope binders f → (x : ℕ) → e ≤ x → x < end e
+  pub occurs-nested : {e : ℕ} {guards : Guards} {binders : List ℕ} {f : Formula} → Occurs e guards binders f → (x : ℕ) → e ≤ x → x < end e
       → end x ≤ end e
   occurs-nested {e} {f = f} h x i j =
       let last : end e ≡ e + size f = occurs-end h in
@@ -303,7 +303,7 @@ module _ (operator : ℕ → Operator) (end : ℕ → ℕ) (count : ℕ) where
     pub inside : end e ≤ count
     pub operands : Operands e (operator e)
 
-  operands-at : {e : ℕ} {scope : Scope} {binders : List ℕ} (f : Formula) → Occurs e scope binders f → Operands e (operator e)
+  operands-at : {e : ℕ} {guards : Guards} {binders : List ℕ} (f : Formula) → Occurs e guards binders f → Operands e (operator e)
   operands-at (Formula.leaf (Leaf.constant b)) h = rw (sits-first (h .operators)) tt
   operands-at (Formula.leaf (Leaf.signal present s)) h = rw (sits-first (h .operators)) (h .ranged)
   operands-at (Formula.variable d) h =
@@ -334,7 +334,7 @@ module _ (operator : ℕ → Operator) (end : ℕ → ℕ) (count : ℕ) where
         last = omega (arith, occurs-end (occurs-body h), occurs-end h);
       })
 
-  pub occurs-shaped : {e : ℕ} {scope : Scope} {binders : List ℕ} {f : Formula} → Occurs e scope binders f → Shaped e
+  pub occurs-shaped : {e : ℕ} {guards : Guards} {binders : List ℕ} {f : Formula} → Occurs e guards binders f → Shaped e
   occurs-shaped {f = f} h =
       record { some = omega (arith, occurs-end h, size-some f); inside = omega (arith, occurs-end h, h .fits); operands = operands-at f h }
 

@@ -1,7 +1,7 @@
 -- What the inner functions of reading promise, in terms of the definitions. A reader of the public contract need not read it.
 -- Assumes nothing.
 use mathlib.Core.Path.{_≡_}
-use mathlib.Core.Bool.{true, false}
+use mathlib.Core.Bool.{true}
 use mathlib.Core.List.{List, [], _∷_, map}
 use Prim.Native.Nat.{ℕ, zero, suc, _+_, _-_, _≤_, _<_}
 use lib.Dec.{ltb}
@@ -10,7 +10,7 @@ use Rattle.base.specs.Lists.{range}
 use Rattle.formula.specs.Formula.{Formula, size}
 use Rattle.formula.specs.Table.{Operator, Table as Operators, table-from, lengths}
 use Rattle.formula.specs.Reading.{opcode, Head as Point, Read, Reader, Scope as Enclosing, within, counted, operands, formula}
-use Rattle.formula.specs.Reading.{reading-from}
+use Rattle.formula.specs.Reading.{reading-from, Binder, entered, behind-next}
 use Rattle.formula.specs.Rows.{opcode-at, operand-at, length-at, lengths-of, opcode-byte, operand-of}
 use Rattle.formula.specs.Contract.{stored}
 use Rattle.formula.specs.declared.Head.{Head}
@@ -31,9 +31,13 @@ abbrev pub inward : {A : Type 0} → (ℕ → A) → ℕ → List A
 inward of zero = []
 inward of (suc d) = of d ∷ inward of d
 
--- The enclosing fixpoints, each with whether a next stands between it and here: those are the outer ones.
+-- A fixpoint of the scope, counted from outside: those with a next between them and here are the outer ones.
+abbrev pub enclosing-at : Scope → ℕ → Binder
+enclosing-at x d = record { place = getD (x .places) d 0; guarded = ltb d (x .guarded) }
+
+-- The enclosing fixpoints.
 abbrev pub enclosing : Scope → Enclosing
-enclosing x = inward (λ d. ltb d (x .guarded)) (x .depth)
+enclosing x = inward (enclosing-at x) (x .depth)
 
 -- The numbers of the enclosing fixpoints, innermost first.
 abbrev pub binders : Scope → List ℕ
@@ -93,7 +97,7 @@ pub record Leaf-ready (op e : ℕ) (h : Head) (scope : Scope) : Type 0 where
 
 -- The operands of subformula e, of opcode op, may be read: there is room for one more enclosing fixpoint where e is one.
 pub record Inside-ready (scope : Scope) (e op : ℕ) : Type 0 where
-  pub place : e < 48
+  pub number : e < 48
   pub guarded : scope .guarded ≤ scope .depth
   pub room : 8 < op → scope .depth < 7
 
@@ -230,11 +234,11 @@ pub record Encloses (scope : Enclosing) (range : List ℕ) (x : Scope) : Type 0 
   pub fixpoints : enclosing x ≡ scope
   pub named : binders x ≡ range
 
--- The scope x is that of the operands of subformula e.
-pub record Operand-scope (scope : Scope) (e op : ℕ) (x : Scope) : Type 0 where
+-- The scope x is that of the operands of subformula e, whose byte is at a place.
+pub record Operand-scope (scope : Scope) (e place op : ℕ) (x : Scope) : Type 0 where
   pub pair : op < 8 → Encloses (enclosing scope) (binders scope) x
-  pub next : op ≡ 8 → Encloses (map (λ _. true) (enclosing scope)) (binders scope) x
-  pub fix : 8 < op → Encloses (false ∷ enclosing scope) (e ∷ binders scope) x
+  pub next : op ≡ 8 → Encloses (map behind-next (enclosing scope)) (binders scope) x
+  pub fix : 8 < op → Encloses (entered place ∷ enclosing scope) (e ∷ binders scope) x
   pub guarded : x .guarded ≤ x .depth
   pub depth : (n : ℕ) → scope .depth ≤ n → (8 < op → scope .depth < n) → x .depth ≤ n
 

@@ -2,6 +2,7 @@ pub mod Formula
 pub mod Table
 pub mod Refusal
 pub mod Reading
+pub mod Ways
 pub mod Occurrence
 pub mod Rows
 pub mod Access

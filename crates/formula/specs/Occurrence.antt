@@ -9,7 +9,6 @@ use lib.Dec.{T}
 use lib.ListN.{length, getD}
 use Rattle.formula.specs.Formula.{Leaf, Formula, size}
 use Rattle.formula.specs.Table.{Operator, is-next, is-fix, table-from, ends-from}
-use Rattle.formula.specs.Reading.{Scope}
 
 -- From number e on, s has the elements of a list. (d: what lists give behind their last element.)
 pub record Listed-from {A : Type 0} (d : A) (s : ℕ → A) (e : ℕ) (part : List A) : Type 0 where
@@ -19,14 +18,17 @@ pub record Listed-from {A : Type 0} (d : A) (s : ℕ → A) (e : ℕ) (part : Li
 abbrev pub nothing : Operator
 nothing = Operator.leaf (Leaf.constant false)
 
--- Closed and guarded (MEANING 1.4, questions 7 and 8): each variable has a binder, and a next between it and the binder. The scope is as
--- in Reading.antt.
-abbrev pub Guarded : Scope → Formula → Type 0
-Guarded scope (Formula.leaf l) = Unit {0}
-Guarded scope (Formula.variable d) = (d < length scope) × T (getD scope d false)
-Guarded scope (Formula.pair o a b) = Guarded scope a × Guarded scope b
-Guarded scope (Formula.next a) = Guarded (map (λ _. true) scope) a
-Guarded scope (Formula.fix g a) = Guarded (false ∷ scope) a
+-- Of the fixpoints around, innermost first, whether there is a next between each and here.
+abbrev pub Guards : Type 0
+Guards = List Bool
+
+-- Closed and guarded (MEANING 1.4, questions 7 and 8): each variable has a binder, and a next between it and the binder.
+abbrev pub Guarded : Guards → Formula → Type 0
+Guarded guards (Formula.leaf l) = Unit {0}
+Guarded guards (Formula.variable d) = (d < length guards) × T (getD guards d false)
+Guarded guards (Formula.pair o a b) = Guarded guards a × Guarded guards b
+Guarded guards (Formula.next a) = Guarded (map (λ _. true) guards) a
+Guarded guards (Formula.fix g a) = Guarded (false ∷ guards) a
 
 -- signals are 0 to 15 (question 6)
 abbrev pub Ranged : Formula → Type 0
@@ -55,11 +57,11 @@ module _ (operator : ℕ → Operator) (end : ℕ → ℕ) (count : ℕ) where
     pub guard : T guarded → Next-between m lo hi
 
   -- f stands at number e, inside the fixpoints `binders`
-  pub record Occurs (e : ℕ) (scope : Scope) (binders : List ℕ) (f : Formula) : Type 0 where
+  pub record Occurs (e : ℕ) (guards : Guards) (binders : List ℕ) (f : Formula) : Type 0 where
     pub operators : Listed-from nothing operator e (table-from e binders f)
     pub bounds : Listed-from 0 end e (ends-from e f)
     pub fits : e + size f ≤ count
-    pub guarded : Guarded scope f
+    pub guarded : Guarded guards f
     pub ranged : Ranged f
-    pub scoped : length scope ≡ length binders
-    pub enclosed : (d : ℕ) → d < length binders → Binds (getD binders d 0) e (e + size f) (getD scope d false)
+    pub scoped : length guards ≡ length binders
+    pub enclosed : (d : ℕ) → d < length binders → Binds (getD binders d 0) e (e + size f) (getD guards d false)

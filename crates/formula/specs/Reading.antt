@@ -1,12 +1,12 @@
 -- Reading a formula from bytes (MEANING 1.4): the questions in their order, each with its number. Assumes nothing.
-use mathlib.Core.Bool.{Bool, true, false}
+use mathlib.Core.Bool.{Bool, true, false, cond}
 use mathlib.Core.List.{List, [], _∷_, map}
 use Prim.Native.Nat.{ℕ, zero, suc, _+_, _-_}
 use lib.Dec.{ltb, leb}
 use lib.ListN.{length, getD, drop}
 use Rattle.formula.specs.Formula.{Leaf, Formula}
 use Rattle.formula.specs.Table.{Entries, entries}
-use Rattle.formula.specs.Refusal.{at-byte, places-from}
+use Rattle.formula.specs.Refusal.{at-byte, unguarded, places-from}
 use Rattle.formula.specs.declared.Refusal.{Refusal}
 
 -- What a byte may be where an operator begins. Pair: or (06) where true, and (07) where false; fix: greatest (0A) where true, least (09)
@@ -27,6 +27,16 @@ opcode b =
     ∷ Opcode.pair true ∷ Opcode.pair false ∷ Opcode.next ∷ Opcode.fix false ∷ Opcode.fix true ∷ [])
     b
     Opcode.unknown
+
+-- The byte of each (MEANING 1.1); 0 is no opcode's.
+abbrev pub byte-of : Opcode → ℕ
+byte-of Opcode.unknown = 0
+byte-of (Opcode.constant b) = cond b 1 2
+byte-of (Opcode.signal present) = cond present 3 4
+byte-of Opcode.variable = 5
+byte-of (Opcode.pair o) = cond o 6 7
+byte-of Opcode.next = 8
+byte-of (Opcode.fix g) = cond g 10 9
 
 -- What reading has come to: a place, the bytes from there on, and how many operators, or, next and fixpoints it has counted.
 pub record Head : Type 0 where
@@ -70,14 +80,18 @@ byte-from code h (b ∷ bs) =
 abbrev pub byte : ℕ → Reader ℕ
 byte code h = byte-from code h (h .left)
 
--- The answer to a question about the byte that was just read: no is the refusal at this byte.
-abbrev pub answered : Bool → ℕ → Reader (Unit {0})
-answered true code h = Read.got tt h
-answered false code h = Read.refused (at-byte code (h .at - 1))
+-- The answer to a question about the byte that was just read: no is the refusal at the place of this byte.
+abbrev pub answered : Bool → (ℕ → Refusal) → Reader (Unit {0})
+answered true why h = Read.got tt h
+answered false why h = Read.refused (why (h .at - 1))
 
 -- A question whose answer depends on what reading has come to.
-abbrev pub ask-here : (Head → Bool) → ℕ → Reader (Unit {0})
-ask-here q code h = answered (q h) code h
+abbrev pub ask-here : (Head → Bool) → (ℕ → Refusal) → Reader (Unit {0})
+ask-here q why h = answered (q h) why h
+
+-- The place of the byte that was just read.
+abbrev pub place-read : Reader ℕ
+place-read h = Read.got (h .at - 1) h
 
 -- Question 2: whether it is an opcode.
 abbrev pub known : Opcode → Bool
@@ -120,9 +134,38 @@ counted (Opcode.fix g) h = one-more 0 0 1 h
 abbrev pub count : Opcode → Reader (Unit {0})
 count k h = Read.got tt (counted k h)
 
--- The fixpoints around, innermost first, each with whether there is a next between it and here (question 8).
+-- A fixpoint around: the place of its byte, and whether there is a next between it and here (question 8).
+pub record Binder : Type 0 where
+  pub place : ℕ
+  pub guarded : Bool
+
+-- The fixpoints around, innermost first.
 abbrev pub Scope : Type 0
-Scope = List Bool
+Scope = List Binder
+
+-- what a scope gives for a depth that names none of them
+abbrev pub outside : Binder
+outside = record { place = 0; guarded = false }
+
+-- the fixpoint that was just entered
+abbrev pub entered : (place : ℕ) → Binder
+entered place = record { place = place; guarded = false }
+
+-- a fixpoint, seen from behind a next
+abbrev pub behind-next : Binder → Binder
+behind-next b = record { place = b .place; guarded = true }
+
+-- Question 8, about a variable whose depth was just read and names a fixpoint. The refusal has the place of that fixpoint too.
+abbrev pub guard-asked : Scope → (depth : ℕ) → Reader Formula
+guard-asked scope d = do
+  _ ← ask-here (λ h. getD scope d outside .guarded) (unguarded (getD scope d outside .place))
+  done (Formula.variable d)
+
+-- The questions 7 and 8.
+abbrev pub depth-asked : Scope → (depth : ℕ) → Reader Formula
+depth-asked scope d = do
+  _ ← ask-here (λ h. ltb d (length scope)) (at-byte 7)
+  guard-asked scope d
 
 -- What comes behind an opcode, read to its end, with the questions 5 to 8. `self` reads an operand formula.
 abbrev pub operands : (Scope → Reader Formula) → Scope → Opcode → Reader Formula
@@ -130,31 +173,30 @@ operands self scope Opcode.unknown = done (Formula.leaf (Leaf.constant false))
 operands self scope (Opcode.constant b) = done (Formula.leaf (Leaf.constant b))
 operands self scope (Opcode.signal present) = do
   s ← byte 5
-  _ ← ask-here (λ h. leb s 15) 6
+  _ ← ask-here (λ h. leb s 15) (at-byte 6)
   done (Formula.leaf (Leaf.signal present s))
 operands self scope Opcode.variable = do
   d ← byte 5
-  _ ← ask-here (λ h. ltb d (length scope)) 7
-  _ ← ask-here (λ h. getD scope d false) 8
-  done (Formula.variable d)
+  depth-asked scope d
 operands self scope (Opcode.pair o) = do
   a ← self scope
   b ← self scope
   done (Formula.pair o a b)
 operands self scope Opcode.next = do
-  a ← self (map (λ _. true) scope)
+  a ← self (map behind-next scope)
   done (Formula.next a)
 operands self scope (Opcode.fix g) = do
-  a ← self (false ∷ scope)
+  place ← place-read
+  a ← self (entered place ∷ scope)
   done (Formula.fix g a)
 
 -- The questions that each operator is asked, and its operands.
 abbrev pub questions : (Scope → Reader Formula) → Scope → Reader Formula
 questions self scope = do
   b ← byte 1
-  _ ← ask-here (λ h. known (opcode b)) 2
-  _ ← ask-here (λ h. ltb (h .commands) 48) 3
-  _ ← ask-here (λ h. within (opcode b) h) 4
+  _ ← ask-here (λ h. known (opcode b)) (at-byte 2)
+  _ ← ask-here (λ h. ltb (h .commands) 48) (at-byte 3)
+  _ ← ask-here (λ h. within (opcode b) h) (at-byte 4)
   _ ← count (opcode b)
   operands self scope (opcode b)
 
@@ -196,7 +238,7 @@ unfoldable pub reading : List ℕ → Reading Entries
 unfolding parse
 reading bytes = with-entries (parse bytes)
 
--- The outcome, a refusal's place counted from n bytes earlier.
+-- The outcome, a refusal's places counted from n bytes earlier.
 abbrev pub counted-from : {A : Type 0} → ℕ → Reading A → Reading A
 counted-from n (Reading.refused why) = Reading.refused (places-from n why)
 counted-from n (Reading.accepted a) = Reading.accepted a

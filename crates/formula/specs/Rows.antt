@@ -1,13 +1,12 @@
 -- What the rows of a table hold: the decoding through which contracts speak of the definitions, and the encoding that settles every byte.
 -- Assumes nothing.
-use mathlib.Core.Bool.{cond}
 use mathlib.Core.List.{List, _++_, map}
 use Prim.Native.Nat.{ℕ, _+_}
 use lib.ListN.{getD}
 use Rattle.base.specs.Lists.{range}
 use Rattle.formula.specs.Formula.{Leaf}
 use Rattle.formula.specs.Table.{Operator, Table as Operators, Entries}
-use Rattle.formula.specs.Reading.{Opcode, opcode, Reading}
+use Rattle.formula.specs.Reading.{Opcode, opcode, byte-of, Reading}
 use Rattle.formula.specs.declared.Table.{Table}
 use Rattle.formula.specs.declared.Outcome.{Outcome}
 use Rattle.formula.specs.declared.Outcome.the-variants.{Accepted, Refused}
@@ -62,12 +61,12 @@ entries-of t = record { operators = operators-of (t .rows) 0 (t .count); lengths
 
 -- the byte of an operator's opcode: MEANING 1.1
 abbrev pub opcode-byte : Operator → ℕ
-opcode-byte (Operator.leaf (Leaf.constant b)) = cond b 1 2
-opcode-byte (Operator.leaf (Leaf.signal present j)) = cond present 3 4
-opcode-byte (Operator.variable m) = 5
-opcode-byte (Operator.pair o l r) = cond o 6 7
-opcode-byte (Operator.next g) = 8
-opcode-byte (Operator.fix g b) = cond g 10 9
+opcode-byte (Operator.leaf (Leaf.constant b)) = byte-of (Opcode.constant b)
+opcode-byte (Operator.leaf (Leaf.signal present j)) = byte-of (Opcode.signal present)
+opcode-byte (Operator.variable m) = byte-of Opcode.variable
+opcode-byte (Operator.pair o l r) = byte-of (Opcode.pair o)
+opcode-byte (Operator.next g) = byte-of Opcode.next
+opcode-byte (Operator.fix g b) = byte-of (Opcode.fix g)
 
 -- what its operand byte stands for; 0 where it has none
 abbrev pub operand-of : Operator → ℕ

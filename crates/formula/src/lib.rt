@@ -66,23 +66,33 @@ pub enum Operator {
     },
 }
 
-// Why reading stopped: the refusal's code, 1 to 9, and the byte's place.
-pub struct Refusal {
-    pub code: u8,
-    pub at: usize,
+// Why reading stopped: the refusal's code and the byte's place; or, of 8, the place of the variable's operand and that of the byte of its
+// binder.
+pub enum Refusal {
+    AtByte { code: u8, at: usize },
+    Unguarded { at: usize, binder_at: usize },
 }
 
-// What is told of a refusal: its code, and its place.
+// What is told of any refusal: its code, and its place.
 pub fn code_of(why: Refusal) -> u8
     ensures { λ r. ⌜ r ≡ code-of why ⌝ }
 {
-    why.code
+    match why {
+        Refusal::AtByte { code, at: _ } => code,
+        Refusal::Unguarded {
+            at: _,
+            binder_at: _,
+        } => 8,
+    }
 }
 
 pub fn place_of(why: Refusal) -> usize
     ensures { λ r. ⌜ r ≡ place-of why ⌝ }
 {
-    why.at
+    match why {
+        Refusal::AtByte { code: _, at } => at,
+        Refusal::Unguarded { at, binder_at: _ } => at,
+    }
 }
 
 pub enum Outcome {
@@ -105,11 +115,12 @@ struct Head {
     fixpoints: usize,
 }
 
-// The enclosing fixpoints, outermost first, and how many of them have a next inside.
+// The enclosing fixpoints, outermost first, by their numbers and by the places of their bytes, and how many of them have a next inside.
 struct Scope {
     depth: usize,
     guarded: usize,
     binders: [u8; 7],
+    places: [usize; 7],
 }
 
 // What reading a formula inside another one came to: where reading stands now, and the rows so far.
@@ -177,23 +188,23 @@ fn opcode_at(s: &[u8], h: Head) -> Taken
 {
     let at = h.at;
     if s.len() <= at {
-        return Taken::Refused(Refusal { code: 1, at: at });
+        return Taken::Refused(Refusal::AtByte { code: 1, at: at });
     }
     let op = s[at];
     if op < TRUE {
-        return Taken::Refused(Refusal { code: 2, at: at });
+        return Taken::Refused(Refusal::AtByte { code: 2, at: at });
     }
     if GREATEST < op {
-        return Taken::Refused(Refusal { code: 2, at: at });
+        return Taken::Refused(Refusal::AtByte { code: 2, at: at });
     }
     if 48 <= h.count {
-        return Taken::Refused(Refusal { code: 3, at: at });
+        return Taken::Refused(Refusal::AtByte { code: 3, at: at });
     }
     let after = passed(s, h);
     if within(op, after) {
         return Taken::Byte(op, counted(op, after));
     }
-    Taken::Refused(Refusal { code: 4, at: at })
+    Taken::Refused(Refusal::AtByte { code: 4, at: at })
 }
 
 // The argument of a signal, or of a variable, which is its binder: the questions 5 to 8.
@@ -203,32 +214,34 @@ fn argument_at(s: &[u8], h: Head, op: u8, scope: Scope) -> Taken
 {
     let at = h.at;
     if s.len() <= at {
-        return Taken::Refused(Refusal { code: 5, at: at });
+        return Taken::Refused(Refusal::AtByte { code: 5, at: at });
     }
     let value = s[at];
     let after = passed(s, h);
     if op < VARIABLE {
         if 15 < value {
-            return Taken::Refused(Refusal { code: 6, at: at });
+            return Taken::Refused(Refusal::AtByte { code: 6, at: at });
         }
         return Taken::Byte(value, after);
     }
     let depth = scope.depth;
     let up = base::wide(value);
     if depth <= up {
-        return Taken::Refused(Refusal { code: 7, at: at });
+        return Taken::Refused(Refusal::AtByte { code: 7, at: at });
     }
     let outer = depth - 1 - up;
     if scope.guarded <= outer {
-        return Taken::Refused(Refusal { code: 8, at: at });
+        let binder_at = scope.places[outer];
+        return Taken::Refused(Refusal::Unguarded { at, binder_at });
     }
-    Taken::Byte(scope.binders[outer], after)
+    let binder = scope.binders[outer];
+    Taken::Byte(binder, after)
 }
 
-// The scope of the operands of subformula me.
-fn inside(scope: Scope, me: Subformula, op: u8) -> Scope
+// The scope of the operands of subformula me, whose byte is at a place.
+fn inside(scope: Scope, me: Subformula, at: usize, op: u8) -> Scope
     requires { ⌜ Inside-ready scope (me .0) op ⌝ }
-    ensures { λ r. ⌜ Operand-scope scope (me .0) op r ⌝ }
+    ensures { λ r. ⌜ Operand-scope scope (me .0) at op r ⌝ }
 {
     let e = me.0;
     let depth = scope.depth;
@@ -239,6 +252,7 @@ fn inside(scope: Scope, me: Subformula, op: u8) -> Scope
     }
     if NEXT < op {
         inner.binders[depth] = (e % 256) as u8;
+        inner.places[depth] = at;
         inner.depth = depth + 1;
     }
     inner
@@ -309,7 +323,7 @@ fn command(s: &[u8], h: Head, rows: [u8; 144], scope: Scope) -> Parsed
             if op <= VARIABLE {
                 return leaf(s, after, rows, me, op, scope);
             }
-            let inner = inside(scope, me, op);
+            let inner = inside(scope, me, h.at, op);
             let first = command(s, after, rows, inner);
             if AND < op {
                 return complete(first, me, op);
@@ -352,6 +366,7 @@ fn read_at(s: &[u8], at: usize) -> Reading
         depth: 0,
         guarded: 0,
         binders: [0u8; 7],
+        places: [0usize; 7],
     };
     let p = command(s, start, [0u8; 144], outside);
     let outcome = p.outcome;
@@ -361,7 +376,7 @@ fn read_at(s: &[u8], at: usize) -> Reading
         Outcome::Refused(why) => refused(why),
         Outcome::Accepted => {
             if h.at < s.len() {
-                return refused(Refusal { code: 9, at: h.at });
+                return refused(Refusal::AtByte { code: 9, at: h.at });
             }
             Reading {
                 outcome: Outcome::Accepted,

@@ -86,7 +86,7 @@ held-written bytes t h =
 pub read-held : (bytes : List ℕ) (r : read.Reading) → reading-of r ≡ reading bytes → r .outcome ≡ Accepted → Formula-at (r .table .rows) 0
 read-held bytes r q o =
     let h = reading-held bytes r q o in
-    record { scope = []; binders = []; subformula = h .formula; written = held-written bytes (r .table) h }
+    record { guards = []; binders = []; subformula = h .formula; written = held-written bytes (r .table) h }
 
 module _ (bytes : List ℕ) (c : Lasso) (w : List ℕ) where
   abbrev outcome : Truth

@@ -15,7 +15,7 @@ use Rattle.base.proofs.NumberLaws.{values-same}
 use Rattle.formula.specs.Formula.{Formula, size}
 use Rattle.formula.specs.Rows.{operator-at, end-at}
 use Rattle.lasso.specs.Lasso.{Lasso, Positions, combine, before, holds, sets}
-use Rattle.formula.specs.Reading.{Scope}
+use Rattle.formula.specs.Occurrence.{Guards}
 use Rattle.formula.proofs.Closed.{Closed}
 use Rattle.formula.proofs.Limits.{size-some}
 use Rattle.formula.proofs.WellFormed.{sits-first}
@@ -41,7 +41,7 @@ module _ (rows bs : List ℕ) (e₀ : ℕ) (outer : (d : ℕ) → d < length bs 
           ap (λ (i : ℕ). getD (xs ++ bs) i 0) j ∙ getD-append-add xs bs (d - length xs) 0 in
           absurd (omega (arith, outer (d - length xs) (omega (arith, length-append xs bs))))
 
-  closes : (f : Formula) (e : ℕ) (s : Scope) (xs : List ℕ) → Formula-in-rows rows e s (xs ++ bs) f → Free e (size f) → Closed (length xs) f
+  closes : (f : Formula) (e : ℕ) (s : Guards) (xs : List ℕ) → Formula-in-rows rows e s (xs ++ bs) f → Free e (size f) → Closed (length xs) f
   closes (Formula.leaf l) e s xs h free = tt
   closes (Formula.variable d) e s xs h free =
       near xs d (omega (arith, h .guarded .0, h .scoped))
@@ -89,7 +89,7 @@ module _ (c : Lasso) (ρ σ : List Positions) where
       cons q (same-sets a (holds c (Formula.fix g a) (xs ++ ρ) ∷ xs) h ∙ ap (λ (s : Positions). sets c a (s ∷ (xs ++ σ))) q)
 
 -- the same of a subformula that the rows have: all sets of the fixpoints around it give the same sets
-pub alone-sets : (rows : List ℕ) (c : Lasso) {e : ℕ} → Alone rows e → {s : Scope} {bs : List ℕ} {f : Formula}
+pub alone-sets : (rows : List ℕ) (c : Lasso) {e : ℕ} → Alone rows e → {s : Guards} {bs : List ℕ} {f : Formula}
     → Formula-in-rows rows e s bs f
     → (ρ σ : List Positions) → sets c f ρ ≡ sets c f σ
 alone-sets rows c {e} alone {s} {bs} {f} h ρ σ =
@@ -131,19 +131,19 @@ pub known-join : {rows : List ℕ} {c : Lasso} {lo hi : ℕ} {w : List ℕ} (mid
     → Closed-known rows c lo hi w
 known-join {rows} {c} {lo} {hi} {w} mid a b = record { shown = λ k l m. by k l m (decLt k mid) }
   where
-    by : (k : ℕ) → lo ≤ k → k < hi → Dec (k < mid) → Alone rows k → (f : Formula) (s : Scope) (bs : List ℕ) → Formula-in-rows rows k s bs f
+    by : (k : ℕ) → lo ≤ k → k < hi → Dec (k < mid) → Alone rows k → (f : Formula) (s : Guards) (bs : List ℕ) → Formula-in-rows rows k s bs f
         → columns (length (c .letters)) w k (size f) ≡ sets c f []
     by k l m (yes q) = a .shown k l q
     by k l m (no q) = b .shown k (omega arith) m
 
 -- one number more in front, of a subformula that is labelled if it is closed
 pub known-first : {rows : List ℕ} {c : Lasso} {e hi : ℕ} {w : List ℕ}
-    → (Alone rows e → (f : Formula) (s : Scope) (bs : List ℕ) → Formula-in-rows rows e s bs f
+    → (Alone rows e → (f : Formula) (s : Guards) (bs : List ℕ) → Formula-in-rows rows e s bs f
     → columns (length (c .letters)) w e (size f) ≡ sets c f [])
     → Closed-known rows c (e + 1) hi w → Closed-known rows c e hi w
 known-first {rows} {c} {e} {hi} {w} own rest = record { shown = λ k l m. by k l m (decLt e k) }
   where
-    by : (k : ℕ) → e ≤ k → k < hi → Dec (e < k) → Alone rows k → (f : Formula) (s : Scope) (bs : List ℕ) → Formula-in-rows rows k s bs f
+    by : (k : ℕ) → e ≤ k → k < hi → Dec (e < k) → Alone rows k → (f : Formula) (s : Guards) (bs : List ℕ) → Formula-in-rows rows k s bs f
         → columns (length (c .letters)) w k (size f) ≡ sets c f []
     by k l m (yes q) = rest .shown k (omega arith) m
     by k l m (no q) = let same : k ≡ e = omega arith in rw same own

@@ -16,9 +16,8 @@ use Rattle.base.proofs.NumberLaws.{values-at, values-length}
 use Rattle.base.proofs.Inside.{inside-at}
 use Rattle.formula.specs.Formula.{Formula, size}
 use Rattle.formula.specs.Table.{Operator, table-from}
-use Rattle.formula.specs.Reading.{Scope}
 use Rattle.formula.specs.Rows.{operator-at, end-at}
-use Rattle.formula.specs.Occurrence.{nothing}
+use Rattle.formula.specs.Occurrence.{Guards, nothing}
 use Rattle.formula.proofs.Closed.{Closed, length-table}
 use Rattle.formula.proofs.Guarded.{guarded-closed}
 use Rattle.formula.proofs.Limits.{size-some}
@@ -64,11 +63,11 @@ outer-around ss column-of e at (b ∷ bs) h =
 module _ (rows : List ℕ) (c : Lasso) (ss : List Positions) where
   -- a subformula at k, with its sets among ss
   record Subformula-found (k : ℕ) : Type 0 where
-    pub scope : Scope
+    pub guards : Guards
     pub binders : List ℕ
     pub subformula : Formula
     pub around : List Positions
-    pub written : Formula-in-rows rows k scope binders subformula
+    pub written : Formula-in-rows rows k guards binders subformula
     pub sits : Each (Consistent-at ss) k (sets c subformula around)
 
   -- at e, or behind it; before a number, or from it on
@@ -89,12 +88,12 @@ module _ (rows : List ℕ) (c : Lasso) (ss : List Positions) where
   abbrev Goal-inside : Formula → ℕ → Type 0
   Goal-inside f e = (k : ℕ) → e ≤ k → k < e + size f → Subformula-found k
 
-  module _ (e : ℕ) (s : Scope) (bs : List ℕ) (ρ : List Positions) (f : Formula) (h : Formula-in-rows rows e s bs f)
+  module _ (e : ℕ) (s : Guards) (bs : List ℕ) (ρ : List Positions) (f : Formula) (h : Formula-in-rows rows e s bs f)
       (at : Each (Consistent-at ss) e (sets c f ρ)) where
     first : Subformula-found e
-    first = record { scope = s; binders = bs; subformula = f; around = ρ; written = h; sits = at }
+    first = record { guards = s; binders = bs; subformula = f; around = ρ; written = h; sits = at }
 
-  found : (f : Formula) (e : ℕ) (s : Scope) (bs : List ℕ) (ρ : List Positions) → Formula-in-rows rows e s bs f
+  found : (f : Formula) (e : ℕ) (s : Guards) (bs : List ℕ) (ρ : List Positions) → Formula-in-rows rows e s bs f
       → Each (Consistent-at ss) e (sets c f ρ)
       → Goal-inside f e
   found (Formula.leaf x) e s bs ρ h at k l m = or-behind e k l (first e s bs ρ (Formula.leaf x) h at) (λ q. absurd (omega arith))
@@ -115,7 +114,7 @@ module _ (rows : List ℕ) (c : Lasso) (ss : List Positions) where
       (λ q. found a (e + 1) (false ∷ s) (e ∷ bs) (holds c (Formula.fix g a) ρ ∷ ρ) (written-body rows h) (at .1) k q (omega arith))
 
 -- the formula f stands at e, inside fixpoints that have their columns of the words w for sets
-module _ (rows : List ℕ) (c : Lasso) (w : List ℕ) (room : Words-room (length (c .letters)) (c .stem) (length w)) {e : ℕ} {s : Scope}
+module _ (rows : List ℕ) (c : Lasso) (w : List ℕ) (room : Words-room (length (c .letters)) (c .stem) (length w)) {e : ℕ} {s : Guards}
     {bs : List ℕ} {f : Formula} (h : Formula-in-rows rows e s bs f) where
   abbrev n : ℕ
   n = length (c .letters)
@@ -187,7 +186,7 @@ module _ (rows : List ℕ) (c : Lasso) (w : List ℕ) (room : Words-room (length
       let end : end-at rows m ≡ m + size g = written-end rows (x .written) in
       let few : k - m < size g = omega (arith, shut .around, shut .before) in
       let shown : columns n w m (size g) ≡ sets c g (x .around) =
-      known .shown m (omega (arith, shut .behind)) (omega (arith, shut .before)) (shut .alone) g (x .scope) (x .binders) (x .written)
+      known .shown m (omega (arith, shut .behind)) (omega (arith, shut .before)) (shut .alone) g (x .guards) (x .binders) (x .written)
       ∙ alone-sets rows c (shut .alone) (x .written) [] (x .around) in
       let at : k ≡ m + (k - m) = omega (arith, shut .before) in
       ap (λ (j : ℕ). getD ss j []) at
@@ -231,7 +230,7 @@ sets-move c true a ρ s t h j i = inside-at (within-at (monotone-sets c a (Sets-
 
 -- the same of a fixpoint
 module _ (rows : List ℕ) (c : Lasso) (w : List ℕ) (room : Words-room (length (c .letters)) (c .stem) (length w)) {g : Bool} {e : ℕ}
-    {s : Scope} {bs : List ℕ} {a : Formula} (h : Formula-in-rows rows e s bs (Formula.fix g a)) where
+    {s : Guards} {bs : List ℕ} {a : Formula} (h : Formula-in-rows rows e s bs (Formula.fix g a)) where
   abbrev n₁ : ℕ
   n₁ = length (c .letters)
 

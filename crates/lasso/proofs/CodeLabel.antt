@@ -11,7 +11,7 @@ use Rattle.base.proofs.ListLaws.{getD-map}
 use Rattle.base.proofs.NumberLaws.{values-at, values-cons, values-join}
 use Rattle.formula.specs.Formula.{Leaf as Atom, Formula, size}
 use Rattle.formula.specs.Table.{Operator}
-use Rattle.formula.specs.Reading.{Scope}
+use Rattle.formula.specs.Occurrence.{Guards}
 use Rattle.formula.specs.Access.{decoded}
 use Rattle.formula.specs.declared.Operator as code
 use Rattle.formula.specs.Rows.{operator-at, end-at}
@@ -154,7 +154,7 @@ module _ (rows : List ℕ) (c : Lasso) (e : ℕ) (w : List ℕ) (room : Words-ro
 
       swept-evaluated : (op : Operator) → operator-at rows e ≡ op
           → (Closed-known rows c (e + 1) (end-at rows e) w → Closed-known rows c (e + 1) (end-at rows e) y)
-          → (Closed-known rows c (e + 1) (end-at rows e) w → (s : Scope) (bs : List ℕ)
+          → (Closed-known rows c (e + 1) (end-at rows e) w → (s : Guards) (bs : List ℕ)
           → Cases (λ (f : Formula). Formula-in-rows rows e s bs f → Labelled c f e bs w v) op)
           → Evaluated rows c (e + 1) e w v
       swept-evaluated op q known done = record {
@@ -208,7 +208,7 @@ module _ (rows : List ℕ) (c : Lasso) (e : ℕ) (w : List ℕ) (room : Words-ro
           omega (arith, nested rows l first j (omega (arith, p .first)) (omega (arith, p .second)), p .second)
 
       -- the second operand's number
-      right-is : {s : Scope} {bs : List ℕ} (a b : Formula) → Formula-in-rows rows e s bs (Formula.pair o a b) → r ≡ e + 1 + size a
+      right-is : {s : Guards} {bs : List ℕ} (a b : Formula) → Formula-in-rows rows e s bs (Formula.pair o a b) → r ≡ e + 1 + size a
       right-is a b h =
           let same : Operator.pair o l r ≡ Operator.pair o (e + 1) (e + 1 + size a) = sym q ∙ sits-first (h .operators) in
           cc

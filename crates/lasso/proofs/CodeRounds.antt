@@ -15,7 +15,7 @@ use Rattle.base.proofs.NumberLaws.{values-cons}
 use Rattle.base.proofs.Inside.{toward-trans, toward-both}
 use Rattle.formula.specs.Formula.{Formula, size}
 use Rattle.formula.specs.Table.{Operator}
-use Rattle.formula.specs.Reading.{Scope}
+use Rattle.formula.specs.Occurrence.{Guards}
 use Rattle.formula.specs.Rows.{operator-at, end-at}
 use Rattle.formula.proofs.WellFormed.{sits-first}
 use Rattle.lasso.specs.Lasso.{Lasso, Positions, holds, sets}
@@ -173,7 +173,7 @@ module _ (rows : List ℕ) (c : Lasso) (g : Bool) (e : ℕ) where
     longer : n ≤ length x
     longer = omega (arith, room .words, body-kept .long)
 
-    module _ {a : Formula} {s : Scope} {bs : List ℕ} (h : Formula-in-rows rows e s bs (Formula.fix g a)) {first : List ℕ} {left : ℕ}
+    module _ {a : Formula} {s : Guards} {bs : List ℕ} (h : Formula-in-rows rows e s bs (Formula.fix g a)) {first : List ℕ} {left : ℕ}
         (go : Going rows c g e first bs a left w) where
       abbrev f : Formula
       f = Formula.fix g a
@@ -293,7 +293,7 @@ module _ (rows : List ℕ) (c : Lasso) (g : Bool) (e : ℕ) where
   -- the body is labelled once more.
   module _ (held : Formula-at rows e) (is : Fixes rows g e) (list : List ℕ) (count : ℕ) (w x u : List ℕ)
       (room : Words-room n (c .stem) (length w)) (begins : Begun rows c g e list count w x) where
-    outcome : (b r : Bool) → b ≡ r → Rounded rows c g e n x u b → (a : Formula) (s : Scope) (bs : List ℕ)
+    outcome : (b r : Bool) → b ≡ r → Rounded rows c g e n x u b → (a : Formula) (s : Guards) (bs : List ℕ)
         → Formula-in-rows rows e s bs (Formula.fix g a)
         → Closed-known rows c (e + 1) (end-at rows e) w → Outcome rows c g e w bs a 0 u r
     outcome b r same q a s bs h known =
@@ -302,19 +302,19 @@ module _ (rows : List ℕ) (c : Lasso) (g : Bool) (e : ℕ) where
         (begins .started a s bs h known)))
 
     -- a fact of a formula at e, which is a fixpoint; and of the rows, from the one that they have there
-    by-fix : (s : Scope) (bs : List ℕ) (P : Formula → Type 0)
+    by-fix : (s : Guards) (bs : List ℕ) (P : Formula → Type 0)
         → ((a : Formula) → Formula-in-rows rows e s bs (Formula.fix g a) → P (Formula.fix g a)) → (f : Formula)
         → Formula-in-rows rows e s bs f → P f
     by-fix s bs = by-operator rows e s bs (Operator.fix g (is .body)) (is .is)
 
-    by-own : (A : Type 0) → ((a : Formula) → Formula-in-rows rows e (held .scope) (held .binders) (Formula.fix g a) → A) → A
-    by-own A p = by-fix (held .scope) (held .binders) (λ _. A) p (held .subformula) (held .written)
+    by-own : (A : Type 0) → ((a : Formula) → Formula-in-rows rows e (held .guards) (held .binders) (Formula.fix g a) → A) → A
+    by-own A p = by-fix (held .guards) (held .binders) (λ _. A) p (held .subformula) (held .written)
 
     pub fixpoint-settled : (b : Bool) → b ≡ false → Rounded rows c g e n x u b → Evaluated rows c (e + 1) e w u
     fixpoint-settled b still q = record {
       kept = kept-both n (begins .kept) (q .kept);
       known = λ known. by-own (Closed-known rows c (e + 1) (end-at rows e) u)
-          (λ a h. outcome b false still q a (held .scope) (held .binders) h known .known);
+          (λ a h. outcome b false still q a (held .guards) (held .binders) h known .known);
       done = λ known f s bs.
           by-fix s bs (λ f. Labelled c f e bs w u) (λ a h. outcome b false still q a s bs h known .labelled) f;
     }
@@ -328,7 +328,7 @@ module _ (rows : List ℕ) (c : Lasso) (g : Bool) (e : ℕ) where
           kept = kept-then n k (body-kept held is u v same ev) (omega arith) (omega arith) (omega arith) (omega arith);
           known = λ known.
               by-own (Closed-known rows c (e + 1) (end-at rows e) v)
-              (λ a h. body-known held is u v same ev (outcome b true moves q a (held .scope) (held .binders) h known .known));
+              (λ a h. body-known held is u v same ev (outcome b true moves q a (held .guards) (held .binders) h known .known));
           done = λ known f s bs.
               by-fix s bs (λ f. Labelled c f e bs w v)
               (λ a h. none-left held is u v same ev h (outcome b true moves q a s bs h known) refl) f;

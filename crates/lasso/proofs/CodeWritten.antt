@@ -9,7 +9,7 @@ use native.Mathlib.Omega.{arith}
 use lib.ListN.{getD}
 use Rattle.formula.specs.Formula.{Formula, size}
 use Rattle.formula.specs.Table.{Operator}
-use Rattle.formula.specs.Reading.{Scope}
+use Rattle.formula.specs.Occurrence.{Guards}
 use Rattle.formula.specs.Rows.{operator-at, end-at}
 use Rattle.formula.specs.Access.{Placed}
 use Rattle.formula.proofs.WellFormed.{Operands, Single, Pair, Shaped, sits-first, occurs-left, occurs-right, occurs-next, occurs-body}
@@ -22,7 +22,7 @@ abbrev pub size-at : List ℕ → ℕ → ℕ
 size-at rows e = end-at rows e - e
 
 -- the laws of what stands somewhere, for formulas that the rows have
-module _ (rows : List ℕ) {e : ℕ} {s : Scope} {bs : List ℕ} where
+module _ (rows : List ℕ) {e : ℕ} {s : Guards} {bs : List ℕ} where
   pub written-end : {f : Formula} → Formula-in-rows rows e s bs f → end-at rows e ≡ e + size f
   written-end = occurs-end (operator-at rows) (end-at rows) 48
 
@@ -63,7 +63,7 @@ by-cases P e bs (Formula.next a) h = h a
 by-cases P e bs (Formula.fix g a) h = h a
 
 module _ (rows : List ℕ) (e : ℕ) where
-  top-is : {s : Scope} {bs : List ℕ} (f : Formula) → Formula-in-rows rows e s bs f → operator-at rows e ≡ top e bs f
+  top-is : {s : Guards} {bs : List ℕ} (f : Formula) → Formula-in-rows rows e s bs f → operator-at rows e ≡ top e bs f
   top-is (Formula.leaf l) h = sits-first (h .operators)
   top-is (Formula.variable d) h = sits-first (h .operators)
   top-is (Formula.pair o a b) h = sits-first (h .operators)
@@ -71,7 +71,7 @@ module _ (rows : List ℕ) (e : ℕ) where
   top-is (Formula.fix g a) h = sits-first (h .operators)
 
   -- a fact of the formula at e, by the operator there
-  pub by-operator : (s : Scope) (bs : List ℕ) (op : Operator) → operator-at rows e ≡ op → (P : Formula → Type 0)
+  pub by-operator : (s : Guards) (bs : List ℕ) (op : Operator) → operator-at rows e ≡ op → (P : Formula → Type 0)
       → Cases (λ (f : Formula). Formula-in-rows rows e s bs f → P f) op → (f : Formula) → Formula-in-rows rows e s bs f → P f
   by-operator s bs op q P c f h =
       let Q : Formula → Type 0 = λ (f : Formula). Formula-in-rows rows e s bs f → P f in
@@ -102,7 +102,7 @@ module _ (rows : List ℕ) (e : ℕ) where
     pub held-inside : (k : ℕ) → e ≤ k → k < end-at rows e → Formula-at rows k
     held-inside k l m =
         let x = located (operator-at rows) (end-at rows) 48 (h .written) k l m in
-        record { scope = x .scope; binders = x .binders; subformula = x .subformula; written = x .stands }
+        record { guards = x .guards; binders = x .binders; subformula = x .subformula; written = x .stands }
 
     pub nested : (k : ℕ) → e ≤ k → k < end-at rows e → end-at rows k ≤ end-at rows e
     nested = occurs-nested (operator-at rows) (end-at rows) 48 (h .written)

@@ -10,9 +10,8 @@ use Rattle.base.specs.Bits.{bit}
 use Rattle.base.specs.Sets.{Below, Toward}
 use Rattle.formula.specs.Formula.{Formula, size}
 use Rattle.formula.specs.Table.{Operator}
-use Rattle.formula.specs.Reading.{Scope}
 use Rattle.formula.specs.Rows.{operator-at, end-at}
-use Rattle.formula.specs.Occurrence.{Occurs}
+use Rattle.formula.specs.Occurrence.{Guards, Occurs}
 use Rattle.formula.specs.Access.{Placed}
 use Rattle.lasso.specs.Lasso.{Lasso, Positions, leaf-at, joined, holds, sets, labelling, meets}
 use Rattle.lasso.specs.Truth.{asked, written}
@@ -65,15 +64,15 @@ pub record Swept-by (rows : List ℕ) (c : Lasso) (e : ℕ) (w v : List ℕ) (r 
   pub still : r ≡ false → v ≡ w
 
 -- the rows have the formula f at e, inside the fixpoints of the given numbers, innermost first
-abbrev pub Formula-in-rows : List ℕ → ℕ → Scope → List ℕ → Formula → Type 0
+abbrev pub Formula-in-rows : List ℕ → ℕ → Guards → List ℕ → Formula → Type 0
 Formula-in-rows rows = Occurs (operator-at rows) (end-at rows) 48
 
 -- they have some formula there
 pub record Formula-at (rows : List ℕ) (e : ℕ) : Type 0 where
-  pub scope : Scope
+  pub guards : Guards
   pub binders : List ℕ
   pub subformula : Formula
-  pub written : Formula-in-rows rows e scope binders subformula
+  pub written : Formula-in-rows rows e guards binders subformula
 
 -- a lasso of n letters, and m words for it
 pub record Words-room (n stem m : ℕ) : Type 0 where
@@ -177,8 +176,8 @@ pub record Labelled (c : Lasso) (f : Formula) (e : ℕ) (binders w v : List ℕ)
 
 -- the closed subformulas from lo up to hi are labelled
 pub record Closed-known (rows : List ℕ) (c : Lasso) (lo hi : ℕ) (w : List ℕ) : Type 0 where
-  pub shown : (k : ℕ) → lo ≤ k → k < hi → Alone rows k → (f : Formula) (scope : Scope) (binders : List ℕ)
-      → Formula-in-rows rows k scope binders f
+  pub shown : (k : ℕ) → lo ≤ k → k < hi → Alone rows k → (f : Formula) (guards : Guards) (binders : List ℕ)
+      → Formula-in-rows rows k guards binders f
       → columns (length (c .letters)) w k (size f) ≡ sets c f []
 
 -- from a to b the value g is only left
@@ -243,15 +242,15 @@ pub record Going (rows : List ℕ) (c : Lasso) (g : Bool) (e : ℕ) (w bs : List
 pub record Begun (rows : List ℕ) (c : Lasso) (g : Bool) (e : ℕ) (list : List ℕ) (count : ℕ) (w v : List ℕ) : Type 0 where
   pub movable : Movable rows e list count
   pub kept : Columns-kept (length (c .letters)) e (end-at rows e) w v
-  pub started : (a : Formula) (scope : Scope) (binders : List ℕ) → Formula-in-rows rows e scope binders (Formula.fix g a)
+  pub started : (a : Formula) (guards : Guards) (binders : List ℕ) → Formula-in-rows rows e guards binders (Formula.fix g a)
       → Closed-known rows c (e + 1) (end-at rows e) w → Going rows c g e w binders a (length (c .letters)) v
 
 -- whatever formula the rows have at e is labelled, where the closed subformulas inside it from lo on are
 pub record Evaluated (rows : List ℕ) (c : Lasso) (lo e : ℕ) (w v : List ℕ) : Type 0 where
   pub kept : Columns-kept (length (c .letters)) e (end-at rows e) w v
   pub known : Closed-known rows c lo (end-at rows e) w → Closed-known rows c lo (end-at rows e) v
-  pub done : Closed-known rows c lo (end-at rows e) w → (f : Formula) (scope : Scope) (binders : List ℕ)
-      → Formula-in-rows rows e scope binders f
+  pub done : Closed-known rows c lo (end-at rows e) w → (f : Formula) (guards : Guards) (binders : List ℕ)
+      → Formula-in-rows rows e guards binders f
       → Labelled c f e binders w v
 
 -- the fixpoint at e is labelled, and closed subformulas inside it still are
@@ -267,7 +266,7 @@ Outcome rows c g e w bs a left v false = Fixpoint-settled rows c g e w bs a v
 -- so many rounds are taken from any state of them, with what they come to; r tells whether the set still moves
 pub record Rounded (rows : List ℕ) (c : Lasso) (g : Bool) (e left : ℕ) (w v : List ℕ) (r : Bool) : Type 0 where
   pub kept : Columns-kept (length (c .letters)) e (end-at rows e) w v
-  pub done : (a : Formula) (scope : Scope) (binders : List ℕ) → Formula-in-rows rows e scope binders (Formula.fix g a)
+  pub done : (a : Formula) (guards : Guards) (binders : List ℕ) → Formula-in-rows rows e guards binders (Formula.fix g a)
       → (first : List ℕ) (more : ℕ)
       → Going rows c g e first binders a (left + more) w → Outcome rows c g e first binders a more v r
 

@@ -24,14 +24,22 @@ pub fn malformed() {
     put(b"MALFORMED");
 }
 
-pub fn refused(code: u8) {
-    put(b"REFUSED");
-    number(b' ', code as usize);
+// A word, and a number behind it.
+fn worded(word: &[u8], n: usize) {
+    put(word);
+    number(b' ', n);
 }
 
-// A refusal of reading has a place.
+pub fn refused(code: u8) {
+    worded(b"REFUSED", code as usize);
+}
+
+// A refusal of reading has a place, and that of a binder where it names one.
 pub fn unread(why: Refusal) {
     refused(formula::code_of(why));
-    put(b" at");
-    number(b' ', formula::place_of(why));
+    worded(b" at", formula::place_of(why));
+    match why {
+        Refusal::AtByte { code: _, at: _ } => {}
+        Refusal::Unguarded { at: _, binder_at } => worded(b" from", binder_at),
+    }
 }

@@ -27,7 +27,7 @@ abbrev pub I : Formula
 unfolding parse
 I = formula-of (parse (0x0A ∷ 0x07 ∷ 0x09 ∷ 0x08 ∷ 0x08 ∷ 0x05 ∷ 0x00 ∷ 0x08 ∷ 0x05 ∷ 0x00 ∷ []))
 
--- its last case, where a least fixpoint waits for the position after: always, two positions on, signal 0
+-- its case `ours`, where a least fixpoint waits for the position after: always, two positions on, signal 0
 abbrev pub waits : Formula
 unfolding parse
 waits = formula-of (parse (0x0A ∷ 0x07 ∷ 0x08 ∷ 0x09 ∷ 0x08 ∷ 0x03 ∷ 0x00 ∷ 0x08 ∷ 0x05 ∷ 0x00 ∷ []))

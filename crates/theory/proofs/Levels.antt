@@ -14,8 +14,7 @@ use lib.Dec.{T}
 use Rattle.base.proofs.ListLaws.{Each, each-left, each-right, each-of}
 use Rattle.formula.specs.Formula.{Formula, size}
 use Rattle.formula.specs.Table.{Operator}
-use Rattle.formula.specs.Reading.{Scope}
-use Rattle.formula.specs.Occurrence.{Occurs}
+use Rattle.formula.specs.Occurrence.{Guards, Occurs}
 use Rattle.formula.proofs.WellFormed.{sits-first, occurs-left, occurs-right, occurs-next, occurs-body}
 use Rattle.tableau.specs.Saturation.{moves}
 
@@ -56,11 +55,11 @@ module _ (op : ℕ → Operator) (end : ℕ → ℕ) (count : ℕ) (level : ℕ 
   abbrev Marked : ℕ → List ℕ → Type 0
   Marked = Each (λ x d. level x ≡ d)
 
-  record Levelled (d e : ℕ) (scope : Scope) (binders : List ℕ) (f : Formula) : Type 0 where
-    stands : Occurs op end count e scope binders f
+  record Levelled (d e : ℕ) (guards : Guards) (binders : List ℕ) (f : Formula) : Type 0 where
+    stands : Occurs op end count e guards binders f
     marks : Marked e (levels d f)
     under : (i : ℕ) → i < length binders → level (getD binders i 0) ≤ d
-    guards : (i : ℕ) → i < length binders → T (getD scope i false) → level (getD binders i 0) < d
+    guarded-under : (i : ℕ) → i < length binders → T (getD guards i false) → level (getD binders i 0) < d
 
   level-first : {d e : ℕ} (f : Formula) → Marked e (levels d f) → level e ≡ d
   unfolding levels
@@ -79,18 +78,18 @@ module _ (op : ℕ → Operator) (end : ℕ → ℕ) (count : ℕ) (level : ℕ 
   falls-as : (x : ℕ) (o : Operator) → op x ≡ o → ((y : ℕ) (b : Bool) → List·Memᴰ y (moves o b) → Down x y) → Falls x
   falls-as x o q f y b m = f y b (rw q at m)
 
-  module _ {d e : ℕ} {scope : Scope} {binders : List ℕ} where
-    on-left : {o : Bool} (a b : Formula) → Levelled d e scope binders (Formula.pair o a b) → Levelled d (e + 1) scope binders a
+  module _ {d e : ℕ} {guards : Guards} {binders : List ℕ} where
+    on-left : {o : Bool} (a b : Formula) → Levelled d e guards binders (Formula.pair o a b) → Levelled d (e + 1) guards binders a
     unfolding levels
     on-left a b h =
         record {
           stands = occurs-left op end count (h .stands);
           marks = each-left (λ x d. level x ≡ d) (e + 1) (levels d a) (levels d b) (h .marks .1);
           under = h .under;
-          guards = h .guards;
+          guarded-under = h .guarded-under;
         }
 
-    on-right : {o : Bool} (a b : Formula) → Levelled d e scope binders (Formula.pair o a b) → Levelled d (e + 1 + size a) scope binders b
+    on-right : {o : Bool} (a b : Formula) → Levelled d e guards binders (Formula.pair o a b) → Levelled d (e + 1 + size a) guards binders b
     unfolding levels
     on-right a b h =
         record {
@@ -98,33 +97,38 @@ module _ (op : ℕ → Operator) (end : ℕ → ℕ) (count : ℕ) (level : ℕ 
           marks = each-right (λ x d. level x ≡ d) (e + 1) (e + 1 + size a) (levels d a) (levels d b) (omega (arith, levels-length d a))
               (h .marks .1);
           under = h .under;
-          guards = h .guards;
+          guarded-under = h .guarded-under;
         }
 
-    on-next : (a : Formula) → Levelled d e scope binders (Formula.next a) → Levelled (suc d) (e + 1) (map (λ _. true) scope) binders a
+    on-next : (a : Formula) → Levelled d e guards binders (Formula.next a) → Levelled (suc d) (e + 1) (map (λ _. true) guards) binders a
     unfolding levels
     on-next a h =
         record {
           stands = occurs-next op end count (h .stands);
           marks = h .marks .1;
           under = λ i l. omega (arith, h .under i l);
-          guards = λ i l g. omega (arith, h .under i l);
+          guarded-under = λ i l g. omega (arith, h .under i l);
         }
 
-    on-body : {g : Bool} (a : Formula) → Levelled d e scope binders (Formula.fix g a) → Levelled d (e + 1) (false ∷ scope) (e ∷ binders) a
+    on-body : {g : Bool} (a : Formula) → Levelled d e guards binders (Formula.fix g a) → Levelled d (e + 1) (false ∷ guards) (e ∷ binders) a
     unfolding levels
     on-body {g} a h =
-        record { stands = occurs-body op end count (h .stands); marks = h .marks .1; under = λ i. under i; guards = λ i. guards i }
+        record {
+          stands = occurs-body op end count (h .stands);
+          marks = h .marks .1;
+          under = λ i. under i;
+          guarded-under = λ i. guarded-under i;
+        }
       where
         under : (i : ℕ) → i < suc (length binders) → level (getD (e ∷ binders) i 0) ≤ d
         under zero l = omega (arith, h .marks .0)
         under (suc i) l = h .under i (omega arith)
 
-        guards : (i : ℕ) → i < suc (length binders) → T (getD (false ∷ scope) i false) → level (getD (e ∷ binders) i 0) < d
-        guards zero l k = absurd k
-        guards (suc i) l k = h .guards i (omega arith) k
+        guarded-under : (i : ℕ) → i < suc (length binders) → T (getD (false ∷ guards) i false) → level (getD (e ∷ binders) i 0) < d
+        guarded-under zero l k = absurd k
+        guarded-under (suc i) l k = h .guarded-under i (omega arith) k
 
-  falls : {d e : ℕ} {scope : Scope} {binders : List ℕ} (f : Formula) → Levelled d e scope binders f → All Falls e (e + size f)
+  falls : {d e : ℕ} {guards : Guards} {binders : List ℕ} (f : Formula) → Levelled d e guards binders f → All Falls e (e + size f)
   falls {e = e} (Formula.leaf l) h =
       all-first Falls (falls-as e (Operator.leaf l) (sits-first (h .stands .operators)) (λ y b m. absurd (List·Memᴰ·not-nil m)))
       (λ x i j. absurd (omega arith))
@@ -134,7 +138,7 @@ module _ (op : ℕ → Operator) (end : ℕ → ℕ) (count : ℕ) (level : ℕ 
       (λ y b m.
       inr
       (rw (List·Memᴰ·eq-of-singleton m, level-first (Formula.variable i) (h .marks))
-      (h .guards i (omega (arith, h .stands .guarded .0, h .stands .scoped)) (h .stands .guarded .1)))))
+      (h .guarded-under i (omega (arith, h .stands .guarded .0, h .stands .scoped)) (h .stands .guarded .1)))))
       (λ x i j. absurd (omega arith))
   falls {d} {e} (Formula.pair o a b) h =
       all-first Falls
@@ -183,5 +187,5 @@ module _ (op : ℕ → Operator) (end : ℕ → ℕ) (f : Formula) (whole : Occu
         stands = whole;
         marks = each-of (λ x d. level x ≡ d) 0 (levels 0 f) 0 (λ i l. ap level (omega arith));
         under = λ i l. absurd (omega arith);
-        guards = λ i l g. absurd (omega arith);
+        guarded-under = λ i l g. absurd (omega arith);
       }) x (omega arith) (omega arith) y b m)

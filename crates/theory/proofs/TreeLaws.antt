@@ -12,8 +12,7 @@ use lib.Dec.{T}
 use borrow.Author.Tests.{eq-eqb, ne-eqb}
 use Rattle.formula.specs.Formula.{Leaf, Formula, size}
 use Rattle.formula.specs.Table.{Operator, Table, table, ends-from, operator, is-fix}
-use Rattle.formula.specs.Reading.{Scope}
-use Rattle.formula.specs.Occurrence.{Ranged, Guarded, Occurs}
+use Rattle.formula.specs.Occurrence.{Guards, Ranged, Guarded, Occurs}
 use Rattle.formula.proofs.Limits.{size-some}
 use Rattle.formula.proofs.WellFormed.{sits-first, end-in, occurs-left, occurs-right, occurs-next, occurs-body, Single, Operands}
 use Rattle.formula.proofs.WellFormed.{Shaped, each-shaped, occurs-whole, table-size}
@@ -61,7 +60,7 @@ module _ (t : Table) (end : ℕ → ℕ) (count : ℕ) where
             (ne-eqb (getD binders d 0) e (λ z. omega (arith, below d (omega arith)))) (b .same i k);
       }
 
-  means : {e : ℕ} {scope : Scope} {binders : List ℕ} (f : Formula) → Occurs (operator t) end count e scope binders f → Means e binders f
+  means : {e : ℕ} {guards : Guards} {binders : List ℕ} (f : Formula) → Occurs (operator t) end count e guards binders f → Means e binders f
   unfolding holds
   means (Formula.leaf l) h =
       record { part = Part.leaf l (sits-first (h .operators)); agrees = λ c k σ ρ m. agree-map (leaf-at l) (c .letters) }
@@ -70,20 +69,20 @@ module _ (t : Table) (end : ℕ → ℕ) (count : ℕ) where
         part = Part.variable (getD binders d 0) (sits-first (h .operators));
         agrees = λ c k σ ρ m. m d (omega (arith, h .guarded .0, h .scoped));
       }
-  means {e} {scope} {binders} (Formula.pair o a b) h =
+  means {e} {guards} {binders} (Formula.pair o a b) h =
       let x = means a (occurs-left (operator t) end count h) in
       let y = means b (occurs-right (operator t) end count h) in
       record {
         part = Part.pair o (sits-first (h .operators)) (omega arith) (omega arith) (x .part) (y .part);
         agrees = λ c k σ ρ m. agree-combine o (length (c .letters)) _ _ _ _ (x .agrees c k σ ρ m) (y .agrees c k σ ρ m);
       }
-  means {e} {scope} {binders} (Formula.next a) h =
+  means {e} {guards} {binders} (Formula.next a) h =
       let x = means a (occurs-next (operator t) end count h) in
       record {
         part = Part.next (sits-first (h .operators)) (omega arith) (x .part);
         agrees = λ c k σ ρ m. agree-before (c .stem) (length (c .letters)) k _ _ (x .agrees c k σ ρ m);
       }
-  means {e} {scope} {binders} (Formula.fix g a) h =
+  means {e} {guards} {binders} (Formula.fix g a) h =
       let x = means a (occurs-body (operator t) end count h) in
       record {
         part = Part.fix e g (sits-first (h .operators)) (omega arith) (x .part);

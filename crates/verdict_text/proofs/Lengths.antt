@@ -2,19 +2,23 @@
 -- with room for 256 nodes and 300 profiles every text is shorter than 4,096 bytes. Assumes nothing.
 use mathlib.Core.Path.{_≡_, refl, ap, subst, subst⁻¹, _∙_}
 use mathlib.Core.List.{List, [], _∷_, _++_, append-assoc, List·Memᴰ·head, List·Memᴰ·tail}
+use mathlib.Core.Option.{some}
 use Prim.Native.Nat.{ℕ, _+_, _*_, _≤_, _<_}
 use native.Mathlib.Omega.{arith}
 use lib.ListN.{length, length-append, take, drop}
 use lib.Seq.{take-append-seam, drop-append-seam}
 use Rattle.text.specs.Text.{hex, number-text, each, letter-text}
 use Rattle.text.proofs.Numerals.{few-digits}
-use Rattle.formula.specs.Refusal.{code-of, place-of}
+use Rattle.formula.specs.Refusal.{code-of, Places-within}
+use Rattle.formula.specs.declared.Refusal.{Refusal}
+use Rattle.formula.specs.declared.Refusal.the-variants.{AtByte, Unguarded}
 use Rattle.decision.specs.Verdict.{Verdict, verdict}
 use Rattle.decision.specs.Contract.{says, Buffered, Decided}
 use Rattle.decision.specs.declared.Verdict as code
 use Rattle.decision.specs.declared.Verdict.the-variants.{Satisfiable, Unsatisfiable, Refused, Unread}
 use Rattle.decision.proofs.Bounds.{Bounded, decided-bounded, Letters-small, Letters-parted, witness-parted}
-use Rattle.verdict_text.specs.Texts.{refused-text, verdict-text, lasso-text, program-text}
+use Rattle.verdict_text.specs.Texts.{worded-text, refused-text, placed-text, from-text, unread-text, verdict-text, lasso-text}
+use Rattle.verdict_text.specs.Texts.{program-text}
 
 -- a number behind a text
 numbered : (k : ℕ) (text : List ℕ) (n : ℕ) → length text ≤ k → n < 1000 → length (text ++ number-text n) ≤ k + 4
@@ -23,24 +27,41 @@ numbered k text n h l = omega (arith, few-digits 10 (omega arith) 2 {width = 1} 
 refused-short : (code : ℕ) → code ≤ 15 → length (refused-text code) ≤ 11
 refused-short code h = numbered 7 (82 ∷ 69 ∷ 70 ∷ 85 ∷ 83 ∷ 69 ∷ 68 ∷ []) code (omega arith) (omega arith)
 
+-- the texts of refusals of reading, whose places are early
+placed-short : (code place : ℕ) → code ≤ 9 → place ≤ 97 → length (placed-text code place) ≤ 18
+placed-short code place h k =
+    omega (
+      arith,
+      refused-short code (omega arith),
+      numbered 3 (32 ∷ 97 ∷ 116 ∷ []) place (omega arith) (omega arith),
+      length-append (refused-text code) (worded-text (32 ∷ 97 ∷ 116 ∷ []) place),
+    )
+
+unread-short : (why : Refusal) → code-of why ≤ 9 → Places-within 97 why → length (unread-text why) ≤ 27
+unread-short (AtByte code at) h k = omega (arith, placed-short code at h k, length-append (placed-text code at) [])
+unread-short (Unguarded at binder) h (k, l) =
+    omega (
+      arith,
+      placed-short 8 at h k,
+      numbered 5 (32 ∷ 102 ∷ 114 ∷ 111 ∷ 109 ∷ []) binder (omega arith) (omega arith),
+      length-append (placed-text 8 at) (from-text (some binder)),
+    )
+
 -- the texts of verdicts, without the witness
-verdict-short : (v : code.Verdict) → Bounded 256 300 v → length (verdict-text v) ≤ 19
+verdict-short : (v : code.Verdict) → Bounded 256 300 v → length (verdict-text v) ≤ 27
 verdict-short (Satisfiable stem cycle K P) s =
     let a = (77 ∷ 69 ∷ 84 ∷ []) ++ number-text stem in
     let b = a ++ number-text cycle in
     let ha : length a ≤ 7 = numbered 3 (77 ∷ 69 ∷ 84 ∷ []) stem (omega arith) (omega (arith, s .stem-few)) in
     let hb : length b ≤ 11 = numbered 7 a cycle ha (omega (arith, s .cycle-few)) in
-    numbered 15 (b ++ number-text K) P (numbered 11 b K hb (omega (arith, s .nodes-few))) (omega (arith, s .profiles-few))
+    let hc : length (b ++ number-text K) ≤ 15 = numbered 11 b K hb (omega (arith, s .nodes-few)) in
+    omega (arith, numbered 15 (b ++ number-text K) P hc (omega (arith, s .profiles-few)))
 verdict-short (Unsatisfiable K P) s =
     let a = (78 ∷ 79 ∷ 84 ∷ []) ++ number-text K in
     let ha : length a ≤ 7 = numbered 3 (78 ∷ 79 ∷ 84 ∷ []) K (omega arith) (omega (arith, s .nodes-few)) in
-    numbered 15 a P (omega arith) (omega (arith, s .profiles-few))
+    omega (arith, numbered 7 a P ha (omega (arith, s .profiles-few)))
 verdict-short (Refused code) h = omega (arith, refused-short code h)
-verdict-short (Unread why) (h, k) =
-    let refused = refused-text (code-of why) in
-    let short = refused-short (code-of why) (omega arith) in
-    numbered 15 (refused ++ (32 ∷ 97 ∷ 116 ∷ [])) (place-of why)
-    (omega (arith, short, length-append refused (32 ∷ 97 ∷ 116 ∷ []))) (omega arith)
+verdict-short (Unread why) (h, k) = unread-short why h k
 
 -- some letters
 module _ (front back : List ℕ) (h : length front + length back ≤ 3) where
@@ -85,7 +106,7 @@ lasso-short {stem} {cycle} K P rest w e =
       letters-short (76 ∷ 32 ∷ []) (10 ∷ []) (omega arith) ys (w .around-small),
     ))
 
-line-and : (line rest : List ℕ) → length line ≤ 19 → length rest ≤ 3885 → length (line ++ (10 ∷ []) ++ rest) ≤ 4095
+line-and : (line rest : List ℕ) → length line ≤ 27 → length rest ≤ 3885 → length (line ++ (10 ∷ []) ++ rest) ≤ 4095
 line-and line rest h k = omega (arith, length-append (line ++ (10 ∷ [])) rest, length-append line (10 ∷ []))
 
 program-by : (bytes b b′ : List ℕ) (o : Verdict) → Bounded 256 300 (says o) → Buffered bytes o b b′ → length (program-text (says o) b′)

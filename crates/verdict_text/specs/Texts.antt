@@ -1,28 +1,42 @@
 -- The texts of verdicts and refusals: MEANING 6.2. Assumes nothing.
 use mathlib.Core.List.{List, [], _∷_, _++_}
+use mathlib.Core.Option.{Option, none, some}
 use Prim.Native.Nat.{ℕ}
 use lib.ListN.{take, drop}
 use Rattle.text.specs.Text.{number-text, each, letter-text}
-use Rattle.formula.specs.Refusal.{code-of, place-of}
+use Rattle.formula.specs.Refusal.{code-of, place-of, binder-place-of}
 use Rattle.formula.specs.declared.Refusal.{Refusal}
 use Rattle.decision.specs.declared.Verdict.{Verdict}
 use Rattle.decision.specs.declared.Verdict.the-variants.{Satisfiable, Unsatisfiable, Refused, Unread}
 
+-- A word, and a number behind it.
+abbrev pub worded-text : List ℕ → ℕ → List ℕ
+worded-text word n = word ++ number-text n
+
 -- The line of a verdict, without its end: that of MET,
 abbrev pub met-text : (stem cycle K P : ℕ) → List ℕ
-met-text stem cycle K P = (77 ∷ 69 ∷ 84 ∷ []) ++ number-text stem ++ number-text cycle ++ number-text K ++ number-text P
+met-text stem cycle K P = worded-text (77 ∷ 69 ∷ 84 ∷ []) stem ++ number-text cycle ++ number-text K ++ number-text P
 
 -- that of NOT,
 abbrev pub not-text : (K P : ℕ) → List ℕ
-not-text K P = (78 ∷ 79 ∷ 84 ∷ []) ++ number-text K ++ number-text P
+not-text K P = worded-text (78 ∷ 79 ∷ 84 ∷ []) K ++ number-text P
 
 -- that of a refusal by its number alone,
 abbrev pub refused-text : ℕ → List ℕ
-refused-text code = (82 ∷ 69 ∷ 70 ∷ 85 ∷ 83 ∷ 69 ∷ 68 ∷ []) ++ number-text code
+refused-text code = worded-text (82 ∷ 69 ∷ 70 ∷ 85 ∷ 83 ∷ 69 ∷ 68 ∷ []) code
 
--- that of a refusal of reading,
+-- with its place,
+abbrev pub placed-text : (code place : ℕ) → List ℕ
+placed-text code place = refused-text code ++ worded-text (32 ∷ 97 ∷ 116 ∷ []) place
+
+-- the place of a binder behind it, if there is one,
+abbrev pub from-text : Option ℕ → List ℕ
+from-text none = []
+from-text (some binder-at) = worded-text (32 ∷ 102 ∷ 114 ∷ 111 ∷ 109 ∷ []) binder-at
+
+-- and so that of a refusal of reading;
 abbrev pub unread-text : Refusal → List ℕ
-unread-text why = refused-text (code-of why) ++ (32 ∷ 97 ∷ 116 ∷ []) ++ number-text (place-of why)
+unread-text why = placed-text (code-of why) (place-of why) ++ from-text (binder-place-of why)
 
 -- and which of them it is.
 abbrev pub verdict-text : Verdict → List ℕ

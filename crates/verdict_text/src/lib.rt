@@ -3,7 +3,9 @@
 use decision::Verdict;
 use formula::Refusal;
 ghost use Rattle.text.specs.Text.{buffer, Wrote};
+ghost use Rattle.formula.specs.Refusal.{code-of, place-of};
 ghost use Rattle.verdict_text.specs.Texts.{met-text, not-text, verdict-text, lasso-text, program-text, refused-text, unread-text};
+ghost use Rattle.verdict_text.specs.Texts.{worded-text, placed-text};
 
 // What the program prints: the verdict's line, then a line for each position of the witness.
 pub fn program_text(out: &mut [u8], verdict: Verdict, letters: &[u16]) -> usize
@@ -42,35 +44,49 @@ fn verdict_text(out: &mut [u8], at: usize, verdict: Verdict) -> usize
 pub fn refused(out: &mut [u8], at: usize, code: u8) -> usize
     ensures { λ r. ⌜ Wrote (buffer (now (out .entry)) at) (refused-text code) (buffer (now (out .exit)) r) ⌝ }
 {
-    let a = text::put_all(out, at, b"REFUSED");
-    text::number(out, a, code as u64)
+    worded(out, at, b"REFUSED", code as u64)
 }
 
-// A refusal of reading has a place.
+// A refusal of reading has a place, and that of a binder where it names one.
 pub fn unread(out: &mut [u8], at: usize, why: Refusal) -> usize
     ensures { λ r. ⌜ Wrote (buffer (now (out .entry)) at) (unread-text why) (buffer (now (out .exit)) r) ⌝ }
 {
+    let a = placed(out, at, why);
+    match why {
+        Refusal::AtByte { code: _, at: _ } => a,
+        Refusal::Unguarded { at: _, binder_at } => worded(out, a, b" from", binder_at as u64),
+    }
+}
+
+fn placed(out: &mut [u8], at: usize, why: Refusal) -> usize
+    ensures { λ r. ⌜ Wrote (buffer (now (out .entry)) at) (placed-text (code-of why) (place-of why)) (buffer (now (out .exit)) r) ⌝ }
+{
     let a = refused(out, at, formula::code_of(why));
-    let b = text::put_all(out, a, b" at");
-    text::number(out, b, formula::place_of(why) as u64)
+    worded(out, a, b" at", formula::place_of(why) as u64)
 }
 
 fn met_text(out: &mut [u8], at: usize, stem: u64, cycle: u64, nodes: u64, profiles: u64) -> usize
     ensures { λ r. ⌜ Wrote (buffer (now (out .entry)) at) (met-text stem cycle nodes profiles) (buffer (now (out .exit)) r) ⌝ }
 {
-    let a = text::put_all(out, at, b"MET");
-    let b = text::number(out, a, stem);
-    let c = text::number(out, b, cycle);
-    let d = text::number(out, c, nodes);
-    text::number(out, d, profiles)
+    let a = worded(out, at, b"MET", stem);
+    let b = text::number(out, a, cycle);
+    let c = text::number(out, b, nodes);
+    text::number(out, c, profiles)
 }
 
 fn not_text(out: &mut [u8], at: usize, nodes: u64, profiles: u64) -> usize
     ensures { λ r. ⌜ Wrote (buffer (now (out .entry)) at) (not-text nodes profiles) (buffer (now (out .exit)) r) ⌝ }
 {
-    let a = text::put_all(out, at, b"NOT");
-    let b = text::number(out, a, nodes);
-    text::number(out, b, profiles)
+    let a = worded(out, at, b"NOT", nodes);
+    text::number(out, a, profiles)
+}
+
+// A word, and a number behind it.
+fn worded(out: &mut [u8], at: usize, word: &[u8], n: u64) -> usize
+    ensures { λ r. ⌜ Wrote (buffer (now (out .entry)) at) (worded-text (now (word .entry)) n) (buffer (now (out .exit)) r) ⌝ }
+{
+    let a = text::put_all(out, at, word);
+    text::number(out, a, n)
 }
 
 // The witness: each letter of the stem behind one text, each of the cycle behind another, and a third behind both.

@@ -1,13 +1,27 @@
 -- An answer is taken apart as include/yuktrob.h does it, where a shift to the right is a quotient and a mask a remainder: out comes what
 -- the answer was made of. So the number says as much as the answer. Assumes nothing.
-use mathlib.Core.Path.{_≡_, ap, _∙_}
+use mathlib.Core.Path.{_≡_, refl, sym, ap, _∙_}
+use mathlib.Core.Logic.{_↔_}
+use mathlib.Core.List.{List}
+use mathlib.Core.Option.{Option, none, some}
 use Prim.Native.Nat.{ℕ, _+_, _*_, _/_, _%_, _≤_, _<_}
 use native.Mathlib.Omega.{arith}
 use native.Mathlib.Nat.{mod-eq-of-lt, div-eq-of-lt, add-mul-mod-self-left, add-mul-div-left}
 use Rattle.formula.specs.Table.{Operator}
 use Rattle.formula.specs.Rows.{opcode-byte}
-use Rattle.yuktrob_c.specs.Numbers.{number, found, Letters-16}
+use Rattle.formula.specs.Refusal.{code-of, place-of, binder-place-of}
+use Rattle.formula.specs.Reading.{Reading, parse}
+use Rattle.formula.specs.declared.Refusal.{Refusal}
+use Rattle.formula.specs.declared.Refusal.the-variants.{AtByte, Unguarded}
+use Rattle.formula.proofs.Fuel.{Stopped, parse-stopped}
+use Rattle.formula.proofs.Early.{parse-early}
+use Rattle.yuktrob_c.specs.Numbers.{number, refusal-number, found, Letters-16, Early}
 use Rattle.yuktrob_c.specs.Entry.{argument-of, packed}
+
+-- where there is no place the bits are 0
+abbrev pub place-or-zero : Option ℕ → ℕ
+place-or-zero none = 0
+place-or-zero (some place) = place
 
 module _ (a b m : ℕ) (h : a < b) where
   low : (a + b * m) % b ≡ a
@@ -23,6 +37,40 @@ number-apart code carried h = (low code 256 carried h, high code 256 carried h)
 part : (n below shift a b m : ℕ) → n ≡ below + shift * (a + b * m) → below < shift → a < b → n / shift % b ≡ a
 part n below shift a b m e h k =
     ap (λ (x : ℕ). x / shift % b) e ∙ ap (λ (x : ℕ). x % b) (high below shift (a + b * m) h) ∙ low a b m k
+
+-- the header's yuktrob_refusal, yuktrob_has_fixpoint, yuktrob_place and yuktrob_fixpoint: shifts by 8 and 16 bits
+pub record RefusalApart (n : ℕ) (why : Refusal) : Type 0 where
+  pub refusal : n % 256 ≡ code-of why
+  pub eight : (n % 256 ≡ 8) ↔ (binder-place-of why ≡ none → ⊥)
+  pub place-is : n / 256 % 256 ≡ place-of why
+  pub binder-is : n / 65536 % 256 ≡ place-or-zero (binder-place-of why)
+
+-- by its kind, where its number is small and tells the kind and its places are early
+apart-by : {total : ℕ} (why : Refusal) → Stopped total why → Early why → RefusalApart (refusal-number why) why
+apart-by (AtByte code at) s e =
+    let n = number code at in
+    let small : code < 256 = omega (arith, s .known) in
+    let refusal = low code 256 at small in
+    record {
+      refusal = refusal;
+      eight = (λ q. s .binder (sym refusal ∙ q), λ h. absurd (h refl));
+      place-is = part n code 256 at 256 0 (omega arith) small (omega arith);
+      binder-is = part n (code + 256 * at) 65536 0 256 0 (omega arith) (omega arith) (omega arith);
+    }
+apart-by (Unguarded at binder-at) s (h, k) =
+    let carried = at + 256 * binder-at in
+    let n = number 8 carried in
+    let refusal = low 8 256 carried (omega arith) in
+    record {
+      refusal = refusal;
+      eight = (λ _. s .binder refl, λ _. refusal);
+      place-is = part n 8 256 at 256 binder-at (omega arith) (omega arith) (omega arith);
+      binder-is = part n (8 + 256 * at) 65536 binder-at 256 0 (omega arith) (omega arith) (omega arith);
+    }
+
+-- Theorem: the number of a refusal of reading is taken apart into what the refusal says.
+pub refusal-apart : (bytes : List ℕ) (why : Refusal) → parse bytes ≡ Reading.refused why → RefusalApart (refusal-number why) why
+refusal-apart bytes why e = apart-by why (parse-stopped bytes e) (parse-early bytes why e)
 
 -- the header's yuktrob_refusal, yuktrob_is_met, yuktrob_lead_len, yuktrob_loop_len, yuktrob_nodes and yuktrob_profiles: shifts by 8, 9,
 -- 22, 35 and 48 bits

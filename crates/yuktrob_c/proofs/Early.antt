@@ -1,4 +1,4 @@
--- A refusal that the reader hands out is the definition's, and has an early place, as every refusal of reading has. Assumes nothing.
+-- A refusal that the reader hands out is the definition's, and has early places, as every refusal of reading has. Assumes nothing.
 use mathlib.Core.Path.{_≡_, ap}
 use mathlib.Core.List.{List}
 use Prim.Native.Nat.{ℕ}
@@ -17,4 +17,4 @@ module _ (bytes : List ℕ) (r : code.Reading) (is : reading-of r ≡ reading by
   refused-reading = ap with-entries (reading-refused bytes r is refused)
 
   pub refused-early : Early why
-  refused-early = parse-early bytes (reading-refused bytes r is refused)
+  refused-early = parse-early bytes why (reading-refused bytes r is refused)

@@ -1,4 +1,4 @@
--- The number of every answer of the truth operation fits: what it carries is the truth, or the place of a refusal of reading, which is
+-- The number of every answer of the truth operation fits: what it carries is the truth, or the places of a refusal of reading, which are
 -- early. Assumes nothing.
 use mathlib.Core.Path.{_≡_, refl, subst⁻¹}
 use mathlib.Core.List.{List}
@@ -26,7 +26,7 @@ asked-fits c room f =
 
 after-fits : (bytes : List ℕ) (c : Lasso) (room : ℕ) (x : Reading Formula) → parse bytes ≡ x → TruthFits (answer (after-reading c room x))
 unfolding labelling meets
-after-fits bytes c room (Reading.refused why) e = parse-early bytes e
+after-fits bytes c room (Reading.refused why) e = parse-early bytes why e
 after-fits bytes c room (Reading.accepted f) e = asked-fits c room f
 
 -- Theorem: the number of every answer fits.

@@ -2,10 +2,11 @@
 -- carries stands above it. include/yuktrob.h says the same in C. Assumes nothing.
 use mathlib.Core.Bool.{cond}
 use mathlib.Core.List.{List}
+use mathlib.Core.Option.{Option, none, some}
 use Prim.Native.Nat.{ℕ, _+_, _*_, _≤_, _<_}
 use lib.ListN.{length}
 use Rattle.formula.specs.Table.{Entries}
-use Rattle.formula.specs.Refusal.{code-of, place-of}
+use Rattle.formula.specs.Refusal.{code-of, place-of, binder-place-of, Places-within}
 use Rattle.formula.specs.Reading.{Reading}
 use Rattle.formula.specs.declared.Refusal.{Refusal}
 use Rattle.lasso.specs.declared.Truth.{Truth}
@@ -19,9 +20,14 @@ use Rattle.decision.specs.declared.Verdict.the-variants as decision
 abbrev pub number : (code carried : ℕ) → ℕ
 number code carried = code + 256 * carried
 
--- a refusal of reading carries its place
+-- a place, and above 8 bits for it that of a binder, if there is one
+abbrev pub places-carried : ℕ → Option ℕ → ℕ
+places-carried place none = place
+places-carried place (some binder-at) = place + 256 * binder-at
+
+-- a refusal of reading carries its places
 abbrev pub refusal-number : Refusal → ℕ
-refusal-number why = number (code-of why) (place-of why)
+refusal-number why = number (code-of why) (places-carried (place-of why) (binder-place-of why))
 
 -- reading: a refusal, or how many subformulas an accepted formula has
 abbrev pub reading-number : Reading Entries → ℕ
@@ -56,9 +62,9 @@ pub record Letters-16 (stem cycle K P : ℕ) : Type 0 where
   pub nodes-fit : K ≤ max-nodes
   pub profiles-fit : P ≤ max-profiles
 
--- By MEANING 1.6 the place of a refusal of reading is at most 97:
+-- By MEANING 1.6 the places of a refusal of reading are at most 97:
 abbrev pub Early : Refusal → Type 0
-Early why = place-of why ≤ 97
+Early why = Places-within 97 why
 
 -- of truth's answer,
 abbrev pub TruthFits : Truth → Type 0

@@ -27,12 +27,16 @@ fn number(code: u8, carried: usize) -> u64
     (base::wide(code) + 256 * carried) as u64
 }
 
-// A refusal of reading with its place.
+// A refusal of reading with its place, and that of the binder if it has one.
 fn refusal_number(why: Refusal) -> u64
     requires { ⌜ Early why ⌝ }
     ensures { λ r. ⌜ r ≡ refusal-number why ⌝ }
 {
-    number(formula::code_of(why), formula::place_of(why))
+    let code = formula::code_of(why);
+    match why {
+        Refusal::AtByte { code: _, at } => number(code, at),
+        Refusal::Unguarded { at, binder_at } => number(code, at + 256 * binder_at),
+    }
 }
 
 fn truth_number(t: Truth) -> u64

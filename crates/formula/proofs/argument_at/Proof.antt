@@ -42,14 +42,20 @@ sub-outer c = search needs
 sub-outer-2 : tie.Need-sub-outer-2
 sub-outer-2 c = search needs
 
+mul-binder-at : tie.Need-mul-binder-at
+mul-binder-at c = search needs
+
+element-copy-out-binder-at : tie.Need-element-copy-out-binder-at
+element-copy-out-binder-at c = search needs
+
 returns-5 : tie.Need-returns-5
 returns-5 c = λ e self.
-    let u = c .before .before .before .before .before .before .before .before in
-    let up = c .before .before .wide .ensures in
-    not-guarded _ (u .args .h) (u .args .op) (u .args .t4) self (omega arith) (omega arith) (omega arith) (omega arith)
+    let u = c .before .before .before .before .before .before .before .before .before in
+    let up = c .before .before .before .wide .ensures in
+    not-guarded _ (u .args .h) (u .args .op) (u .args .t4) self (omega arith) (omega arith) (omega arith) _ up (omega arith)
 
-element-copy-out-t16 : tie.Need-element-copy-out-t16
-element-copy-out-t16 c = search needs
+element-copy-out-binder : tie.Need-element-copy-out-binder
+element-copy-out-binder c = search needs
 
 returns-6 : tie.Need-returns-6
 returns-6 c = λ e self.
@@ -71,6 +77,8 @@ argument-at-spec =
     returns-4
     sub-outer
     sub-outer-2
+    mul-binder-at
+    element-copy-out-binder-at
     returns-5
-    element-copy-out-t16
+    element-copy-out-binder
     returns-6)

@@ -1,4 +1,4 @@
--- verdicts::lasso_text meets its contract: the stem's letters and the cycle's, or nothing. Assumes nothing.
+-- verdict_text::lasso_text meets its contract: the stem's letters and the cycle's, or nothing. Assumes nothing.
 use borrow.Author.Needs.{needs}
 use mathlib.Core.Path.{sym}
 use Rattle.text.proofs.Writing.{nothing, then}

@@ -1,4 +1,4 @@
--- verdicts::program_text meets its contract: the verdict, the line's end, the witness. Assumes nothing.
+-- verdict_text::program_text meets its contract: the verdict, the line's end, the witness. Assumes nothing.
 use borrow.Author.Needs.{needs}
 use Rattle.text.proofs.Writing.{then}
 use Rattle.verdict_text.proofs.program_text.Statement.{statement}

@@ -1,65 +1,70 @@
--- verdicts::unread meets its contract: the refusal, then its place. Assumes nothing.
-use mathlib.Core.Path.{_≡_, subst}
-use mathlib.Core.List.{List, [], _∷_, _++_}
+-- verdict_text::unread meets its contract: the refusal with its place, then the place of a binder if it names one. Assumes nothing.
+use mathlib.Core.Path.{_≡_, subst, subst⁻¹}
 use Prim.Native.Nat.{ℕ}
+use mathlib.Core.Option.{some}
 use borrow.Author.Needs.{needs}
-use Rattle.text.specs.Text.{Buffer, number-text, Wrote}
-use Rattle.text.proofs.Writing.{then}
+use Rattle.text.specs.Text.{Buffer, Wrote}
+use Rattle.text.proofs.Writing.{nothing, then}
 use Rattle.formula.specs.Refusal.{code-of, place-of}
 use Rattle.formula.specs.declared.Refusal.{Refusal}
-use Rattle.verdict_text.specs.Texts.{refused-text, unread-text}
+use Rattle.formula.specs.declared.Refusal.the-variants.{AtByte, Unguarded}
+use Rattle.verdict_text.specs.Texts.{placed-text, from-text, unread-text}
 use Rattle.verdict_text.proofs.unread.Statement.{statement}
 use Rattle.verdict_text.proofs.unread.Tie as tie
 
-abbrev text-of : (code place : ℕ) → List ℕ
-text-of code place = refused-text code ++ (32 ∷ 97 ∷ 116 ∷ []) ++ number-text place
+-- its place is written
+abbrev Placed : Buffer → Refusal → Buffer → Type 0
+Placed s why t = Wrote s (placed-text (code-of why) (place-of why)) t
 
--- the number and the place that were written are the refusal's
-wrote-unread : {s t : Buffer} {code place : ℕ} (why : Refusal) → code ≡ code-of why → place ≡ place-of why
-    → Wrote s (text-of code place) t → Wrote s (unread-text why) t
-wrote-unread {s} {t} why e p w = subst (λ (l : List ℕ). Wrote s l t) (λ i. text-of (e i) (p i)) w
+-- no binder, and nothing more
+wrote-plain : {s t : Buffer} {why : Refusal} {code at : ℕ} → why ≡ AtByte code at → Placed s why t → Wrote s (unread-text why) t
+wrote-plain {s} {t} e w = subst⁻¹ (λ (r : Refusal). Wrote s (unread-text r) t) e (then (subst (λ (r : Refusal). Placed s r t) e w) nothing)
 
-code-of-requires : tie.Need-code-of-requires
-code-of-requires c κs = search needs
+wrote-named : {s m t : Buffer} {why : Refusal} {at binder : ℕ} → why ≡ Unguarded at binder → Placed s why m
+    → Wrote m (from-text (some binder)) t → Wrote s (unread-text why) t
+wrote-named {s} {m} {t} e w v =
+    subst⁻¹ (λ (r : Refusal). Wrote s (unread-text r) t) e (then (subst (λ (r : Refusal). Placed s r m) e w) v)
 
-refused-requires : tie.Need-refused-requires
-refused-requires c κs = search needs
+placed-requires : tie.Need-placed-requires
+placed-requires c κs = search needs
 
-slice-aggregate-put-all : tie.Need-slice-aggregate-put-all
-slice-aggregate-put-all c = search needs
+enum-told : tie.Need-enum-told
+enum-told c = search needs
 
-put-all-requires : tie.Need-put-all-requires
-put-all-requires c κs = search needs
+enum-known-why : tie.Need-enum-known-why
+enum-known-why c = search needs
 
-place-of-requires : tie.Need-place-of-requires
-place-of-requires c κs = search needs
+slice-aggregate-worded : tie.Need-slice-aggregate-worded
+slice-aggregate-worded c = search needs
 
-number-requires : tie.Need-number-requires
-number-requires c κs = search needs
+worded-requires : tie.Need-worded-requires
+worded-requires c κs = search needs
 
 same-length : tie.Need-same-length
 same-length c = search needs
 
 returns : tie.Need-returns
-returns c =
-    let numbered = c .before .before in
-    let placed = numbered .before in
-    let marked = placed .before .before .before .before in
-    let told = marked .before .before .before .before .before in
-    let coded = told .before in
-    let u = coded .before .before .before in
-    wrote-unread (u .args .why) (coded .code-of .ensures) (placed .place-of .ensures)
-    (then (then (told .refused .ensures) (marked .put-all .ensures)) (numbered .number .ensures))
+returns c = wrote-plain (c .enum-told .given .1) (c .before .before .before .before .placed .ensures)
+
+same-length-2 : tie.Need-same-length-2
+same-length-2 c = search needs
+
+returns-2 : tie.Need-returns-2
+returns-2 c =
+    let named = c .before .before in
+    let known = named .before .before .before .before in
+    wrote-named (known .why .given .1) (known .before .before .before .before .placed .ensures) (named .worded .ensures)
 
 pub unread-spec : {M : Type 1} → statement M
 unread-spec =
     tie.close
     (tie.spec
-    code-of-requires
-    refused-requires
-    slice-aggregate-put-all
-    put-all-requires
-    place-of-requires
-    number-requires
+    placed-requires
+    enum-told
+    enum-known-why
+    slice-aggregate-worded
+    worded-requires
     same-length
-    returns)
+    returns
+    same-length-2
+    returns-2)

@@ -1,4 +1,4 @@
--- verdicts::verdict_text meets its contract, by the verdict. Assumes nothing.
+-- verdict_text::verdict_text meets its contract, by the verdict. Assumes nothing.
 use borrow.Author.Needs.{needs}
 use Rattle.verdict_text.proofs.verdict_text.Statement.{statement}
 use Rattle.verdict_text.proofs.verdict_text.Tie as tie
