@@ -10,6 +10,7 @@ static uint16_t course[YUKTROB_COURSE_LEN(NODES, PROFILES)];
 static void print_refusal(uint64_t answer) {
     printf("refused %u", yuktrob_refusal(answer));
     if (yuktrob_has_place(answer)) printf(" at byte %u", yuktrob_place(answer));
+    if (yuktrob_has_fixpoint(answer)) printf(", for the fixpoint at byte %u", yuktrob_fixpoint(answer));
     printf("\n");
 }
 
@@ -62,10 +63,14 @@ int main(void) {
     const uint8_t eventually[] = {0x09, 0x06, 0x03, 0x00, 0x08, 0x05, 0x00}; /* sooner or later signal 0 */
     const uint8_t never[] = {0x02};
     const uint8_t unguarded[] = {0x09, 0x05, 0x00};
+    const uint8_t next_outside[] = {0x08, 0x09, 0x05, 0x00};
+    const uint8_t unfinished[] = {0x06, 0x01};
     list(eventually, sizeof eventually);
     list(unguarded, sizeof unguarded);
     decide(eventually, sizeof eventually);
     decide(never, sizeof never);
     decide(unguarded, sizeof unguarded);
+    decide(next_outside, sizeof next_outside);
+    decide(unfinished, sizeof unfinished);
     return 0;
 }

@@ -1,12 +1,13 @@
 /* Rules of tractor-guidance terminals: reading, truth on a repeating course, and the decision.
  *
  * Each function answers one number. Its lowest byte is the number of a refusal, or 0; what the answer carries stands above it:
- *   reading    accepted: the number of entries; refused 1 to 9: the byte's place
- *   entry      accepted: 8 bits each for the command, its argument and the entry after its last, the first lowest; all 0 if there is no such
- *              entry; refused 1 to 9: the byte's place
- *   truth      told: 1 for true, 0 for false; refused 1 to 9: the byte's place; refused 16 to 18: nothing
+ *   reading    accepted: the number of entries; refused 1 to 9: its places
+ *   entry      accepted: 8 bits each for the command, its argument and the entry after its last, the first lowest; all 0 if there is no
+ *              such entry; refused 1 to 9: its places
+ *   truth      told: 1 for true, 0 for false; refused 1 to 9: its places; refused 16 to 18: nothing
  *   decision   1 + 2 * sizes for MET, 2 * sizes for NOT, where sizes has 13 bits each for lead-in length, loop length, K and P, the
- *              first lowest; refused 1 to 9: the byte's place; refused 11 to 15: nothing
+ *              first lowest; refused 1 to 9: its places; refused 11 to 15: nothing
+ * The places of a refusal are 8 bits for the byte's place and, of 8 alone, 8 bits above them for where the variable's fixpoint begins.
  * docs/FORMULAS.md lists the refusals; later versions may have more. Ask for a refusal before taking an answer apart.
  *
  * No function asks anything of its arguments but that a pointer has as many elements as the length behind it says, and that what a function
@@ -49,10 +50,13 @@ uint64_t yuktrob_truth(const uint8_t *rule, size_t rule_len, const uint16_t *pla
 uint64_t yuktrob_decide(const uint8_t *rule, size_t rule_len, size_t nodes, size_t profiles, uint8_t *work, size_t work_len,
                         uint16_t *course, size_t course_len);
 
-/* Taking an answer apart. Every answer: the refusal's number, or 0; whether the refusal has a byte's place; and the place. */
+/* Taking an answer apart. Every answer: the refusal's number, or 0; whether the refusal has a byte's place; and the place. Then whether it
+ * has a fixpoint's place too, which 8 alone has; and that place. */
 static inline unsigned yuktrob_refusal(uint64_t answer) { return (unsigned)(answer & 255); }
 static inline int yuktrob_has_place(uint64_t answer) { return 1 <= yuktrob_refusal(answer) && yuktrob_refusal(answer) <= 9; }
-static inline unsigned yuktrob_place(uint64_t answer) { return (unsigned)(answer >> 8); }
+static inline unsigned yuktrob_place(uint64_t answer) { return (unsigned)(answer >> 8 & 255); }
+static inline int yuktrob_has_fixpoint(uint64_t answer) { return yuktrob_refusal(answer) == 8; }
+static inline unsigned yuktrob_fixpoint(uint64_t answer) { return (unsigned)(answer >> 16 & 255); }
 
 /* Reading, not refused. */
 static inline unsigned yuktrob_entry_count(uint64_t answer) { return (unsigned)(answer >> 8); }

@@ -6,25 +6,52 @@ use crate::truth::{self, Truth};
 use crate::{decision, decision::Verdict};
 use yuktrob::{course_len, work_len, Command, Refusal, Rule, MOST_NODES, MOST_PROFILES};
 
-/// A refusal's number, with the byte's place where it has one.
-type Refused = (u8, Option<usize>);
+/// A refusal's number, with the byte's place and the fixpoint's where it has them.
+#[derive(Clone, Copy, Debug, PartialEq, Eq)]
+struct Refused {
+    number: u8,
+    place: Option<usize>,
+    fixpoint: Option<usize>,
+}
 
 fn ours(why: Refusal) -> Refused {
-    (why.number, why.place)
+    Refused { number: why.number, place: why.place, fixpoint: why.fixpoint }
 }
 
 fn theirs(why: Unreadable) -> Refused {
-    (why.number, Some(why.place))
+    Refused { number: why.number, place: Some(why.place), fixpoint: why.fixpoint }
 }
 
-/// The rule's bytes: at random, damaged, short, long, or with fixpoints that cross, most of which alternate.
+/// A refusal behind reading, which has no place.
+fn placeless(number: u8) -> Refused {
+    Refused { number, place: None, fixpoint: None }
+}
+
+/// The rule's bytes: at random, damaged, short, long, or with fixpoints that cross, most of which alternate; of these some lack a next.
 pub fn rule(random: &mut Random) -> Vec<u8> {
     let most = [4, 12, 24, 48, 60][random.below(5)];
     let size = 1 + random.below(most);
     match random.below(10) {
         0..=1 => random.damaged(size),
         2..=4 => random.crossing(),
+        5 => random.unguarded(),
         _ => random.rule(size),
+    }
+}
+
+/// How many rules were refused with 8, and of those how many for a fixpoint that is neither the innermost one nor at byte 0.
+#[derive(Default)]
+pub struct Unguarded {
+    pub all: u64,
+    pub between: u64,
+}
+
+impl Unguarded {
+    pub fn count(&mut self, rule: &[u8]) {
+        let Err(Unreadable { place, fixpoint: Some(fixpoint), .. }) = reading::read(rule) else { return };
+        self.all += 1;
+        // the byte at the place is the variable's depth
+        self.between += (rule[place] > 0 && fixpoint > 0) as u64;
     }
 }
 
@@ -107,7 +134,7 @@ fn expected(rule: &[u8], x: &Asked) -> Result<(Result<bool, Refused>, Vec<u64>),
     }
     Ok(match by_laps {
         Truth::Unread(why) => (Err(theirs(why)), x.lent.clone()),
-        Truth::Refused(number) => (Err((number, None)), x.lent.clone()),
+        Truth::Refused(number) => (Err(placeless(number)), x.lent.clone()),
         Truth::Told(b, words) => (Ok(b), [&words[..], &x.lent[words.len()..]].concat()),
     })
 }
@@ -186,7 +213,7 @@ fn our_verdict(answer: Result<yuktrob::Verdict, Refusal>) -> Settled {
 fn their_verdict(answer: Verdict) -> (Settled, Vec<u16>) {
     match answer {
         Verdict::Unread(why) => (Settled::Refused(theirs(why)), Vec::new()),
-        Verdict::Refused(number) => (Settled::Refused((number, None)), Vec::new()),
+        Verdict::Refused(number) => (Settled::Refused(placeless(number)), Vec::new()),
         Verdict::Not { nodes, profiles } => (Settled::Not { nodes, profiles }, Vec::new()),
         Verdict::Met { lead_len, loop_len, nodes, profiles, course } => (Settled::Met { lead_len, loop_len, nodes, profiles }, course),
     }
@@ -195,7 +222,7 @@ fn their_verdict(answer: Verdict) -> (Settled, Vec<u16>) {
 /// How many bytes of the work area are zero afterwards; the others are as they were.
 fn zeros(settled: &Settled, lent: Lent) -> usize {
     match settled {
-        Settled::Refused((number, _)) if *number < 14 => 0,
+        Settled::Refused(why) if why.number < 14 => 0,
         _ => work_len(lent.n, lent.m),
     }
 }

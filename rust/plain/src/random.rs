@@ -153,6 +153,19 @@ impl Random {
         draft.rule.extend([5, depth as u8]);
     }
 
+    /// A rule with fixpoints that cross, but with so many of its nexts left out that a variable has none to its fixpoint.
+    pub fn unguarded(&mut self) -> Vec<u8> {
+        loop {
+            let mut rule = self.crossing();
+            let keep = 1 + self.below(4);
+            // such a rule has no operand 8, so each byte 8 is a next
+            rule.retain(|&byte| byte != 8 || self.below(5) < keep);
+            if read(&rule).is_err_and(|why| why.number == 8) {
+                return rule;
+            }
+        }
+    }
+
     /// Bytes that are nearly a rule, or no rule at all.
     pub fn damaged(&mut self, size: usize) -> Vec<u8> {
         let mut bytes = self.rule(size);

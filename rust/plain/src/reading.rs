@@ -16,19 +16,29 @@ pub enum Command {
     Greatest(usize),
 }
 
-/// A refusal of reading: its number and the byte's place.
+/// A refusal of reading: its number, the byte's place, and with 8 a second place.
 #[derive(Clone, Copy, Debug, PartialEq, Eq)]
 pub struct Unreadable {
     pub number: u8,
     pub place: usize,
+    /// With 8 alone, where the variable's fixpoint begins.
+    pub fixpoint: Option<usize>,
 }
 
 fn refuse<T>(number: u8, place: usize) -> Result<T, Unreadable> {
-    Err(Unreadable { number, place })
+    Err(Unreadable { number, place, fixpoint: None })
 }
 
-/// The enclosing fixpoints (entry, whether a next stands between), innermost last.
-type Scope = Vec<(usize, bool)>;
+/// An enclosing fixpoint: its entry, its byte's place, and whether a next stands between.
+#[derive(Clone, Copy)]
+struct Enclosing {
+    entry: usize,
+    place: usize,
+    guarded: bool,
+}
+
+/// The enclosing fixpoints, innermost last.
+type Scope = Vec<Enclosing>;
 
 /// What is still to be read: one rule in its scope; `parent` is the entry whose second operand it is, which waits for its number.
 struct Wanted {
@@ -115,9 +125,9 @@ impl Reader<'_> {
             5 => Command::Variable(self.binder(&scope)?),
             6 => self.pair(scope, Command::Or(me + 1, 0)),
             7 => self.pair(scope, Command::And(me + 1, 0)),
-            8 => self.single(scope.into_iter().map(|(e, _)| (e, true)).collect(), Command::Next(me + 1)),
-            9 => self.single([scope, vec![(me, false)]].concat(), Command::Least(me + 1)),
-            _ => self.single([scope, vec![(me, false)]].concat(), Command::Greatest(me + 1)),
+            8 => self.single(scope.into_iter().map(|f| Enclosing { guarded: true, ..f }).collect(), Command::Next(me + 1)),
+            9 => self.fixpoint(scope, Command::Least(me + 1)),
+            _ => self.fixpoint(scope, Command::Greatest(me + 1)),
         })
     }
 
@@ -134,14 +144,20 @@ impl Reader<'_> {
         let depth = self.operand()? as usize;
         match scope.iter().rev().nth(depth) {
             None => refuse(7, self.at - 1),
-            Some((_, false)) => refuse(8, self.at - 1),
-            Some(&(binder, true)) => Ok(binder),
+            Some(f) if !f.guarded => Err(Unreadable { number: 8, place: self.at - 1, fixpoint: Some(f.place) }),
+            Some(f) => Ok(f.entry),
         }
     }
 
     /// A command whose two operands are read next, left before right.
     fn pair(&mut self, scope: Scope, command: Command) -> Command {
         self.wanted.push(Wanted { scope: scope.clone(), parent: Some(self.entries.len()) });
+        self.single(scope, command)
+    }
+
+    /// A fixpoint, whose byte has just been passed; its operand is read next.
+    fn fixpoint(&mut self, mut scope: Scope, command: Command) -> Command {
+        scope.push(Enclosing { entry: self.entries.len(), place: self.at - 1, guarded: false });
         self.single(scope, command)
     }
 

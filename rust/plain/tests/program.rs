@@ -3,6 +3,8 @@
 use std::io::Write;
 use std::process::{Command, Stdio};
 use std::time::Duration;
+use yuktrob_plain::random::Random;
+use yuktrob_plain::reading::{read, Unreadable};
 use yuktrob_plain::truth::{by_laps, Truth};
 
 /// What the program prints if its input arrives in these pieces, one after another. It may end before it has read them all.
@@ -92,12 +94,12 @@ fn input_in_single_bytes() {
     for (rule, first) in CASES {
         check(rule, first, &byte_by_byte(rule));
     }
-    assert_eq!(byte_by_byte(&[8, 9, 5, 0]), "REFUSED 8 at 3\n");
+    assert_eq!(byte_by_byte(&[8, 9, 5, 0]), "REFUSED 8 at 3 from 1\n");
 }
 
 #[test]
 fn refusals_with_a_place() {
-    let refused: [(&[u8], &str); 11] = [
+    let refused: [(&[u8], &str); 12] = [
         (&[6, 1], "1 at 2"),
         (&[11], "2 at 0"),
         (&[7; 49], "3 at 48"),
@@ -105,13 +107,24 @@ fn refusals_with_a_place() {
         (&[3], "5 at 1"),
         (&[3, 16], "6 at 1"),
         (&[5, 0], "7 at 1"),
-        (&[9, 5, 0], "8 at 2"),
-        (&[8, 9, 5, 0], "8 at 3"),
+        (&[9, 5, 0], "8 at 2 from 0"),
+        (&[8, 9, 5, 0], "8 at 3 from 1"),
+        (&[10, 9, 6, 3, 0, 5, 1], "8 at 6 from 0"),
         (&[1, 1], "9 at 1"),
         (&[3, 15, 3], "9 at 2"),
     ];
     for (rule, expected) in refused {
         assert_eq!(at_once(rule), format!("REFUSED {expected}\n"), "{rule:02x?}");
+    }
+}
+
+#[test]
+fn random_rules_refused_with_8() {
+    let mut random = Random::new(8);
+    for _ in 0..100 {
+        let rule = random.unguarded();
+        let Err(Unreadable { number: 8, place, fixpoint: Some(fixpoint) }) = read(&rule) else { panic!("{rule:02x?}") };
+        assert_eq!(at_once(&rule), format!("REFUSED 8 at {place} from {fixpoint}\n"), "{rule:02x?}");
     }
 }
 

@@ -1,11 +1,21 @@
 use std::fmt;
 
-/// Why an operation was refused: the refusal's number, and the byte's place where it has one. `docs/FORMULAS.md` lists them all.
+/// Why an operation was refused: the refusal's number, and the byte's place and the fixpoint's where it has them. `docs/FORMULAS.md` lists
+/// them all.
 ///
 /// ```
 /// let refusal = yuktrob::Rule::read(&[0x03, 0x10]).unwrap_err();
 /// assert_eq!((refusal.number, refusal.place), (6, Some(1)));
 /// assert_eq!(refusal.to_string(), "refused 6 at byte 1: a signal above 0F");
+/// ```
+///
+/// Refusal 8 also says for which fixpoint a next is missing:
+///
+/// ```
+/// let refusal = yuktrob::Rule::read(&[0x08, 0x09, 0x05, 0x00]).unwrap_err();
+/// assert_eq!((refusal.number, refusal.place, refusal.fixpoint), (8, Some(3), Some(1)));
+/// let words = "refused 8 at byte 3, for the fixpoint at byte 1: no next between the fixpoint and its variable";
+/// assert_eq!(refusal.to_string(), words);
 /// ```
 #[derive(Clone, Copy, Debug, PartialEq, Eq, Hash)]
 #[non_exhaustive]
@@ -14,11 +24,19 @@ pub struct Refusal {
     pub number: u8,
     /// Of a refusal of reading, 1 to 9, the byte's place in the rule, counted from 0.
     pub place: Option<usize>,
+    /// Of refusal 8, where the variable's fixpoint begins: the place of its byte 09 or 0A.
+    pub fixpoint: Option<usize>,
 }
 
 impl Refusal {
+    /// From the number and what the answer carries above it: a byte for each place, the fixpoint's above the other.
     pub(crate) fn new(number: u8, carried: u64) -> Self {
-        Refusal { number, place: (1..=9).contains(&number).then_some(carried as usize) }
+        let [place, fixpoint, ..] = carried.to_le_bytes();
+        Refusal {
+            number,
+            place: (1..=9).contains(&number).then_some(place.into()),
+            fixpoint: (number == 8).then_some(fixpoint.into()),
+        }
     }
 
     /// What the number means, in words.
@@ -57,8 +75,41 @@ impl fmt::Display for Refusal {
         if let Some(place) = self.place {
             write!(out, " at byte {place}")?;
         }
+        if let Some(fixpoint) = self.fixpoint {
+            write!(out, ", for the fixpoint at byte {fixpoint}")?;
+        }
         write!(out, ": {}", self.meaning())
     }
 }
 
 impl std::error::Error for Refusal {}
+
+#[cfg(test)]
+mod tests {
+    use super::*;
+
+    fn parts(number: u8, carried: u64) -> (u8, Option<usize>, Option<usize>) {
+        let why = Refusal::new(number, carried);
+        (why.number, why.place, why.fixpoint)
+    }
+
+    #[test]
+    fn two_places_with_8() {
+        for (place, fixpoint) in [(2, 0), (3, 1), (6, 0), (71, 69), (97, 96)] {
+            let carried = place as u64 + 256 * fixpoint as u64;
+            assert_eq!(parts(8, carried), (8, Some(place), Some(fixpoint)));
+            let words = Refusal::new(8, carried).to_string();
+            assert!(words.starts_with(&format!("refused 8 at byte {place}, for the fixpoint at byte {fixpoint}: ")), "{words}");
+        }
+    }
+
+    #[test]
+    fn one_place_or_none_otherwise() {
+        for number in (1..=7).chain([9]) {
+            assert_eq!(parts(number, 48), (number, Some(48), None));
+        }
+        for number in 10..=255 {
+            assert_eq!(parts(number, 0), (number, None, None));
+        }
+    }
+}

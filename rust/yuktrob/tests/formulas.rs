@@ -16,7 +16,8 @@ fn places(text: &str) -> Vec<u16> {
 
 fn refused(why: Refusal) -> String {
     let place = why.place.map_or(String::new(), |place| format!(" at {place}"));
-    format!("REFUSED {}{place}", why.number)
+    let fixpoint = why.fixpoint.map_or(String::new(), |fixpoint| format!(" from {fixpoint}"));
+    format!("REFUSED {}{place}{fixpoint}", why.number)
 }
 
 /// `LEAD (LOOP)`, or a number of places that are all 0.
@@ -121,7 +122,8 @@ fn every_refusal_has_the_words_of_the_document() {
     for (number, words) in rows {
         let why = refusal(number);
         let place = why.place.map_or(String::new(), |place| format!(" at byte {place}"));
-        assert_eq!((why.number, why.place.is_some()), (number, number <= 9));
-        assert_eq!(why.to_string(), format!("refused {number}{place}: {words}"));
+        let fixpoint = why.fixpoint.map_or(String::new(), |fixpoint| format!(", for the fixpoint at byte {fixpoint}"));
+        assert_eq!((why.number, why.place.is_some(), why.fixpoint.is_some()), (number, number <= 9, number == 8));
+        assert_eq!(why.to_string(), format!("refused {number}{place}{fixpoint}: {words}"));
     }
 }

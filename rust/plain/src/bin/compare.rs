@@ -2,7 +2,7 @@
 //! `compare [INPUTS [SEED [LONGEST]]]`, where no course that both work out is longer than LONGEST places, 60 at least and 8,192 at most.
 
 use std::time::Instant;
-use yuktrob_plain::compared::{self, Areas, Truths, LONG};
+use yuktrob_plain::compared::{self, Areas, Truths, Unguarded, LONG};
 use yuktrob_plain::random::Random;
 
 fn main() {
@@ -10,11 +10,12 @@ fn main() {
     let word = |i: usize, otherwise: u64| words.get(i).copied().unwrap_or(otherwise);
     let (inputs, seed, longest) = (word(0, 100_000), word(1, 1), word(2, 8192).clamp(60, 8192) as usize);
     let mut random = Random::new(seed);
-    let (mut areas, mut truths) = (Areas::new(), Truths::default());
+    let (mut areas, mut truths, mut unguarded) = (Areas::new(), Truths::default(), Unguarded::default());
     let (mut differences, mut other) = (0u64, 0u64);
     let start = Instant::now();
     for i in 0..inputs {
         let rule = compared::rule(&mut random);
+        unguarded.count(&rule);
         let result = match i % 3 {
             0 => compared::reading(&rule),
             1 => compared::truth(&mut random, &rule, longest, &mut truths),
@@ -29,6 +30,8 @@ fn main() {
     let (readings, decisions) = (inputs.div_ceil(3), inputs / 3);
     println!("compared: {readings} readings, {} truths, {decisions} decisions in {seconds:.1} s", truths.all);
     println!("truths of rules with alternating fixpoints: {}, of these on {LONG} places or more: {}", truths.alternating, truths.long);
+    let Unguarded { all, between } = unguarded;
+    println!("rules refused with 8: {all}, of these for a fixpoint that is neither the innermost nor at byte 0: {between}");
     println!("decisions with another course, as short: {other}");
     println!("differences: {differences}");
     if differences > 0 {

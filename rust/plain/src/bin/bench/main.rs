@@ -10,6 +10,7 @@
 
 mod alternating;
 mod decisions;
+mod readings;
 mod shapes;
 mod timing;
 mod truths;
@@ -23,6 +24,7 @@ fn processor() -> String {
 
 fn all() {
     println!("Measured on: {}.", processor());
+    readings::table();
     decisions::tables();
     truths::tables();
     alternating::table(1024, 8192);
