@@ -31,12 +31,15 @@ fn signals(n: u8) -> Vec<u8> {
 
 pub fn table() {
     head("Reading, 1,000 times", &BOTH);
-    let rules: [(&str, Vec<u8>); 8] = [
+    let rules: [(&str, Vec<u8>); 11] = [
         ("true", vec![1]),
         ("G F s0", vec![10, 7, 9, 6, 3, 0, 8, 5, 0, 8, 5, 0]),
         ("and of 6 signals, 11 commands", signals(6)),
         ("and of 12 signals, 23 commands", signals(12)),
         ("and of 24 signals, 47 commands", signals(24)),
+        ("49 ands, each inside the one before, refused 3", vec![7; 49]),
+        ("7 fixpoints, 12 nexts, 28 ands, so too, refused 1", [vec![9; 7], vec![8; 12], vec![7; 28], vec![1]].concat()),
+        ("48 commands that are read, and 100,000 bytes behind them, refused 9", [signals(24), vec![7; 100_000]].concat()),
         ("refused 8, for the first byte", vec![9, 5, 0]),
         ("refused 8, for the outermost of seven", vec![9, 10, 9, 10, 9, 10, 9, 5, 6]),
         ("refused 8 at the latest place, for the latest fixpoint", [[7, 3, 0].repeat(23), vec![9, 5, 0]].concat()),
