@@ -1,20 +1,22 @@
 -- The word of a list of bits: its bits are the list's elements, so equal words of one length are equal lists, and to put an element
--- into the set is to put the bit into the word. By recursion on the list: the head is the word's last digit, the tail its half.
--- Assumes nothing.
+-- into the set is to put the bit into the word. By recursion on the list: the head is the word's last digit, the tail its half. Where the
+-- list has a function's values at the numbers below n, bit k is its value at k. Assumes nothing.
 use Prim.Native.Nat.{ℕ, zero, suc, _+_, _/_, _%_, _^_, _≤_, _<_}
-use mathlib.Core.Path.{_≡_, refl, sym, ap, _∙_}
+use mathlib.Core.Path.{_≡_, refl, sym, ap, subst, _∙_}
 use mathlib.Core.Bool.{Bool, true, false, cond}
 use mathlib.Core.List.{List, [], _∷_, map}
 use native.Mathlib.Omega.{arith}
-use native.Mathlib.Nat.{div-eq-of-lt, pow-succ'}
+use native.Mathlib.Nat.{zero-add, div-eq-of-lt, pow-succ'}
 use lib.Dec.{eqb}
 use lib.Pow.{pow-pos, shr-shr}
 use lib.Bits.{bitOr}
 use lib.ListN.{length, getD, set, List·getD-eq-default}
 use lib.Seq.{getD-set-same, getD-set-other}
 use borrow.Author.Tests.{eqb-true, eqb-false}
+use Rattle.base.specs.Lists.{range}
 use Rattle.base.specs.Bits.{bit, word}
 use Rattle.base.proofs.BitLaws.{set-on}
+use Rattle.base.proofs.NumberLaws.{values-length, values-at}
 
 -- bit 0 is the last digit, and the others are the bits of the half
 pub bit-zero : (w : ℕ) → bit w 0 ≡ eqb (w % 2) 1
@@ -48,6 +50,17 @@ pub word-lt : (v : List Bool) → word v < 2 ^ length v
 word-lt [] = omega arith
 word-lt (true ∷ v) = omega (arith, word-lt v, pow-succ' 2 (length v))
 word-lt (false ∷ v) = omega (arith, word-lt v, pow-succ' 2 (length v))
+
+-- the word of a function's values at the numbers below n
+module _ (f : ℕ → Bool) (n : ℕ) where
+  pub values-bit : (k : ℕ) → k < n → bit (word (map f (range 0 n))) k ≡ f k
+  values-bit k h = word-bit (map f (range 0 n)) k ∙ values-at f 0 n k false h ∙ ap f (zero-add k)
+
+  pub values-past : (k : ℕ) → n ≤ k → bit (word (map f (range 0 n))) k ≡ false
+  values-past k h = word-past (map f (range 0 n)) k (omega (arith, values-length f 0 n))
+
+  pub values-lt : word (map f (range 0 n)) < 2 ^ n
+  values-lt = subst (λ (m : ℕ). word (map f (range 0 n)) < 2 ^ m) (values-length f 0 n) (word-lt (map f (range 0 n)))
 
 -- lists of one length with the same word are the same
 pub word-inj : (v u : List Bool) → length v ≡ length u → word v ≡ word u → v ≡ u

@@ -14,6 +14,13 @@ pub fn wide(x: u8) -> usize
     x as usize
 }
 
+// A word of 16 bits as a number that can be an index.
+pub fn wide16(x: u16) -> usize
+    ensures { λ r. ⌜ (r ≡ x) × (r < 65536) ⌝ }
+{
+    x as usize
+}
+
 // What a count of those that pass a test grows by.
 pub fn one_if(on: bool) -> usize
     ensures { λ r. ⌜ (r ≡ cond on 1 0) × (r ≤ 1) ⌝ }

@@ -16,7 +16,7 @@ use Rattle.formula.specs.Reading.{Reading, parse}
 use Rattle.formula.proofs.Fuel.{parse-stopped}
 use Rattle.formula.proofs.Early.{parse-early}
 use Rattle.tableau.specs.Saturation.{Subset}
-use Rattle.tableau.specs.Transition.{Transition}
+use Rattle.tableau.specs.Transition.{Transition, letter}
 use Rattle.tableau.specs.Run.{Along}
 use Rattle.tableau.proofs.TransitionLaws.{letter-bound}
 use Rattle.profile.specs.Profiles.{Profile}
@@ -90,13 +90,10 @@ more-small xs x k h y i =
       | inr b ↦ one-small h y b
     ]
 
-abbrev letter : Transition → ℕ
-letter s = s .letter
-
 -- one transition more
-step-small : (ss : List Transition) (s : Transition) → Letters-small (map letter ss) → s .letter < 65536
+step-small : (ss : List Transition) (s : Transition) → Letters-small (map letter ss) → letter s < 65536
     → Letters-small (map letter (ss ++ (s ∷ [])))
-step-small ss s k h = subst⁻¹ Letters-small (map-append letter ss (s ∷ [])) (more-small (map letter ss) (s .letter) k h)
+step-small ss s k h = subst⁻¹ Letters-small (map-append letter ss (s ∷ [])) (more-small (map letter ss) (letter s) k h)
 
 module _ (t : Table) where
   along-small : {v u : Subset} {ss : List Transition} → Along t v ss u → Letters-small (map letter ss)

@@ -17,7 +17,7 @@ use Rattle.base.proofs.At.{At, at-lt, at-get, at-in, at-one, at-unmap}
 use Rattle.base.specs.Search.{Item}
 use Rattle.formula.specs.Table.{Table}
 use Rattle.tableau.specs.Saturation.{Subset}
-use Rattle.tableau.specs.Transition.{Transition}
+use Rattle.tableau.specs.Transition.{Transition, letter}
 use Rattle.tableau.specs.Nodes.{nodes}
 use Rattle.tableau.specs.Inner.{table-of}
 use Rattle.tableau.specs.Area.{reachable}
@@ -43,7 +43,7 @@ use Rattle.decision.proofs.AcceptingLaws.{First, first-is}
 use Rattle.decision.proofs.WitnessLaws.{stem-of}
 
 abbrev letters : List Transition → List ℕ
-letters ss = map (λ (s : Transition). s .letter) ss
+letters ss = map letter ss
 
 -- the letters of the way to node j are those of the stem to its set, as no node is listed twice
 way-stem : (t : Table) {j : ℕ} {v : Subset} → At (sets (nodes t)) j v → way-letters t j ≡ letters (stem-to v (nodes t))
@@ -60,11 +60,11 @@ over-runs : (stem cycle : List Transition) {xs ys : List ℕ} (l : List ℕ) →
 over-runs stem cycle {xs} {ys} l p q =
     ap (λ (ws : List ℕ). over ws l) whole
     ∙ ap (λ (k : ℕ). letters (stem ++ cycle) ++ drop k l)
-    (length-map (stem ++ cycle) (λ (s : Transition). s .letter) ∙ length-append stem cycle)
+    (length-map (stem ++ cycle) letter ∙ length-append stem cycle)
   where
     whole : xs ++ ys ≡ letters (stem ++ cycle)
     whole = ap (λ (zs : List ℕ). zs ++ ys) p ∙ ap (λ (zs : List ℕ). letters stem ++ zs) q
-        ∙ sym (map-append (λ (s : Transition). s .letter) stem cycle)
+        ∙ sym (map-append letter stem cycle)
 
 never : {b : Bool} → b ≡ false → T b → ⊥
 never {b} e h =
@@ -150,10 +150,10 @@ module _ {rows : List ℕ} {count : ℕ} {origins area : List ℕ} {s : Store} {
           stem = stem-to (item p low .at .first) (nodes t)
 
           stem-long : r .stem ≡ length stem
-          stem-long = w .stem-is ∙ ap length stem-same ∙ length-map stem (λ (x : Transition). x .letter)
+          stem-long = w .stem-is ∙ ap length stem-same ∙ length-map stem letter
 
           cycle-long : r .cycle ≡ length (item p low .way)
-          cycle-long = w .cycle-is ∙ ap length cycle-same ∙ length-map (item p low .way) (λ (x : Transition). x .letter)
+          cycle-long = w .cycle-is ∙ ap length cycle-same ∙ length-map (item p low .way) letter
 
     -- Theorem: where no profile that is kept is accepting, the answer is NOT.
     pub none-answers : first test (range 0 P) ≡ none → (before : List ℕ)

@@ -20,7 +20,7 @@ use Rattle.base.proofs.SearchOrder.{Sorted}
 use Rattle.base.proofs.FirstLaws.{first-none, Least, first-some}
 use Rattle.formula.specs.Table.{Table}
 use Rattle.tableau.specs.Saturation.{Subset, same-subset}
-use Rattle.tableau.specs.Transition.{Transition, transitions}
+use Rattle.tableau.specs.Transition.{Transition, letter, transitions}
 use Rattle.tableau.specs.Nodes.{root, nodes}
 use Rattle.tableau.proofs.SaturationLaws.{subset-sound, subset-refl}
 use Rattle.tableau.proofs.NodeLaws.{nodes-all, nodes-distinct, nodes-first, others-in, nodes-sorted, nodes-near, nodes-along, nodes-short}
@@ -114,7 +114,7 @@ module _ (t : Table) where
     -- Theorem: the first accepting profile gives a witness.
     pub first-witness : {x : Item Transition Profile} → first (accepting t) (profiles t (nodes t)) ≡ some x
         → let there = stem-to (x .at .first) (nodes t) in
-        Witness t (length there) (length (x .way)) (map (λ (s : Transition). s .letter) (there ++ x .way))
+        Witness t (length there) (length (x .way)) (map letter (there ++ x .way))
     first-witness {x} e =
         let l : Least (accepting t) by-rank (profiles t (nodes t)) x =
         first-some (accepting t) by-rank (profiles-sorted t distance (node-count t) rising (λ n m. near n (others-in t m))) e in

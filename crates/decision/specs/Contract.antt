@@ -11,7 +11,7 @@ use Rattle.formula.specs.Table.{Table, table}
 use Rattle.formula.specs.Reading.{Reading, parse}
 use Rattle.lasso.specs.Lasso.{Lasso, meets}
 use Rattle.tableau.specs.Saturation.{Subset}
-use Rattle.tableau.specs.Transition.{Transition}
+use Rattle.tableau.specs.Transition.{Transition, letter}
 use Rattle.tableau.specs.Nodes.{root, nodes}
 use Rattle.tableau.specs.Run.{Along}
 use Rattle.profile.specs.Profiles.{profiles}
@@ -45,7 +45,7 @@ pub record Witness (t : Table) (stem cycle : ℕ) (letters : List ℕ) : Type 0 
   pub accepted : AcceptingCycle t node around
   pub stem-is : stem ≡ length there
   pub cycle-is : cycle ≡ length around
-  pub letters-are : letters ≡ map (λ (s : Transition). s .letter) (there ++ around)
+  pub letters-are : letters ≡ map letter (there ++ around)
   pub cycle-fewest : (v : Subset) (ss : List Transition) → AcceptingCycle t v ss → cycle ≤ length ss
   pub stem-fewest : (v : Subset) (ss rs : List Transition) → AcceptingCycle t v ss → length ss ≡ cycle → Along t (root t) rs v
       → stem ≤ length rs

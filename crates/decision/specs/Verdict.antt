@@ -14,7 +14,7 @@ use Rattle.formula.specs.Table.{Table, table}
 use Rattle.formula.specs.Reading.{Reading, parse}
 use Rattle.formula.specs.declared.Refusal.{Refusal}
 use Rattle.tableau.specs.Saturation.{Subset, same-subset}
-use Rattle.tableau.specs.Transition.{Transition}
+use Rattle.tableau.specs.Transition.{Transition, letter-of, letter}
 use Rattle.tableau.specs.Nodes.{nodes}
 use Rattle.profile.specs.Profiles.{Profile, profiles, rejecting, accepting}
 
@@ -35,11 +35,11 @@ abbrev pub conclude : List (Item Transition Subset) → List (Item Transition Pr
 conclude ns ps none = Verdict.unsatisfiable (length ns) (length ps)
 conclude ns ps (some x) =
     let stem = stem-to (x .at .first) ns in
-    Verdict.satisfiable (length stem) (length (x .way)) (length ns) (length ps) (map (λ (s : Transition). s .letter) (stem ++ x .way))
+    Verdict.satisfiable (length stem) (length (x .way)) (length ns) (length ps) (map letter (stem ++ x .way))
 
 -- The questions 14 and 15, and then the first accepting profile. Profiles come in order of their runs' lengths.
 unfoldable pub decide : (N M : ℕ) → Table → Verdict
-unfolding nodes profiles rejecting
+unfolding letter-of nodes profiles rejecting
 decide N M t =
     let ns = nodes t in
     let ps = profiles t ns in

@@ -133,7 +133,7 @@ module _ (s : Store) (b : List ℕ) (p : ℕ) where
   Number-read offset r = (r ≡ two b (record-start s p + offset)) × (r < 65536)
 
   pub header-are : {e : Header} → Number-read 144 (e .first .0) → Number-read 146 (e .last .0) → Number-read 148 (e .parent)
-      → Number-read 150 (e .letter)
+      → e .letter ≡ two b (record-start s p + 150)
       → Header-of (record-of s b p) e
   unfolding found-at
   header-are f l q k =
@@ -141,8 +141,8 @@ module _ (s : Store) (b : List ℕ) (p : ℕ) where
         first = f .0;
         last = l .0;
         parent = q .0;
-        letter = k .0;
-        small = record { first = f .1; last = l .1; parent = q .1; letter = k .1 };
+        letter = k;
+        small = record { first = f .1; last = l .1; parent = q .1 };
       }
 
   pub triple-set-at : {at : ℕ} → at ≡ record-start s p → triples-at (s .n) b at ≡ record-of s b p .at .triple-set

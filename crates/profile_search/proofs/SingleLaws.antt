@@ -23,14 +23,15 @@ use Rattle.base.proofs.ShiftLaws.{same-low-bits}
 use Rattle.base.proofs.WordLaws.{word-bit, word-lt, word-inj}
 use Rattle.formula.specs.Table.{Table}
 use Rattle.tableau.specs.Saturation.{Subset, same-subset, saturate}
-use Rattle.tableau.specs.Transition.{ors, choice-of, Transition, by-word, transitions}
+use Rattle.tableau.specs.Transition.{letter-of, ors, choice-of, Transition, by-word, transitions}
 use Rattle.tableau.specs.Inner.{table-of, Leads-nowhere, Target-by}
 use Rattle.tableau.specs.Area.{eight, words-at, lookup, Subsets-sized}
 use Rattle.tableau.specs.declared.NodeNumber.{NodeNumber}
+use Rattle.tableau.specs.declared.Requirement.{Requirement}
 use Rattle.tableau.specs.declared.Lookup.{Lookup}
 use Rattle.tableau.specs.declared.Lookup.the-variants.{Number, Absent}
 use Rattle.tableau.specs.declared.Target.the-variants.{Leads}
-use Rattle.tableau.proofs.TransitionLaws.{transition-with, letter-small, to-length, transitions-by-word, word-in}
+use Rattle.tableau.proofs.TransitionLaws.{transition-with, to-length, transitions-by-word, word-in}
 use Rattle.tableau.proofs.WordSets.{same-word}
 use Rattle.tableau.proofs.LoopLaws.{table-length}
 use Rattle.tableau.proofs.TargetLaws.{Step-found, a-target}
@@ -188,18 +189,15 @@ module _ {rows : List ℕ} {count : ℕ} {r : Ranks} {s : Store} {nodes : ℕ} {
         grown-same (ap (λ (ys : List Transition). adds same-profile (stored s a had) (map (single-of t vs i v) ys))
         (sym (n .is v long (f ∙ node-is)))) (grown-still s had a l k)
 
-    module _ {from to letter : ℕ} (choice : x < 2 ^ ors t) (f : from ≡ eight a (8 * i))
-        (st : Target-by rows count x from (Leads to letter))
+    module _ {from to : ℕ} {required : Requirement} (choice : x < 2 ^ ors t) (f : from ≡ eight a (8 * i))
+        (st : Target-by rows count x from (Leads to required))
       where
-        found : Step-found t w (saturate t w v) to letter
+        found : Step-found t w (saturate t w v) to required
         found = a-target t w (saturate t w v) (st .is v long (f ∙ node-is))
 
         -- the transition that it is
         abbrev y : Transition
         y = transition-with t w (saturate t w v)
-
-        pub single-letter : letter < 65536
-        single-letter = omega (arith, found .letter-is, letter-small t w (saturate t w v))
 
         -- where the area has its node
         abbrev found-number : ℕ
@@ -226,18 +224,18 @@ module _ {rows : List ℕ} {count : ℕ} {r : Ranks} {s : Store} {nodes : ℕ} {
         pub single-small : {q : Lookup} (last : NodeNumber) → q ≡ lookup nodes found-number → q ≡ Number last → last .0 < 65536
         single-small last e n = omega (arith, the-number nodes found-number found-number-low last (sym e ∙ n), found-number-low, g .few)
 
-        pub single-some : {choice had q : ℕ} {d : List ℕ} {number last : NodeNumber} (triple-set : List ℕ) → number .0 ≡ i
-            → last .0 ≡ number-of vs (y .to) → choice ≡ word w
+        pub single-some : {choice had q letter : ℕ} {d : List ℕ} {number last : NodeNumber} (triple-set : List ℕ) → number .0 ≡ i
+            → last .0 ≡ number-of vs (y .to) → letter ≡ letter-of required → choice ≡ word w
             → Triples-of rows count choice from triple-set
             → Profiles-added s had a q d (found-of (record { first = number; last = last; parent = 0; letter = letter })
             (triples-in (s .n) triple-set) ∷ [])
             → Profiles-added s had a q d (singles-by t vs i v x)
-        single-some {had = had} triple-set e l c k m =
+        single-some {had = had} triple-set e l z c k m =
             let q : triples-in (s .n) triple-set ≡ triples t v w =
             ap (λ (n : ℕ). triples-in n triple-set) (g .nexts ∙ g .ranks .nexts-are) ∙ k v w (f ∙ node-is) c in
             grown-same
             ((λ j. add same-profile (stored s a had)
-            (record { at = record { first = e j; last = l j; triple-set = q j }; parent = 0; label = found .letter-is j }))
+            (record { at = record { first = e j; last = l j; triple-set = q j }; parent = 0; label = (z ∙ ap letter-of (found .required-is)) j }))
             ∙ ap (λ (ys : List Transition). adds same-profile (stored s a had) (map (single-of t vs i v) ys)) (sym (found .exists)))
             m
 

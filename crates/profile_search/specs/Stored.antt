@@ -64,12 +64,11 @@ pub record First-parted (s : Store) (b : List ℕ) (k node r : ℕ) : Type 0 whe
   pub before : (p : ℕ) → p < r → first-of s b p < node
   pub behind : (p : ℕ) → r ≤ p → p < k → node ≤ first-of s b p
 
--- the numbers of a record fit into its bytes
+-- the numbers of a record fit into its bytes; its letter always does
 pub record Header-fits (e : Header) : Type 0 where
   pub first : e .first .0 < 65536
   pub last : e .last .0 < 65536
   pub parent : e .parent < 65536
-  pub letter : e .letter < 65536
 
 -- e are the ends of a record, which fit into its bytes
 pub record Header-of (x : Found-profile) (e : Header) : Type 0 where

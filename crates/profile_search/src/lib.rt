@@ -23,7 +23,7 @@ pub struct Header {
     pub first: NodeNumber,
     pub last: NodeNumber,
     pub parent: usize,
-    pub letter: usize,
+    pub letter: u16,
 }
 
 // Where profiles are kept: from byte base on, at most capacity of them, over n operands of next.
@@ -66,7 +66,7 @@ pub fn header_of(area: &[u8], store: Store, p: usize) -> Header
         first: NodeNumber(get2(area, store, p, 144)),
         last: NodeNumber(get2(area, store, p, 146)),
         parent: get2(area, store, p, 148),
-        letter: get2(area, store, p, 150),
+        letter: get2(area, store, p, 150) as u16,
     }
 }
 
@@ -104,7 +104,7 @@ fn write(area: &mut [u8], store: Store, p: usize, header: Header, t: &[u8; 144])
     put2(area, store, p, 144, header.first.0);
     put2(area, store, p, 146, header.last.0);
     put2(area, store, p, 148, header.parent);
-    put2(area, store, p, 150, header.letter);
+    put2(area, store, p, 150, base::wide16(header.letter));
 }
 
 // Whether record p is this profile.
@@ -255,7 +255,7 @@ fn single(
 {
     match tableau::by_word(rows, subformulas, unmet, from.word, from.set) {
         Target::Nothing => count,
-        Target::Leads { to, letter } => match tableau::find(area, nodes, to) {
+        Target::Leads { to, required } => match tableau::find(area, nodes, to) {
             Lookup::Absent => count,
             Lookup::Number(last) => {
                 let choice = tableau::choice_of(rows, subformulas, from.word);
@@ -265,7 +265,7 @@ fn single(
                     first: first,
                     last: last,
                     parent: 0,
-                    letter: letter as usize,
+                    letter: tableau::letter_of(required),
                 };
                 add(area, store, count, header, &t)
             }

@@ -18,7 +18,7 @@ use Rattle.formula.specs.Formula.{Formula}
 use Rattle.formula.specs.Table.{Table, table}
 use Rattle.formula.specs.Reading.{Reading, parse}
 use Rattle.tableau.specs.Saturation.{Subset, same-subset}
-use Rattle.tableau.specs.Transition.{Transition, transitions}
+use Rattle.tableau.specs.Transition.{Transition, letter, transitions}
 use Rattle.tableau.specs.Nodes.{root, operands, nodes}
 use Rattle.profile.specs.Profiles as literal
 use Rattle.profile.proofs.RootLaws.{root-apart}
@@ -29,11 +29,11 @@ use Rattle.profile_tables.proofs.CarryLaws.{carries-rejecting}
 use Rattle.profile_tables.proofs.TableLaws.{Table-formed}
 use Rattle.profile_tables.proofs.FormedLaws.{parse-formed}
 use Rattle.profile_tables.proofs.NodeNumbers.{sets, same-range}
-use Rattle.profile_tables.proofs.RunLaws.{Item-listed, letter, Codes, profiles-match}
+use Rattle.profile_tables.proofs.RunLaws.{Item-listed, Codes, profiles-match}
 
 -- the letters of a profile's run
 abbrev pub letters-of : Item-listed → List ℕ
-letters-of y = map (λ (s : Transition). s .letter) (y .way)
+letters-of y = map letter (y .way)
 
 -- x, number i of the profiles that are kept, and its counterpart among the profiles ys
 pub record Agreed (t : Table) (ys : List Item-listed) (i : ℕ) (x : Found-profile) : Type 0 where

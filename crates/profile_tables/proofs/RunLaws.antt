@@ -21,7 +21,7 @@ use Rattle.base.proofs.SearchLaws.{Visits, visits-cons, visits-later, Distinct,
 use Rattle.base.proofs.MatchLaws.{start, item, Follows, Matches, Thins, search-matches, pairs-thins}
 use Rattle.formula.specs.Table.{Table}
 use Rattle.tableau.specs.Saturation.{Subset, same-subset}
-use Rattle.tableau.specs.Transition.{Transition, transitions}
+use Rattle.tableau.specs.Transition.{Transition, letter, transitions}
 use Rattle.tableau.specs.Nodes.{root, operands, nodes}
 use Rattle.tableau.proofs.SaturationLaws.{subset-sound, subset-refl}
 use Rattle.tableau.proofs.NodeLaws.{nodes-distinct, nodes-first}
@@ -113,9 +113,6 @@ later (Distinct.more n d) = d
 -- a profile as the definition's search lists it, with the transitions of its run
 abbrev pub Item-listed : Type 0
 Item-listed = Item Transition literal.Profile
-
-abbrev pub letter : Transition → ℕ
-letter s = s .letter
 
 module _ (t : Table) where
   -- a profile over node numbers and tables, and the profile that it stands for; it does not end at the root, which is number 0

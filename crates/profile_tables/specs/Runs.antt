@@ -9,7 +9,7 @@ use Rattle.base.specs.Lists.{flat-map, index, tail}
 use Rattle.base.specs.Spread.{Numbered, adds, spread}
 use Rattle.formula.specs.Table.{Table}
 use Rattle.tableau.specs.Saturation.{Subset, same-subset}
-use Rattle.tableau.specs.Transition.{Transition, transitions}
+use Rattle.tableau.specs.Transition.{Transition, letter, transitions}
 use Rattle.tableau.specs.Nodes.{operands}
 use Rattle.profile_tables.specs.Triples.{Triples, same-triples, join, rejecting}
 use Rattle.profile_tables.specs.Marks.{triples, leasts}
@@ -60,7 +60,7 @@ abbrev pub single-of : Table → List Subset → (i : ℕ) → Subset → Transi
 single-of t ns i v s = record {
   at = record { first = i; last = number-of ns (s .to); triple-set = triples t v (s .choice) };
   parent = 0;
-  label = s .letter;
+  label = letter s;
 }
 
 -- the runs of one transition from node i

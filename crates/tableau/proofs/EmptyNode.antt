@@ -1,5 +1,5 @@
--- MEANING 3.6. Nothing is saturated to nothing, which requires nothing, so each transition of the empty node leads back to it with no
--- signal (`empty-transition`), and there is one, with no pick (`empty-transitions`). Assumes nothing.
+-- MEANING 3.6. Nothing is saturated to nothing, so each transition of the empty node requires nothing and leads back to it with no signal
+-- (`empty-transition`), and there is one, with no pick (`empty-transitions`). Assumes nothing.
 use mathlib.Core.Path.{_≡_, refl, ap, subst, _∙_}
 use mathlib.Core.Bool.{Bool, true, false, cond}
 use mathlib.Core.List.{[], _∷_, List·Memᴰ, Memᴰ·map}
@@ -11,8 +11,9 @@ use Rattle.base.proofs.MemberLaws.{range-in}
 use Rattle.base.proofs.Inside.{inside-refl}
 use Rattle.formula.specs.Table.{Table, is-or}
 use Rattle.tableau.specs.Saturation.{Subset, has, nothing, saturate}
-use Rattle.tableau.specs.Transition.{operators-in, ors, choice-of, choices, Transition, transitions}
+use Rattle.tableau.specs.Transition.{operators-in, ors, choice-of, choices, Transition, letter, letter-of, transitions}
 use Rattle.tableau.proofs.SaturationLaws.{inside-has, subset-ext, nothing-has, saturate-length, saturate-least}
+use Rattle.tableau.proofs.RequirementLaws.{nothing-required, required-none}
 use Rattle.tableau.proofs.TransitionLaws.{transition-with, letter-none, transition-is, transition-in}
 
 none-in : (t : Table) → operators-in t (nothing t) ≡ []
@@ -35,15 +36,19 @@ module _ (t : Table) where
       (λ e h. absurd (nothing-has t e h))
 
   -- the transition of the empty node with a choice
-  back : (w : Subset) → transition-with t w (saturate t w (nothing t)) ≡ record { choice = w; letter = 0; to = nothing t }
-  back w = ap (transition-with t w) (saturated-nothing w) ∙ rw (none-in t, letter-none)
+  back : (w : Subset)
+      → transition-with t w (saturate t w (nothing t)) ≡ record { choice = w; required = nothing-required; to = nothing t }
+  back w = ap (transition-with t w) (saturated-nothing w) ∙ rw (none-in t, required-none)
 
-  pub empty-transition : (x : Transition) → List·Memᴰ x (transitions t (nothing t)) → (x .to ≡ nothing t) × (x .letter ≡ 0)
+  pub empty-transition : (x : Transition) → List·Memᴰ x (transitions t (nothing t))
+      → (x .to ≡ nothing t) × (x .required ≡ nothing-required) × (letter x ≡ 0)
   empty-transition x m =
       let e = transition-is t (nothing t) x m ∙ back (x .choice) in
-      (ap (λ (y : Transition). y .to) e, ap (λ (y : Transition). y .letter) e)
+      let r = ap (λ (y : Transition). y .required) e in
+      (ap (λ (y : Transition). y .to) e, r, ap letter-of r ∙ letter-none)
 
-  pub empty-transitions : List·Memᴰ (record { choice = nothing t; letter = 0; to = nothing t }) (transitions t (nothing t))
+  pub empty-transitions :
+      List·Memᴰ (record { choice = nothing t; required = nothing-required; to = nothing t }) (transitions t (nothing t))
   empty-transitions =
       subst (λ (x : Transition). List·Memᴰ x (transitions t (nothing t))) (back (nothing t))
       (transition-in t (nothing t) (nothing t)

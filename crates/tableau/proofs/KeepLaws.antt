@@ -6,7 +6,7 @@ use mathlib.Core.Path.{_≡_, refl, sym, ap, subst, subst⁻¹, _∙_}
 use mathlib.Core.Logic.{inl, inr}
 use mathlib.Core.Bool.{Bool, true, false, cond, _||_}
 use mathlib.Core.List.{List, [], _∷_, _++_, map, map-append, map-map, List·Memᴰ, List·Memᴰ·head, List·Memᴰ·tail, Memᴰ·of-map}
-use Prim.Native.Nat.{ℕ, _+_, _-_, _*_, _%_, _^_, _≤_, _<_, min}
+use Prim.Native.Nat.{ℕ, _+_, _-_, _*_, _^_, _≤_, _<_, min}
 use native.Mathlib.Omega.{arith}
 use lib.Dec.{eqb}
 use lib.ListN.{length, set, take, drop, length-append, length-map, length-set}
@@ -139,14 +139,13 @@ module _ {area o : List ℕ} {known : ℕ} (s : Arrival) (capacity : ℕ) (fits 
   }
 
   pub add-new : member (s .set) (words-at area 0 known) ≡ false → known < capacity → 2 * capacity ≤ length o → {area′ o′ : List ℕ}
-      → area′ ≡ with-number 8 area (8 * known) (s .set) → o′ ≡ with-note o known (s .from .0) (s .letter % 65536)
+      → area′ ≡ with-number 8 area (8 * known) (s .set) → o′ ≡ with-note o known (s .from .0) (s .letter)
       → Node-added known capacity s area o area′ o′ (known + 1)
   add-new h l room {area′} {o′} p q = record {
     is = λ ws x a e k small.
-        let small-letter = e .letter-small in
         subst⁻¹ (λ (b : Bool). Nodes-noted capacity (known + 1) a area′ o′ (cond b ws (ws ++ (x ∷ [])))) (tested k small e h)
-        (keeps-new k fits x (s .from .0) (s .letter % 65536) l room (p ∙ ap (with-number 8 area (8 * known)) (sym (e .set-is))) q
-        (sym (e .from-is)) (omega (arith, e .letter-is)));
+        (keeps-new k fits x (s .from .0) (s .letter) l room (p ∙ ap (with-number 8 area (8 * known)) (sym (e .set-is))) q
+        (sym (e .from-is)) (sym (e .letter-is)));
   }
 
 -- the search over sets: a node is known if its word is

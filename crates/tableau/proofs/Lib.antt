@@ -1,4 +1,5 @@
 pub mod SaturationLaws
+pub mod RequirementLaws
 pub mod TransitionLaws
 pub mod EmptyNode
 pub mod ChoiceLaws

@@ -1,10 +1,13 @@
 -- The loops over the rows, each as one turn: what holds of the first e rows holds, after the turn, of the first e + 1. So no loop needs
 -- more than the promise of the function it stands in, for a part of the table; the part grows at its end (`operators-more`), and the
 -- definitions go along with that (`choice-append`, `operators-in-more`). A loop over the bits of a set does the same, for
--- a row whose bit is clear requires nothing (`required-upto`). Assumes nothing.
+-- a row whose bit is clear requires nothing (`put-upto`); and the bits put in are the definition's words, since every signal is one of
+-- the sixteen (`put-required`). Assumes nothing.
 use mathlib.Core.Path.{_≡_, refl, sym, ap, subst, subst⁻¹, _∙_}
 use mathlib.Core.Bool.{Bool, true, false, cond, _||_, or-false}
-use mathlib.Core.List.{List, [], _∷_, _++_, append-nil}
+use mathlib.Core.Logic.{inl, inr}
+use mathlib.Core.List.{List, [], _∷_, _++_, append-nil, List·Memᴰ, List·Memᴰ·head, List·Memᴰ·tail, List·Memᴰ·not-nil}
+use mathlib.Core.List.{List·Memᴰ·cases-cons, Memᴰ·of-map}
 use Prim.Native.Nat.{ℕ, zero, suc, _+_, _*_, _/_, _%_, _^_, _≤_, _<_}
 use native.Mathlib.Nat.{add-zero, zero-add}
 use native.Mathlib.Numerals.{add-one}
@@ -15,22 +18,25 @@ use lib.Dec.{T, eqb}
 use lib.Pow.{shl-exact, shr-shr}
 use lib.ListN.{length}
 use borrow.Author.Tests.{eqb-false, ne-eqb}
-use Rattle.base.specs.Lists.{flat-map, any}
+use Rattle.base.specs.Lists.{flat-map, any, range}
 use Rattle.base.specs.Bits.{bit, word, Lowest, Without}
 use Rattle.base.proofs.BoolLaws.{to-T}
 use Rattle.base.proofs.BitLaws.{set-on, set-none}
-use Rattle.base.proofs.AppendLaws.{any-append, flat-map-append}
+use Rattle.base.proofs.AppendLaws.{any-append, flat-map-append, range-of}
+use Rattle.base.proofs.MemberLaws.{flat-map-of}
 use Rattle.base.proofs.NumberLaws.{values-length, values-add}
 use Rattle.base.proofs.ShiftLaws.{low-below, low-bit}
 use Rattle.base.proofs.WordLaws.{no-bit, word-bit, word-past}
 use Rattle.formula.specs.Table.{Operator, Table, is-or}
 use Rattle.formula.specs.Rows.{operator-at}
+use Rattle.formula.specs.Access.{Fits}
 use Rattle.tableau.specs.Saturation.{Subset, has}
-use Rattle.tableau.specs.Transition.{operators-in, requires, is-false, next-of, ors, choice-of}
-use Rattle.tableau.specs.Inner.{table-of, with-bits, Requires-more, Required, Required-by}
-use Rattle.tableau.specs.declared.Requirement.{Requirement}
+use Rattle.tableau.specs.Transition.{operators-in, requires, is-false, required-word, next-of, ors, choice-of}
+use Rattle.tableau.specs.Inner.{table-of, Formed, with-bits, Requires-more, Required, Required-by}
+use Rattle.tableau.specs.declared.Gathered.{Gathered}
 use Rattle.tableau.proofs.ChoiceLaws.{choice-of-length}
-use Rattle.tableau.proofs.WordSets.{with-bits-append, word-more}
+use Rattle.tableau.proofs.WordSets.{All-below, with-bits-append, word-more, members-word}
+use Rattle.tableau.proofs.RowLaws.{signals-below}
 
 pub table-length : (rows : List ℕ) (count : ℕ) → length (table-of rows count) ≡ count
 table-length rows count = values-length (operator-at rows) 0 count
@@ -143,19 +149,31 @@ flat-mapped g os o x y p q =
     q ∙ ap (with-bits (g o)) p ∙ sym (with-bits-append (flat-map g os) (g o) 0)
     ∙ ap (λ (l : List ℕ). with-bits l 0) (sym (flat-map-append g os (o ∷ []) ∙ ap (λ (l : List ℕ). flat-map g os ++ l) (append-nil (g o))))
 
-required-one : (os : List Operator) (o : Operator) (q r : Requirement) → Required os q → Requires-more o q r → Required (os ++ (o ∷ [])) r
-required-one os o q r k m = record {
-  present-is = flat-mapped (requires true) os o (q .present) (r .present) (k .present-is) (m .present-is);
-  absent-is = flat-mapped (requires false) os o (q .absent) (r .absent) (k .absent-is) (m .absent-is);
+-- The words have the bits that the operators require put in one after another.
+pub record Bits-put (os : List Operator) (r : Gathered) : Type 0 where
+  pub present-is : r .required .present ≡ with-bits (flat-map (requires true) os) 0
+  pub absent-is : r .required .absent ≡ with-bits (flat-map (requires false) os) 0
+  pub falsum-is : r .falsum ≡ any is-false os
+  pub to-is : r .to ≡ with-bits (flat-map next-of os) 0
+
+put-one : (os : List Operator) (o : Operator) (q r : Gathered) → Bits-put os q → Requires-more o q r → Bits-put (os ++ (o ∷ [])) r
+put-one os o q r k m = record {
+  present-is = flat-mapped (requires true) os o (q .required .present) (r .required .present) (k .present-is) (m .present-is);
+  absent-is = flat-mapped (requires false) os o (q .required .absent) (r .required .absent) (k .absent-is) (m .absent-is);
   falsum-is = m .falsum-is ∙ ap (λ (b : Bool). b || is-false o) (k .falsum-is)
       ∙ sym (any-append is-false os (o ∷ []) ∙ ap (λ (b : Bool). any is-false os || b) (or-false (is-false o)));
   to-is = flat-mapped next-of os o (q .to) (r .to) (k .to-is) (m .to-is);
 }
 
-required-none : (rows : List ℕ) (count set : ℕ) → Required-by rows count 0 set (record { present = 0; absent = 0; falsum = false; to = 0 })
-required-none rows count set = record { is = λ s l e. record { present-is = refl; absent-is = refl; falsum-is = refl; to-is = refl } }
+-- what the first e rows of a set require
+pub record Put-by (rows : List ℕ) (count e set : ℕ) (r : Gathered) : Type 0 where
+  pub is : (s : Subset) → length s ≡ count → set ≡ word s → Bits-put (operators-in (table-of rows e) s) r
 
-module _ {rows : List ℕ} {count e set : ℕ} {q : Requirement} (k : Required-by rows count e set q) where
+put-none : (rows : List ℕ) (count set : ℕ)
+    → Put-by rows count 0 set (record { required = record { present = 0; absent = 0 }; falsum = false; to = 0 })
+put-none rows count set = record { is = λ s l e. record { present-is = refl; absent-is = refl; falsum-is = refl; to-is = refl } }
+
+module _ {rows : List ℕ} {count e set : ℕ} {q : Gathered} (k : Put-by rows count e set q) where
   in-more : (s : Subset) (b : Bool) → set ≡ word s → bit set e ≡ b
       → operators-in (table-of rows (e + 1)) s ≡ operators-in (table-of rows e) s ++ cond b (operator-at rows e ∷ []) []
   in-more s b n h =
@@ -164,57 +182,89 @@ module _ {rows : List ℕ} {count e set : ℕ} {q : Requirement} (k : Required-b
       ∙ ap (λ (d : Bool). operators-in (table-of rows e) s ++ cond d (operator-at rows e ∷ []) [])
       (sym (word-bit s e) ∙ ap (λ (x : ℕ). bit x e) (sym n) ∙ h)
 
-  required-more : bit set e ≡ true → {r : Requirement} → Requires-more (operator-at rows e) q r → Required-by rows count (e + 1) set r
-  required-more h {r} m = record {
+  put-more : bit set e ≡ true → {r : Gathered} → Requires-more (operator-at rows e) q r → Put-by rows count (e + 1) set r
+  put-more h {r} m = record {
     is = λ s l n.
-        subst⁻¹ (λ (os : List Operator). Required os r) (in-more s true n h)
-        (required-one (operators-in (table-of rows e) s) (operator-at rows e) q r (k .is s l n) m);
+        subst⁻¹ (λ (os : List Operator). Bits-put os r) (in-more s true n h)
+        (put-one (operators-in (table-of rows e) s) (operator-at rows e) q r (k .is s l n) m);
   }
 
-  required-same : bit set e ≡ false → Required-by rows count (e + 1) set q
-  required-same h = record {
-    is = λ s l n. subst⁻¹ (λ (os : List Operator). Required os q) (in-more s false n h ∙ append-nil (operators-in (table-of rows e) s))
+  put-same : bit set e ≡ false → Put-by rows count (e + 1) set q
+  put-same h = record {
+    is = λ s l n. subst⁻¹ (λ (os : List Operator). Bits-put os q) (in-more s false n h ∙ append-nil (operators-in (table-of rows e) s))
         (k .is s l n);
   }
 
 -- rows whose bits are clear are passed over
-required-upto : {rows : List ℕ} {count e set : ℕ} {q : Requirement} (m : ℕ) → e ≤ m → Required-by rows count e set q
-    → ((k : ℕ) → e ≤ k → k < m → bit set k ≡ false) → Required-by rows count m set q
-required-upto {rows} {count} {e} {set} {q} m l r =
-    le-ind (λ (m : ℕ). ((k : ℕ) → e ≤ k → k < m → bit set k ≡ false) → Required-by rows count m set q)
+put-upto : {rows : List ℕ} {count e set : ℕ} {q : Gathered} (m : ℕ) → e ≤ m → Put-by rows count e set q
+    → ((k : ℕ) → e ≤ k → k < m → bit set k ≡ false) → Put-by rows count m set q
+put-upto {rows} {count} {e} {set} {q} m l r =
+    le-ind (λ (m : ℕ). ((k : ℕ) → e ≤ k → k < m → bit set k ≡ false) → Put-by rows count m set q)
     (λ h. r)
     (λ m l f h.
-    subst (λ (n : ℕ). Required-by rows count n set q) (add-one m) (required-same (f (λ k a b. h k a (omega arith))) (h m l (omega arith))))
+    subst (λ (n : ℕ). Put-by rows count n set q) (add-one m) (put-same (f (λ k a b. h k a (omega arith))) (h m l (omega arith))))
     m l
 
+-- the operators of a set are operators of rows
+in-table : (t : Table) (s : Subset) {o : Operator} → List·Memᴰ o (operators-in t s) → List·Memᴰ o t
+in-table [] s m = m
+in-table (p ∷ t) [] m = absurd (List·Memᴰ·not-nil m)
+in-table (p ∷ t) (true ∷ s) m = elim (List·Memᴰ·cases-cons m) [ inl e ↦ List·Memᴰ·head e | inr r ↦ List·Memᴰ·tail (in-table t s r) ]
+in-table (p ∷ t) (false ∷ s) m = List·Memᴰ·tail (in-table t s m)
+
+module _ {rows : List ℕ} {count : ℕ} (f : Formed rows count) (s : Subset) where
+  abbrev os : List Operator
+  os = operators-in (table-of rows count) s
+
+  -- what is gathered of them is in its range
+  pub flat-mapped-below : (g : Operator → List ℕ) (n : ℕ)
+      → ((o : Operator) → Fits count o → All-below n (g o)) → All-below n (flat-map g os)
+  flat-mapped-below g n h m r =
+      let (o, q, k) = flat-map-of g os r in
+      let (e, i, p) = Memᴰ·of-map (operator-at rows) (range 0 count) (in-table (table-of rows count) s q) in
+      h (operator-at rows e) (f .fits e (omega (arith, range-of 0 count i))) m (subst⁻¹ (λ (x : Operator). List·Memᴰ m (g x)) p k)
+
+  -- so the bits put in are the definition's word
+  required-put : (p : Bool) → with-bits (flat-map (requires p) os) 0 ≡ required-word p os
+  unfolding required-word
+  required-put p = members-word 16 (flat-map (requires p) os) (flat-mapped-below (requires p) 16 (signals-below p count))
+
+  put-required : {r : Gathered} → Bits-put os r → Required os r
+  put-required b = record {
+    present-is = b .present-is ∙ required-put true;
+    absent-is = b .absent-is ∙ required-put false;
+    falsum-is = b .falsum-is;
+    to-is = b .to-is;
+  }
+
 -- The loop over the bits of a set: the rows below `upto` are passed, and the rest has the set's bits from there on.
-pub record Bits-passed (rows : List ℕ) (count set rest : ℕ) (q : Requirement) : Type 0 where
+pub record Bits-passed (rows : List ℕ) (count set rest : ℕ) (q : Gathered) : Type 0 where
   pub upto : ℕ
   pub few : upto ≤ count
-  pub required : Required-by rows count upto set q
+  pub required : Put-by rows count upto set q
   pub ahead : (k : ℕ) → T (bit rest k) → (upto ≤ k) × (k < count)
   pub same : (k : ℕ) → upto ≤ k → k < count → bit set k ≡ bit rest k
 
 pub passed-none : (rows : List ℕ) {count rest : ℕ} (set : ℕ) → rest ≡ set % 2 ^ count
-    → Bits-passed rows count set rest (record { present = 0; absent = 0; falsum = false; to = 0 })
+    → Bits-passed rows count set rest (record { required = record { present = 0; absent = 0 }; falsum = false; to = 0 })
 passed-none rows {count} {rest} set q = record {
   upto = 0;
   few = omega arith;
-  required = required-none rows count set;
+  required = put-none rows count set;
   ahead = λ k t. (omega arith, low-below count set k (subst (λ (x : ℕ). T (bit x k)) q t));
   same = λ k a b. sym (ap (λ (x : ℕ). bit x k) q ∙ low-bit count set k b);
 }
 
-module _ {rows : List ℕ} {count set rest : ℕ} {q : Requirement} (p : Bits-passed rows count set rest q) where
+module _ {rows : List ℕ} {count set rest : ℕ} {q : Gathered} (p : Bits-passed rows count set rest q) where
   pub passed-below : {e : ℕ} → Lowest rest e → e < count
   passed-below {e} l = p .ahead e (to-T (bit rest e) (l .there)) .1
 
-  pub passed-more : {e left : ℕ} {r : Requirement} → Lowest rest e → Without rest e left → Requires-more (operator-at rows e) q r
+  pub passed-more : {e left : ℕ} {r : Gathered} → Lowest rest e → Without rest e left → Requires-more (operator-at rows e) q r
       → Bits-passed rows count set left r
   passed-more {e} {left} {r} l o m = record {
     upto = e + 1;
     few = omega (arith, here .1);
-    required = required-more (required-upto e (here .0) (p .required) clear) (p .same e (here .0) (here .1) ∙ l .there) m;
+    required = put-more (put-upto e (here .0) (p .required) clear) (p .same e (here .0) (here .1) ∙ l .there) m;
     ahead = λ k t. from k (eqb k e) refl (subst T (o .bits k) t);
     same = λ k a b.
         p .same k (omega (arith, here .0)) b
@@ -235,5 +285,8 @@ module _ {rows : List ℕ} {count set rest : ℕ} {q : Requirement} (p : Bits-pa
           after (yes h) = absurd (subst T (l .none-below k h) t)
           after (no h) = omega (arith, eqb-false k e i)
 
-  pub passed-all : rest ≡ 0 → Required-by rows count count set q
-  passed-all z = required-upto count (p .few) (p .required) (λ k a b. p .same k a b ∙ ap (λ (x : ℕ). bit x k) z ∙ no-bit k)
+  pub passed-all : Formed rows count → rest ≡ 0 → Required-by rows count set q
+  passed-all f z = record { is = λ s l e. put-required f s (all .is s l e) }
+    where
+      all : Put-by rows count count set q
+      all = put-upto count (p .few) (p .required) (λ k a b. p .same k a b ∙ ap (λ (x : ℕ). bit x k) z ∙ no-bit k)

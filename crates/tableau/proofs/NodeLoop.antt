@@ -22,16 +22,17 @@ use Rattle.base.proofs.SpreadLaws.{adds-append, adds-at, After-turns, turns-sta
 use Rattle.base.proofs.WordLaws.{word-set, word-none}
 use Rattle.formula.specs.Table.{Operator, Table}
 use Rattle.tableau.specs.Saturation.{Subset, same-subset, nothing, saturate}
-use Rattle.tableau.specs.Transition.{ors, choice-of, Transition, by-word, transitions}
+use Rattle.tableau.specs.Transition.{letter-of, ors, choice-of, Transition, by-word, transitions}
 use Rattle.tableau.specs.Nodes.{root, nodes}
 use Rattle.tableau.specs.Origins.{Origins}
 use Rattle.tableau.specs.Inner.{table-of, Formed, Target-by}
 use Rattle.tableau.specs.Area.{eight, store, Nodes-held, reachable, Reached-node, worded, root-reached, reached-by, leads, outs}
 use Rattle.tableau.specs.Area.{Reached-sized, Arrives, Nodes-noted, Node-added, Followed, Expanded}
 use Rattle.tableau.specs.declared.NodeNumber.{NodeNumber}
+use Rattle.tableau.specs.declared.Requirement.{Requirement}
 use Rattle.tableau.specs.declared.Target.{Target}
 use Rattle.tableau.specs.declared.Target.the-variants.{Leads, Nothing}
-use Rattle.tableau.proofs.TransitionLaws.{transition-with, letter-small, to-length, transitions-by-word}
+use Rattle.tableau.proofs.TransitionLaws.{transition-with, to-length, transitions-by-word}
 use Rattle.tableau.proofs.NodeLaws.{root-length}
 use Rattle.tableau.proofs.LoopLaws.{table-length}
 use Rattle.tableau.proofs.TargetLaws.{Step-found, a-target, target-nowhere}
@@ -98,26 +99,27 @@ follow-nowhere {known = known} {capacity} {area} {o} i n = record {
 }
 
 -- what an arrival says of the node that a transition leads to
-arrives : (i : ℕ) {to p : ℕ} (t : Table) (w s : Subset) → Step-found t w s to p → (number : NodeNumber) → number .0 ≡ i
+arrives : (i : ℕ) {to p : ℕ} {required : Requirement} (t : Table) (w s : Subset) → Step-found t w s to required
+    → p ≡ letter-of required → (number : NodeNumber) → number .0 ≡ i
     → Arrives (record { set = to; from = number; letter = p }) (worded (reached-by i (transition-with t w s)))
-arrives i t w s f number e = record {
+arrives i t w s f l number e = record {
   set-is = sym (f .to-is);
   from-is = omega (arith, e);
-  letter-is = sym (f .letter-is);
-  letter-small = omega (arith, f .letter-is, letter-small t w s);
+  letter-is = sym (l ∙ ap letter-of (f .required-is));
 }
 
-pub follow-some : {target : Target} {known capacity to p r : ℕ} {area o area′ o′ : List ℕ} (number : NodeNumber) → target ≡ Leads to p
+pub follow-some : {target : Target} {known capacity to p r : ℕ} {required : Requirement} {area o area′ o′ : List ℕ} (number : NodeNumber)
+    → target ≡ Leads to required → p ≡ letter-of required
     → known ≤ capacity → Node-added known capacity (record { set = to; from = number; letter = p }) area o area′ o′ r
     → Followed (number .0) target known capacity area o area′ o′ r
-follow-some {target} {known} {capacity} {to} {p} {r} {area} {o} {area′} {o′} number q h ad = record {
+follow-some {target} {known} {capacity} {to} {p} {r} {required} {area} {o} {area′} {o′} number q c h ad = record {
   is = λ rows count from x f st. go rows count from x f (subst (Target-by rows count x from) q st);
 }
   where
     i : ℕ
     i = number .0
 
-    go : (rows : List ℕ) (count from x : ℕ) → Formed rows count → Target-by rows count x from (Leads to p)
+    go : (rows : List ℕ) (count from x : ℕ) → Formed rows count → Target-by rows count x from (Leads to required)
         → (l : List Reached-node) (v : Subset) (a : List ℕ) → Nodes-noted capacity known a area o (map worded l) → Reached-sized count l
         → from ≡ word v → length v ≡ count
         → Nodes-noted capacity r a area′ o′ (map worded (adds same-subset l (leads (table-of rows count) i v x)))
@@ -129,7 +131,7 @@ follow-some {target} {known} {capacity} {to} {p} {r} {area} {o} {area′} {o′}
         let one : leads t i v x ≡ y ∷ [] = ap (map (reached-by i)) (z .exists) in
         let long : length (y .at) ≡ count = to-length t w (saturate t w v) ∙ table-length rows count in
         subst⁻¹ (λ (ys : List Reached-node). Nodes-noted capacity r a area′ o′ (map worded (adds same-subset l ys))) one
-        (keeps-one l k h y (f .few) sz long (arrives i t w (saturate t w v) z number refl) ad)
+        (keeps-one l k h y (f .few) sz long (arrives i t w (saturate t w v) z c number refl) ad)
 
 -- the loop over the choice words: the nodes that the first x of them lead to from node i are in the area
 pub record Expanding (rows : List ℕ) (count i from known capacity : ℕ) (area₀ o₀ : List ℕ) (all x : ℕ) (area o : List ℕ) : Type 0 where
@@ -204,7 +206,6 @@ find-start {rows} {count} {capacity} {known} {a} {o₀} number f e ad =
       set-is = root-word t (omega (arith, table-length rows count, f .some));
       from-is = sym e;
       letter-is = refl;
-      letter-small = omega arith;
     } in
     record {
       found = root-reached t ∷ [];

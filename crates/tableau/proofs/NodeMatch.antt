@@ -18,15 +18,12 @@ use Rattle.base.proofs.MatchLaws.{Before, start, item, Follows, Matches, Thins,
 use Rattle.base.proofs.MatchLaws.{pairs-thins, matches-vertices}
 use Rattle.formula.specs.Table.{Table}
 use Rattle.tableau.specs.Saturation.{Subset, same-subset}
-use Rattle.tableau.specs.Transition.{Transition, transitions}
+use Rattle.tableau.specs.Transition.{Transition, letter, transitions}
 use Rattle.tableau.specs.Nodes.{root, edges, operands, nodes}
 use Rattle.tableau.specs.Origins.{way-letters, parent-at, Origin, Origins}
 use Rattle.tableau.specs.Area.{reachable, Reached-node, worded, root-reached, reached-by, outs, Note-of}
 use Rattle.tableau.proofs.SaturationLaws.{subset-sound, subset-refl}
 use Rattle.tableau.proofs.NodeLaws.{nodes-few}
-
-abbrev letter : Transition → ℕ
-letter s = s .letter
 
 -- a set stands for itself
 abbrev Itself : Subset → Subset → Type 0
@@ -51,7 +48,7 @@ module _ (t : Table) where
     before = map letter (y .way);
     parent = item stands;
     way = map-append letter (y .way) (s ∷ [])
-        ∙ ap (λ (b : Bool). map letter (y .way) ++ cond b [] (s .letter ∷ [])) (sym (eqb·suc-zero i));
+        ∙ ap (λ (b : Bool). map letter (y .way) ++ cond b [] (letter s ∷ [])) (sym (eqb·suc-zero i));
   }
 
   expands : (all : List (Item Transition Subset)) (i : ℕ) (x : Reached-node) (y : Item Transition Subset) → At all i y → x .at ≡ y .at

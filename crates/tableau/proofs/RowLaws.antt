@@ -15,8 +15,9 @@ use Rattle.formula.specs.declared.Operator.the-variants.{Constant, Signal, Vari
 use Rattle.formula.proofs.FitLaws as fits
 use Rattle.tableau.specs.Saturation.{moves}
 use Rattle.tableau.specs.Transition.{requires, next-of}
-use Rattle.tableau.specs.Inner.{Formed, with-bits, Requires-more}
+use Rattle.tableau.specs.Inner.{Formed, with-bits, with-signal, Requires-more}
 use Rattle.tableau.specs.declared.Requirement.{Requirement}
+use Rattle.tableau.specs.declared.Gathered.{Gathered}
 use Rattle.tableau.proofs.WordSets.{All-below, below-none, below-cons, below-one}
 
 pub placed : {rows : List ℕ} {count e : ℕ} → Formed rows count → e < count → Placed rows e
@@ -39,27 +40,26 @@ next-below n (Operator.pair o l r) f = below-none n
 next-below n (Operator.next g) f = below-one n g f
 next-below n (Operator.fix g b) f = below-none n
 
-pub present-below : (n : ℕ) (o : Operator) → Fits n o → All-below 16 (requires true o)
-present-below n (Operator.leaf (Leaf.constant b)) f = below-none 16
-present-below n (Operator.leaf (Leaf.signal true j)) f = below-one 16 j (omega arith)
-present-below n (Operator.leaf (Leaf.signal false j)) f = below-none 16
-present-below n (Operator.variable m) f = below-none 16
-present-below n (Operator.pair o l r) f = below-none 16
-present-below n (Operator.next g) f = below-none 16
-present-below n (Operator.fix g b) f = below-none 16
+pub signals-below : (p : Bool) (n : ℕ) (o : Operator) → Fits n o → All-below 16 (requires p o)
+signals-below p n (Operator.leaf (Leaf.constant b)) f = below-none 16
+signals-below true n (Operator.leaf (Leaf.signal true j)) f = below-one 16 j (omega arith)
+signals-below true n (Operator.leaf (Leaf.signal false j)) f = below-none 16
+signals-below false n (Operator.leaf (Leaf.signal true j)) f = below-none 16
+signals-below false n (Operator.leaf (Leaf.signal false j)) f = below-one 16 j (omega arith)
+signals-below p n (Operator.variable m) f = below-none 16
+signals-below p n (Operator.pair o l r) f = below-none 16
+signals-below p n (Operator.next g) f = below-none 16
+signals-below p n (Operator.fix g b) f = below-none 16
 
--- a requirement with one part more
-abbrev pub with-present : Requirement → ℕ → Requirement
-with-present q a = record { present = bitOr (q .present) a; absent = q .absent; falsum = q .falsum; to = q .to }
+-- what is gathered, with one part more
+abbrev pub with-required : Gathered → Requirement → Gathered
+with-required q r = record { required = r; falsum = q .falsum; to = q .to }
 
-abbrev pub with-absent : Requirement → ℕ → Requirement
-with-absent q a = record { present = q .present; absent = bitOr (q .absent) a; falsum = q .falsum; to = q .to }
+abbrev pub with-falsum : Gathered → Bool → Gathered
+with-falsum q b = record { required = q .required; falsum = q .falsum || b; to = q .to }
 
-abbrev pub with-falsum : Requirement → Bool → Requirement
-with-falsum q b = record { present = q .present; absent = q .absent; falsum = q .falsum || b; to = q .to }
-
-abbrev pub with-to : Requirement → ℕ → Requirement
-with-to q a = record { present = q .present; absent = q .absent; falsum = q .falsum; to = bitOr (q .to) a }
+abbrev pub with-to : Gathered → ℕ → Gathered
+with-to q a = record { required = q .required; falsum = q .falsum; to = bitOr (q .to) a }
 
 -- an operator that requires nothing
 abbrev Idle : Operator → Type 0
@@ -69,8 +69,8 @@ Idle (Operator.pair o l r) = Unit {0}
 Idle (Operator.next g) = ⊥
 Idle (Operator.fix g b) = Unit {0}
 
--- the requirement with what one operator requires, where the code has put it in
-module _ (q : Requirement) where
+-- what is gathered with what one operator requires, where the code has put it in
+module _ (q : Gathered) where
   still : q .falsum ≡ (q .falsum || false)
   still = sym (or-false (q .falsum))
 
@@ -84,11 +84,10 @@ module _ (q : Requirement) where
   constant-requires : (b : Bool) → Requires-more (Operator.leaf (Leaf.constant b)) q (with-falsum q (not b))
   constant-requires b = record { present-is = refl; absent-is = refl; falsum-is = refl; to-is = refl }
 
-  present-requires : (j : ℕ) {a : ℕ} → a ≡ 2 ^ j → Requires-more (Operator.leaf (Leaf.signal true j)) q (with-present q a)
-  present-requires j i = record { present-is = ap (bitOr (q .present)) i; absent-is = refl; falsum-is = still; to-is = refl }
-
-  absent-requires : (j : ℕ) {a : ℕ} → a ≡ 2 ^ j → Requires-more (Operator.leaf (Leaf.signal false j)) q (with-absent q a)
-  absent-requires j i = record { present-is = refl; absent-is = ap (bitOr (q .absent)) i; falsum-is = still; to-is = refl }
+  signal-requires : (p : Bool) (j : ℕ) {r : Requirement} → r ≡ with-signal p j (q .required)
+      → Requires-more (Operator.leaf (Leaf.signal p j)) q (with-required q r)
+  signal-requires true j i = record { present-is = λ k. i k .present; absent-is = λ k. i k .absent; falsum-is = still; to-is = refl }
+  signal-requires false j i = record { present-is = λ k. i k .present; absent-is = λ k. i k .absent; falsum-is = still; to-is = refl }
 
   next-requires : (g : ℕ) {a : ℕ} → a ≡ 2 ^ g → Requires-more (Operator.next g) q (with-to q a)
   next-requires g i = record { present-is = refl; absent-is = refl; falsum-is = still; to-is = ap (bitOr (q .to)) i }
@@ -121,8 +120,8 @@ module _ {o : Operator} {x : code.Operator} (read : o ≡ decoded x) where
           (ap (bitOr set) (i ∙ ap (λ (d : Bool). 2 ^ cond d (right .0) (left .0)) (sym q)))
 
   -- what is required
-  module _ (q : Requirement) where
-    found-requires : {y : code.Operator} {r : Requirement} → x ≡ y → Requires-more (decoded y) q r → Requires-more o q r
+  module _ (q : Gathered) where
+    found-requires : {y : code.Operator} {r : Gathered} → x ≡ y → Requires-more (decoded y) q r → Requires-more o q r
     found-requires {r = r} is m = subst⁻¹ (λ (d : Operator). Requires-more d q r) (read ∙ ap decoded is) m
 
     pub required-none : {y : code.Operator} → x ≡ y → Idle (decoded y) → Requires-more o q q
@@ -131,15 +130,9 @@ module _ {o : Operator} {x : code.Operator} (read : o ≡ decoded x) where
     pub required-constant : {b : Bool} → x ≡ Constant b → Requires-more o q (with-falsum q (not b))
     required-constant {b} is = found-requires is (constant-requires q b)
 
-    module _ {present : Bool} {j k a : ℕ} (is : x ≡ Signal present j) (wide : k ≡ j) (power : a ≡ 2 ^ k) where
-      bit-is : a ≡ 2 ^ j
-      bit-is = power ∙ ap (λ (n : ℕ). 2 ^ n) wide
-
-      pub required-present : present ≡ true → Requires-more o q (with-present q a)
-      required-present e = found-requires (is ∙ ap (λ (b : Bool). Signal b j) e) (present-requires q j bit-is)
-
-      pub required-absent : present ≡ false → Requires-more o q (with-absent q a)
-      required-absent e = found-requires (is ∙ ap (λ (b : Bool). Signal b j) e) (absent-requires q j bit-is)
+    pub required-signal : {p : Bool} {j : ℕ} {r : Requirement} → x ≡ Signal p j → r ≡ with-signal p j (q .required)
+        → Requires-more o q (with-required q r)
+    required-signal {p} {j} is i = found-requires is (signal-requires q p j i)
 
     pub required-next : {g : Subformula} {a : ℕ} → x ≡ Next g → a ≡ 2 ^ g .0 → Requires-more o q (with-to q a)
     required-next {g} is i = found-requires is (next-requires q (g .0) i)

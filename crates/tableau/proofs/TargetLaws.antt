@@ -1,65 +1,43 @@
--- The answer of `transition` is the definition's: what is required of a saturated set, as words, passes the code's three tests exactly if
--- the transition exists (`test-is`), and then has its letter and its node (`letter-is`, `to-is`). The same by a choice word
+-- The answer of `transition` is the definition's: what is gathered of a saturated set passes the code's three tests exactly if the
+-- transition exists (`test-is`), and then has what it requires and its node (`required-is`, `to-is`). The same by a choice word
 -- (`stepped-none`, `stepped-choice`). Back from an answer: what it says of the definition's transition (`target-nowhere`, `a-target`).
 -- Assumes nothing.
 use mathlib.Core.Path.{_≡_, refl, sym, ap, subst⁻¹, _∙_}
 use mathlib.Core.Logic.{inl, inr}
 use mathlib.Core.Bool.{Bool, true, false, cond, not, _&&_}
-use mathlib.Core.List.{List, [], _∷_, List·Memᴰ, List·Memᴰ·head, List·Memᴰ·tail, List·Memᴰ·not-nil, List·Memᴰ·cases-cons, Memᴰ·of-map}
+use mathlib.Core.List.{List, [], _∷_}
 use Prim.Native.Nat.{ℕ}
 use native.Mathlib.Omega.{arith}
 use lib.Dec.{eqb}
 use lib.Bits.{bitAnd}
 use lib.ListN.{length, length-map}
 use borrow.Author.Tests.{eq-eqb, ne-eqb}
-use Rattle.base.specs.Lists.{range, flat-map}
+use Rattle.base.specs.Lists.{flat-map}
 use Rattle.base.specs.Bits.{word}
-use Rattle.base.proofs.AppendLaws.{range-of}
-use Rattle.base.proofs.MemberLaws.{flat-map-of}
 use Rattle.base.proofs.WordLaws.{word-none}
 use Rattle.formula.specs.Table.{Operator, Table}
-use Rattle.formula.specs.Rows.{operator-at}
-use Rattle.formula.specs.Access.{Fits}
 use Rattle.tableau.specs.Saturation.{Subset, nothing, add, saturate}
-use Rattle.tableau.specs.Transition.{operators-in, requires, next-of, possible, letter-of, choice-of, within, transition-of}
+use Rattle.tableau.specs.Transition.{operators-in, requirement, clash, next-of, possible, choice-of, within, transition-of}
 use Rattle.tableau.specs.Inner.{table-of, Formed, with-bits, Saturated, Leads-nowhere, Required, Required-by, target}
 use Rattle.tableau.specs.Inner.{Target-is, Target-by}
 use Rattle.tableau.specs.declared.Requirement.{Requirement}
+use Rattle.tableau.specs.declared.Gathered.{Gathered}
 use Rattle.tableau.specs.declared.Target.{Target}
 use Rattle.tableau.specs.declared.Target.the-variants.{Leads, Nothing}
 use Rattle.tableau.proofs.SaturationLaws.{saturate-length}
 use Rattle.tableau.proofs.TransitionLaws.{transition-with, transition-by, no-transition, one-or-none}
-use Rattle.tableau.proofs.WordSets.{All-below, word-add, within-word, clash-word, members-word}
-use Rattle.tableau.proofs.RowLaws.{next-below, present-below}
-use Rattle.tableau.proofs.LoopLaws.{table-length}
-
--- the operators of a set are operators of rows
-in-table : (t : Table) (s : Subset) {o : Operator} → List·Memᴰ o (operators-in t s) → List·Memᴰ o t
-in-table [] s m = m
-in-table (p ∷ t) [] m = absurd (List·Memᴰ·not-nil m)
-in-table (p ∷ t) (true ∷ s) m = elim (List·Memᴰ·cases-cons m) [ inl e ↦ List·Memᴰ·head e | inr r ↦ List·Memᴰ·tail (in-table t s r) ]
-in-table (p ∷ t) (false ∷ s) m = List·Memᴰ·tail (in-table t s m)
+use Rattle.tableau.proofs.WordSets.{All-below, word-add, within-word}
+use Rattle.tableau.proofs.RowLaws.{next-below}
+use Rattle.tableau.proofs.LoopLaws.{table-length, flat-mapped-below}
 
 module _ {rows : List ℕ} {count : ℕ} (f : Formed rows count) (s : Subset) where
   abbrev os : List Operator
   os = operators-in (table-of rows count) s
 
-  -- what is gathered of them is in its range
-  flat-mapped-below : (g : Operator → List ℕ) (n : ℕ)
-      → ((o : Operator) → Fits count o → All-below n (g o)) → All-below n (flat-map g os)
-  flat-mapped-below g n h m r =
-      let (o, q, k) = flat-map-of g os r in
-      let (e, i, p) = Memᴰ·of-map (operator-at rows) (range 0 count) (in-table (table-of rows count) s q) in
-      h (operator-at rows e) (f .fits e (omega (arith, range-of 0 count i))) m (subst⁻¹ (λ (x : Operator). List·Memᴰ m (g x)) p k)
-
-  -- the transition's letter and node, and whether it exists
-  module _ (r : Requirement) (q : Required os r) where
-    letter-is : r .present ≡ letter-of os
-    unfolding letter-of
-    letter-is =
-        q .present-is
-        ∙ members-word 16 (flat-map (requires true) os)
-        (flat-mapped-below (requires true) 16 (present-below count))
+  -- what the transition requires, its node, and whether it exists
+  module _ (r : Gathered) (q : Required os r) where
+    required-is : r .required ≡ requirement os
+    required-is i = record { present = q .present-is i; absent = q .absent-is i }
 
     to-is : r .to ≡ word (add (flat-map next-of os) (nothing (table-of rows count)))
     to-is =
@@ -67,19 +45,12 @@ module _ {rows : List ℕ} {count : ℕ} (f : Formed rows count) (s : Subset) wh
         ∙ ap (with-bits (flat-map next-of os)) (sym (word-none (table-of rows count)))
         ∙ sym (word-add (flat-map next-of os) (nothing (table-of rows count))
         (subst⁻¹ (λ (n : ℕ). All-below n (flat-map next-of os)) (length-map (table-of rows count) (λ _. false) ∙ table-length rows count)
-        (flat-mapped-below next-of count (next-below count))))
+        (flat-mapped-below f s next-of count (next-below count))))
 
     test-is : (w : Subset) → (within w s && possible os)
-        ≡ (eqb (bitAnd (word w) (word s)) (word w) && (not (r .falsum) && eqb (bitAnd (r .present) (r .absent)) 0))
+        ≡ (eqb (bitAnd (word w) (word s)) (word w) && (not (r .falsum) && not (clash (r .required))))
     unfolding possible
-    test-is w =
-        rw (
-          within-word w s,
-          clash-word (flat-map (requires true) os) (flat-map (requires false) os),
-          q .falsum-is,
-          q .present-is,
-          q .absent-is,
-        )
+    test-is w = rw (within-word w s, q .falsum-is, required-is)
 
 -- a choice that is not met
 pub target-unmet : {rows : List ℕ} {count choice node set : ℕ} → Saturated rows count choice node set → (bitAnd choice set ≡ choice → ⊥)
@@ -93,12 +64,12 @@ target-unmet {rows} {count} {choice} {set = set} st h = record {
 }
 
 -- the answer, from the outcome of the tests of what is required
-module _ {rows : List ℕ} {count choice node set : ℕ} {r : Requirement} (f : Formed rows count)
-    (st : Saturated rows count choice node set) (rq : Required-by rows count count set r) where
+module _ {rows : List ℕ} {count choice node set : ℕ} {r : Gathered} (f : Formed rows count)
+    (st : Saturated rows count choice node set) (rq : Required-by rows count set r) where
   abbrev test : Bool
-  test = eqb (bitAnd choice set) choice && (not (r .falsum) && eqb (bitAnd (r .present) (r .absent)) 0)
+  test = eqb (bitAnd choice set) choice && (not (r .falsum) && not (clash (r .required)))
 
-  answer : (x : Target) (b : Bool) → test ≡ b → x ≡ cond b (Leads (r .to) (r .present)) Nothing → Target-is rows count choice node x
+  answer : (x : Target) (b : Bool) → test ≡ b → x ≡ cond b (Leads (r .to) (r .required)) Nothing → Target-is rows count choice node x
   answer x b h e = record { is = λ w v l c n. go w v l c n }
     where
       t : Table
@@ -110,26 +81,23 @@ module _ {rows : List ℕ} {count choice node set : ℕ} {r : Requirement} (f : 
           let k : set ≡ word s = st .is w v l c n in
           let q : Required (operators-in t s) r = rq .is s (saturate-length t w v ∙ l) k in
           let p : (within w s && possible (operators-in t s)) ≡ b = test-is f s r q w ∙ rw (← c, ← k) h in
-          e ∙ by b (letter-is f s r q) (to-is f s r q) ∙ ap target (sym (transition-by t w s b p))
+          e ∙ by b (required-is f s r q) (to-is f s r q) ∙ ap target (sym (transition-by t w s b p))
         where
-          by : (b : Bool) → r .present ≡ letter-of (operators-in t (saturate t w v))
+          by : (b : Bool) → r .required ≡ requirement (operators-in t (saturate t w v))
               → r .to ≡ word (transition-with t w (saturate t w v) .to)
-              → cond b (Leads (r .to) (r .present)) Nothing ≡ target (cond b (transition-with t w (saturate t w v) ∷ []) [])
+              → cond b (Leads (r .to) (r .required)) Nothing ≡ target (cond b (transition-with t w (saturate t w v) ∷ []) [])
           by true p t = rw (p, t)
           by false p t = refl
 
   pub target-false : bitAnd choice set ≡ choice → r .falsum ≡ true → Target-is rows count choice node Nothing
   target-false m h = answer Nothing false (rw (eq-eqb (bitAnd choice set) choice m, h)) refl
 
-  pub target-clash : bitAnd choice set ≡ choice → r .falsum ≡ false → (bitAnd (r .present) (r .absent) ≡ 0 → ⊥)
-      → Target-is rows count choice node Nothing
-  target-clash m h k = answer Nothing false (rw (eq-eqb (bitAnd choice set) choice m, h, ne-eqb (bitAnd (r .present) (r .absent)) 0 k)) refl
+  pub target-clash : bitAnd choice set ≡ choice → r .falsum ≡ false → clash (r .required) ≡ true → Target-is rows count choice node Nothing
+  target-clash m h k = answer Nothing false (rw (eq-eqb (bitAnd choice set) choice m, h, k)) refl
 
-  pub target-some : bitAnd choice set ≡ choice → r .falsum ≡ false → bitAnd (r .present) (r .absent) ≡ 0
-      → Target-is rows count choice node (Leads (r .to) (r .present))
-  target-some m h k =
-      answer (Leads (r .to) (r .present)) true
-      (rw (eq-eqb (bitAnd choice set) choice m, h, eq-eqb (bitAnd (r .present) (r .absent)) 0 k)) refl
+  pub target-some : bitAnd choice set ≡ choice → r .falsum ≡ false → clash (r .required) ≡ false
+      → Target-is rows count choice node (Leads (r .to) (r .required))
+  target-some m h k = answer (Leads (r .to) (r .required)) true (rw (eq-eqb (bitAnd choice set) choice m, h, k)) refl
 
 -- what the code's answer says of the definition's transition
 no-target : (t : Table) (w s : Subset) → Nothing ≡ target (transition-of t w s) → transition-of t w s ≡ []
@@ -159,19 +127,20 @@ module _ {rows : List ℕ} {count x node : ℕ} where
         no-target t w (saturate t w v) (sym q ∙ st .is v l n);
   }
 
-pub record Step-found (t : Table) (w s : Subset) (to letter : ℕ) : Type 0 where
+pub record Step-found (t : Table) (w s : Subset) (to : ℕ) (required : Requirement) : Type 0 where
   pub exists : transition-of t w s ≡ transition-with t w s ∷ []
   pub to-is : to ≡ word (transition-with t w s .to)
-  pub letter-is : letter ≡ transition-with t w s .letter
+  pub required-is : required ≡ transition-with t w s .required
 
-pub a-target : {to letter : ℕ} (t : Table) (w s : Subset) → Leads to letter ≡ target (transition-of t w s) → Step-found t w s to letter
-a-target {to} {letter} t w s e =
+pub a-target : {to : ℕ} {required : Requirement} (t : Table) (w s : Subset) → Leads to required ≡ target (transition-of t w s)
+    → Step-found t w s to required
+a-target {to} {required} t w s e =
     elim (one-or-none t w s) [
       | inl p ↦
-          let q : Leads to letter ≡ target (transition-with t w s ∷ []) = e ∙ ap target p in
-          record { exists = p; to-is = cc; letter-is = cc }
+          let q : Leads to required ≡ target (transition-with t w s ∷ []) = e ∙ ap target p in
+          record { exists = p; to-is = cc; required-is = cc }
       | inr p ↦
-          let q : Leads to letter ≡ Nothing = e ∙ ap target p in
+          let q : Leads to required ≡ Nothing = e ∙ ap target p in
           let z : _≡_ {A = ℕ} 0 1 = cc in
           absurd (omega arith)
     ]

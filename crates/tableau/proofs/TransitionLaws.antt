@@ -7,31 +7,29 @@
 use mathlib.Core.Path.{_≡_, refl, sym, ap, subst, subst⁻¹, _∙_}
 use mathlib.Core.Logic.{_⊎_, inl, inr}
 use mathlib.Core.Bool.{Bool, true, false, not, cond, _&&_}
-use mathlib.Core.List.{List, [], _∷_, map, List·Memᴰ, List·Memᴰ·head, List·Memᴰ·tail, List·Memᴰ·not-nil, List·Memᴰ·cases-cons}
-use mathlib.Core.List.{List·Memᴰ·eq-of-singleton, Memᴰ·cast, Sublistᴰ, Sublistᴰ·slnil, Sublistᴰ·refl, Sublistᴰ·nil-sublist}
+use mathlib.Core.List.{List, [], _∷_, List·Memᴰ, List·Memᴰ·head, List·Memᴰ·tail, List·Memᴰ·not-nil, List·Memᴰ·cases-cons}
+use mathlib.Core.List.{List·Memᴰ·eq-of-singleton, Sublistᴰ, Sublistᴰ·slnil, Sublistᴰ·refl, Sublistᴰ·nil-sublist}
 use mathlib.Core.List.{Sublistᴰ·append}
 use Prim.Native.Nat.{ℕ, zero, suc, _^_, _<_}
 use native.Mathlib.Omega.{arith}
 use lib.Dec.{T, T-not, not-T}
 use lib.ListN.{length, length-map}
-use Rattle.base.specs.Lists.{flat-map, any, member, range}
+use Rattle.base.specs.Lists.{flat-map, any, range}
 use Rattle.base.specs.Bits.{bit}
 use Rattle.base.proofs.BoolLaws.{of-T, and-left, and-right, and-both}
-use Rattle.base.proofs.ListLaws.{getD-map, getD-range, length-range}
 use Rattle.base.proofs.AppendLaws.{flat-map-map, range-of}
-use Rattle.base.proofs.NumberLaws.{values-length}
-use Rattle.base.proofs.WordLaws.{word-bit, word-lt}
 use Rattle.base.proofs.CondLaws.{cond-of}
-use Rattle.base.proofs.MemberLaws.{flat-map-of, flat-map-in, any-of, any-in, member-of, member-in, range-in}
+use Rattle.base.proofs.MemberLaws.{flat-map-of, flat-map-in, any-of, any-in, range-in}
 use Rattle.base.proofs.Inside.{inside-length}
 use Rattle.formula.specs.Formula.{Leaf}
 use Rattle.formula.specs.Table.{Operator, Table, operator}
 use Rattle.tableau.specs.Saturation.{Subset, has, nothing, add, saturate}
-use Rattle.tableau.specs.Transition.{operators-in, requires, is-false, possible, letter-of, next-of, ors, choice-of}
-use Rattle.tableau.specs.Transition.{choices, within, Transition, transition-of, by-word, transitions}
+use Rattle.tableau.specs.Transition.{operators-in, is-false, required-word, requirement, clash, possible, letter-of, next-of, ors}
+use Rattle.tableau.specs.Transition.{choice-of, choices, within, Transition, letter, transition-of, by-word, transitions}
 use Rattle.tableau.specs.Nodes.{operands}
 use Rattle.tableau.proofs.SaturationLaws.{inside-has, has-lt, nothing-has, add-inside, add-has, add-of, Closed-under, saturate-holds}
 use Rattle.tableau.proofs.SaturationLaws.{saturate-length, saturate-closed}
+use Rattle.tableau.proofs.RequirementLaws.{required-small, required-of, required-in, nothing-required, clash-of, clash-in}
 
 -- what an operator asks of a letter by itself
 abbrev pub asks : Operator → (letter : ℕ) → Bool
@@ -42,53 +40,18 @@ asks (Operator.pair o l r) a = true
 asks (Operator.next g) a = true
 asks (Operator.fix g l) a = true
 
--- a signal that an operator requires is the operator's own
-requires-is : (p : Bool) (o : Operator) (j : ℕ) → List·Memᴰ j (requires p o) → o ≡ Operator.leaf (Leaf.signal p j)
-requires-is p (Operator.leaf (Leaf.constant b)) j m = absurd (List·Memᴰ·not-nil m)
-requires-is true (Operator.leaf (Leaf.signal true i)) j m =
-    ap (λ (k : ℕ). Operator.leaf (Leaf.signal true k)) (sym (List·Memᴰ·eq-of-singleton m))
-requires-is true (Operator.leaf (Leaf.signal false i)) j m = absurd (List·Memᴰ·not-nil m)
-requires-is false (Operator.leaf (Leaf.signal true i)) j m = absurd (List·Memᴰ·not-nil m)
-requires-is false (Operator.leaf (Leaf.signal false i)) j m =
-    ap (λ (k : ℕ). Operator.leaf (Leaf.signal false k)) (sym (List·Memᴰ·eq-of-singleton m))
-requires-is p (Operator.variable m₀) j m = absurd (List·Memᴰ·not-nil m)
-requires-is p (Operator.pair o l r) j m = absurd (List·Memᴰ·not-nil m)
-requires-is p (Operator.next g) j m = absurd (List·Memᴰ·not-nil m)
-requires-is p (Operator.fix g l) j m = absurd (List·Memᴰ·not-nil m)
-
-required-of : (p : Bool) (os : List Operator) {j : ℕ} → List·Memᴰ j (flat-map (requires p) os)
-    → List·Memᴰ (Operator.leaf (Leaf.signal p j)) os
-required-of p os {j} m = let (o, r, q) = flat-map-of (requires p) os m in Memᴰ·cast (sym (requires-is p o j q)) r
-
-required-in : (p : Bool) {os : List Operator} {j : ℕ} → List·Memᴰ (Operator.leaf (Leaf.signal p j)) os
-    → List·Memᴰ j (flat-map (requires p) os)
-required-in true m = flat-map-in (requires true) m (List·Memᴰ·head refl)
-required-in false m = flat-map-in (requires false) m (List·Memᴰ·head refl)
-
-letter-bit : (os : List Operator) (j : ℕ) → j < 16 → bit (letter-of os) j ≡ member j (flat-map (requires true) os)
-unfolding letter-of
-letter-bit os j h =
-    let f : ℕ → Bool = λ i. member i (flat-map (requires true) os) in
-    word-bit (map f (range 0 16)) j
-    ∙ getD-map f (range 0 16) j 0 false (omega (arith, length-range 0 16))
-    ∙ ap f (getD-range 0 16 j 0 h ∙ omega arith)
-
 -- Theorem: where a transition is possible, its letter is allowed by each operator of the set.
 pub possible-allows : (os : List Operator) → T (possible os) → (o : Operator) → List·Memᴰ o os
-    → ((p : Bool) (j : ℕ) → o ≡ Operator.leaf (Leaf.signal p j) → j < 16) → T (asks o (letter-of os))
-unfolding possible
+    → ((p : Bool) (j : ℕ) → o ≡ Operator.leaf (Leaf.signal p j) → j < 16) → T (asks o (letter-of (requirement os)))
+unfolding possible letter-of
 possible-allows os h (Operator.leaf (Leaf.constant true)) m small = tt
 possible-allows os h (Operator.leaf (Leaf.constant false)) m small =
     T-not (any is-false os) (and-left (not (any is-false os)) _ h) (any-in is-false m tt)
-possible-allows os h (Operator.leaf (Leaf.signal true j)) m small =
-    subst⁻¹ T (letter-bit os j (small true j refl)) (member-in (required-in true m))
+possible-allows os h (Operator.leaf (Leaf.signal true j)) m small = required-in true os m (small true j refl)
 possible-allows os h (Operator.leaf (Leaf.signal false j)) m small =
-    subst⁻¹ (λ (b : Bool). T (not b)) (letter-bit os j (small false j refl))
-    (not-T (member j (flat-map (requires true) os))
-    (λ k.
-    T-not (any (λ j. member j (flat-map (requires false) os)) (flat-map (requires true) os)) (and-right (not (any is-false os)) _ h)
-    (any-in (λ j. member j (flat-map (requires false) os)) (member-of j (flat-map (requires true) os) k)
-    (member-in (required-in false m)))))
+    not-T (bit (required-word true os) j)
+    (λ k. T-not (clash (requirement os)) (and-right (not (any is-false os)) _ h)
+    (clash-in os (small false j refl) (required-of true os j k) m))
 possible-allows os h (Operator.variable n) m small = tt
 possible-allows os h (Operator.pair e l r) m small = tt
 possible-allows os h (Operator.next g) m small = tt
@@ -108,14 +71,13 @@ unfolding possible
 possible-of os a f =
     and-both (not (any is-false os)) _
     (not-T (any is-false os) (λ h. let (o, m, k) = any-of is-false os h in never-asked o a k (f o m)))
-    (not-T (any (λ j. member j (flat-map (requires false) os)) (flat-map (requires true) os))
+    (not-T (clash (requirement os))
     (λ h.
-    let (j, m, k) = any-of (λ j. member j (flat-map (requires false) os)) (flat-map (requires true) os) h in
-    T-not (bit a j) (f (Operator.leaf (Leaf.signal false j)) (required-of false os (member-of j (flat-map (requires false) os) k)))
-    (f (Operator.leaf (Leaf.signal true j)) (required-of true os m))))
+    let (j, m, n) = clash-of os h in
+    T-not (bit a j) (f (Operator.leaf (Leaf.signal false j)) n) (f (Operator.leaf (Leaf.signal true j)) m)))
 
 -- the operators of a set are those of its subformulas
-met-of : (t : Table) (v : Subset) {o : Operator} → List·Memᴰ o (operators-in t v) → (e : ℕ) × T (has v e) × (operator t e ≡ o)
+pub met-of : (t : Table) (v : Subset) {o : Operator} → List·Memᴰ o (operators-in t v) → (e : ℕ) × T (has v e) × (operator t e ≡ o)
 met-of [] v m = absurd (List·Memᴰ·not-nil m)
 met-of (q ∷ t) [] m = absurd (List·Memᴰ·not-nil m)
 met-of (q ∷ t) (true ∷ v) m =
@@ -161,12 +123,12 @@ within-in (true ∷ w) (false ∷ v) f = f 0 tt
 abbrev pub transition-with : Table → (choice : Subset) → Subset → Transition
 transition-with t w s =
     let os = operators-in t s in
-    record { choice = w; letter = letter-of os; to = add (flat-map next-of os) (nothing t) }
+    record { choice = w; required = requirement os; to = add (flat-map next-of os) (nothing t) }
 
 -- a choice gives its transition where the choice is met and the saturated set makes one possible, and else none
 pub transition-by : (t : Table) (w s : Subset) (b : Bool) → (within w s && possible (operators-in t s)) ≡ b
     → transition-of t w s ≡ cond b (transition-with t w s ∷ []) []
-unfolding possible letter-of
+unfolding possible
 transition-by t w s b q = ap (λ (d : Bool). cond d (transition-with t w s ∷ []) []) q
 
 -- a choice that is not met has no transition
@@ -181,14 +143,12 @@ one-or-none t w s = by (within w s && possible (operators-in t s)) refl
     by true q = inl (transition-by t w s true q)
     by false q = inr (transition-by t w s false q)
 
--- a letter has sixteen bits, and none where no signal is to be present
-pub letter-small : (t : Table) (w s : Subset) → transition-with t w s .letter < 65536
+-- a letter has sixteen bits, and none where nothing is required
+pub letter-small : (t : Table) (w s : Subset) → letter (transition-with t w s) < 65536
 unfolding letter-of
-letter-small t w s =
-    let q : ℕ → Bool = λ j. member j (flat-map (requires true) (operators-in t s)) in
-    omega (arith, word-lt (map q (range 0 16)), ap (λ (n : ℕ). 2 ^ n) (values-length q 0 16))
+letter-small t w s = required-small true (operators-in t s)
 
-pub letter-none : letter-of [] ≡ 0
+pub letter-none : letter-of nothing-required ≡ 0
 unfolding letter-of
 letter-none = refl
 
@@ -245,7 +205,7 @@ pub record Facts (t : Table) (v : Subset) (x : Transition) : Type 0 where
   pub follows : Closed-under t (x .choice) (saturate t (x .choice) v)
   pub allows : (e : ℕ) → T (has (saturate t (x .choice) v) e)
       → ((p : Bool) (j : ℕ) → operator t e ≡ Operator.leaf (Leaf.signal p j) → j < 16)
-      → T (asks (operator t e) (x .letter))
+      → T (asks (operator t e) (letter x))
   pub nexts : (e y : ℕ) → T (has (saturate t (x .choice) v) e) → operator t e ≡ Operator.next y → y < length t → T (has (x .to) y)
   pub from-next : (y : ℕ) → T (has (x .to) y) → (e : ℕ) × T (has (saturate t (x .choice) v) e) × (operator t e ≡ Operator.next y)
   pub long : length (x .to) ≡ length t
@@ -314,9 +274,9 @@ transition-is t v x m =
     e ∙ ap (λ (y : Transition). transition-with t (y .choice) (saturate t (y .choice) v)) (sym e)
 
 -- and so its letter has sixteen bits
-pub letter-bound : (t : Table) (v : Subset) {x : Transition} → List·Memᴰ x (transitions t v) → x .letter < 65536
+pub letter-bound : (t : Table) (v : Subset) {x : Transition} → List·Memᴰ x (transitions t v) → letter x < 65536
 letter-bound t v {x} m =
-    subst⁻¹ (λ (y : Transition). y .letter < 65536) (transition-is t v x m) (letter-small t (x .choice) (saturate t (x .choice) v))
+    subst⁻¹ (λ (y : Transition). letter y < 65536) (transition-is t v x m) (letter-small t (x .choice) (saturate t (x .choice) v))
 
 -- Theorem: a choice that is met gives a transition if some letter is allowed by each subformula of the saturated set.
 pub transition-in : (t : Table) (v w : Subset) → List·Memᴰ w (choices t) → ((e : ℕ) → T (has w e) → T (has (saturate t w v) e))

@@ -1,25 +1,24 @@
 -- Sets of subformulas as words: to add members is to put bits in (`word-add`), and the tests of the definitions are tests of words
--- (`within-word`, `clash-word`, `same-word`). Each is shown bit by bit, for bit k of a set's word is whether k is in the set. Assumes
+-- (`within-word`, `same-word`). Each is shown bit by bit, for bit k of a set's word is whether k is in the set. Assumes
 -- nothing.
 use mathlib.Core.Path.{_≡_, refl, sym, ap, subst, _∙_}
-use mathlib.Core.Bool.{Bool, true, false, cond, not, _||_, _&&_, or-true, or-false}
+use mathlib.Core.Bool.{Bool, true, false, cond, _||_, _&&_, or-true, or-false}
 use mathlib.Core.List.{List, [], _∷_, _++_, map, List·Memᴰ, List·Memᴰ·head, List·Memᴰ·tail, List·Memᴰ·not-nil, List·Memᴰ·cases-cons}
 use mathlib.Core.Logic.{inl, inr}
 use Prim.Native.Nat.{ℕ, zero, suc, _^_, _<_}
 use native.Mathlib.Omega.{arith}
 use native.Mathlib.Decide.{decLt}
-use lib.Dec.{T, eqb, eqb·zero-suc, eqb·suc-zero, eqb·suc-suc, eqb→eq, T-not, not-T}
+use lib.Dec.{T, eqb, eqb·zero-suc, eqb·suc-zero, eqb·suc-suc, eqb→eq}
 use lib.Bits.{bitAnd, bitOr}
-use lib.ListN.{length, getD, set, length-set, length-map, List·getD-eq-default}
+use lib.ListN.{length, getD, set, length-set}
 use borrow.Author.Tests.{eq-eqb}
-use Rattle.base.specs.Lists.{range, any, member}
+use Rattle.base.specs.Lists.{range, member}
 use Rattle.base.specs.Bits.{bit, word}
-use Rattle.base.proofs.BoolLaws.{of-T, to-T, and-both}
+use Rattle.base.proofs.BoolLaws.{of-T, to-T}
 use Rattle.base.proofs.TestLaws.{not-of-T, same-truth}
 use Rattle.base.proofs.BitLaws.{bit-and, set-on}
-use Rattle.base.proofs.ListLaws.{getD-map, length-range, getD-range}
-use Rattle.base.proofs.MemberLaws.{any-of, any-in, member-of, member-in}
-use Rattle.base.proofs.WordLaws.{no-bit, word-bit, word-inj, same-bits, word-set}
+use Rattle.base.proofs.MemberLaws.{member-of}
+use Rattle.base.proofs.WordLaws.{no-bit, word-bit, word-inj, same-bits, word-set, values-bit, values-past}
 use Rattle.tableau.specs.Saturation.{Subset, has, same-subset, add}
 use Rattle.tableau.specs.Transition.{within}
 use Rattle.tableau.specs.Inner.{with-bits}
@@ -107,41 +106,12 @@ within-word w v =
     both true b e h = to-T b e
     both false b e h = absurd h
 
--- two lists have no number in common exactly if their words have no bit in common
-pub clash-word : (ps qs : List ℕ) → not (any (λ j. member j qs) ps) ≡ eqb (bitAnd (with-bits ps 0) (with-bits qs 0)) 0
-clash-word ps qs =
-    same-truth (not (any (λ j. member j qs) ps)) (eqb (bitAnd (with-bits ps 0) (with-bits qs 0)) 0)
-    (λ h. to-T (eqb (bitAnd (with-bits ps 0) (with-bits qs 0)) 0)
-    (eq-eqb (bitAnd (with-bits ps 0) (with-bits qs 0)) 0
-    (same-bits (bitAnd (with-bits ps 0) (with-bits qs 0)) 0
-    (λ k. bits k ∙ apart (member k ps) (member k qs)
-    (λ p q. T-not (any (λ j. member j qs) ps) h (any-in (λ j. member j qs) (member-of k ps p) q)) ∙ sym (no-bit k)))))
-    (λ h. not-T (any (λ j. member j qs) ps)
-    (λ a. let (j, m, q) = any-of (λ j. member j qs) ps a in
-    subst T (sym (bits j) ∙ ap (λ (x : ℕ). bit x j) (eqb→eq (bitAnd (with-bits ps 0) (with-bits qs 0)) 0 h) ∙ no-bit j)
-    (and-both (member j ps) (member j qs) (member-in m) q)))
-  where
-    bits : (k : ℕ) → bit (bitAnd (with-bits ps 0) (with-bits qs 0)) k ≡ (member k ps && member k qs)
-    bits k = bit-and (with-bits ps 0) (with-bits qs 0) k ∙ ap (λ (b : Bool). b && bit (with-bits qs 0) k) (bits-of ps k)
-        ∙ ap (λ (b : Bool). member k ps && b) (bits-of qs k)
-
-    apart : (a b : Bool) → (T a → T b → ⊥) → (a && b) ≡ false
-    apart true b f = not-of-T b (f tt)
-    apart false b f = refl
-
 -- numbers below n, as the word of n Bools
 pub members-word : (n : ℕ) (ms : List ℕ) → All-below n ms → with-bits ms 0 ≡ word (map (λ j. member j ms) (range 0 n))
 members-word n ms h =
-    same-bits (with-bits ms 0) (word (map (λ j. member j ms) (range 0 n)))
-    (λ k. bits-of ms k ∙ by k (decLt k n) ∙ sym (word-bit (map (λ j. member j ms) (range 0 n)) k))
+    same-bits (with-bits ms 0) (word (map (λ j. member j ms) (range 0 n))) (λ k. bits-of ms k ∙ sym (by k (decLt k n)))
   where
-    long : length (map (λ (j : ℕ). member j ms) (range 0 n)) ≡ n
-    long = length-map (range 0 n) (λ (j : ℕ). member j ms) ∙ length-range 0 n
-
-    by : (k : ℕ) → Dec (k < n) → member k ms ≡ getD (map (λ (j : ℕ). member j ms) (range 0 n)) k false
-    by k (yes l) =
-        sym (getD-map (λ (j : ℕ). member j ms) (range 0 n) k 0 false (omega (arith, length-range 0 n))
-        ∙ ap (λ (j : ℕ). member j ms) {x = getD (range 0 n) k 0} {y = k} (omega (arith, getD-range 0 n k 0 l)))
+    by : (k : ℕ) → Dec (k < n) → bit (word (map (λ j. member j ms) (range 0 n))) k ≡ member k ms
+    by k (yes l) = values-bit (λ j. member j ms) n k l
     by k (no l) =
-        not-of-T (member k ms) (λ t. l (h k (member-of k ms t)))
-        ∙ sym (List·getD-eq-default (map (λ (j : ℕ). member j ms) (range 0 n)) false (omega (arith, long)))
+        values-past (λ j. member j ms) n k (omega arith) ∙ sym (not-of-T (member k ms) (λ t. l (h k (member-of k ms t))))

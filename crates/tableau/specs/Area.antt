@@ -13,7 +13,7 @@ use Rattle.base.specs.Search.{Item}
 use Rattle.base.specs.Spread.{Numbered, add, adds}
 use Rattle.formula.specs.Table.{Table}
 use Rattle.tableau.specs.Saturation.{Subset, same-subset}
-use Rattle.tableau.specs.Transition.{Transition, by-word, transitions}
+use Rattle.tableau.specs.Transition.{Transition, letter, by-word, transitions}
 use Rattle.tableau.specs.Nodes.{root, nodes}
 use Rattle.tableau.specs.Origins.{parent-at, letter-at}
 use Rattle.tableau.specs.Inner.{table-of, Formed, Target-by}
@@ -100,7 +100,7 @@ root-reached t = record { at = root t; parent = 0; label = 0 }
 
 -- what a transition of node i leads to
 abbrev pub reached-by : (i : ℕ) → Transition → Reached-node
-reached-by i s = record { at = s .to; parent = suc i; label = s .letter }
+reached-by i s = record { at = s .to; parent = suc i; label = letter s }
 
 -- the nodes that the transition of a choice word leads to from node i, the set v: one or none
 abbrev pub leads : Table → (i : ℕ) → Subset → (choice-word : ℕ) → List Reached-node
@@ -114,12 +114,11 @@ outs t i v = map (reached-by i) (transitions t v)
 abbrev pub Reached-sized : ℕ → List Reached-node → Type 0
 Reached-sized count l = (x : Reached-node) → List·Memᴰ x l → length (x .at) ≡ count
 
--- The node x is as the arrival says; its letter has 16 bits.
+-- The node x is as the arrival says.
 pub record Arrives (s : Arrival) (x : Reached-word) : Type 0 where
   pub set-is : x .at ≡ s .set
   pub from-is : x .parent - 1 ≡ s .from .0
   pub letter-is : x .label ≡ s .letter
-  pub letter-small : s .letter < 65536
 
 -- the notes with that of node j
 abbrev pub with-note : List ℕ → (j parent letter : ℕ) → List ℕ

@@ -14,8 +14,10 @@ use Rattle.formula.specs.Table.{Operator, Table}
 use Rattle.formula.specs.Rows.{operator-at, operators-of}
 use Rattle.formula.specs.Access.{Fits}
 use Rattle.tableau.specs.Saturation.{Subset, has, saturate}
-use Rattle.tableau.specs.Transition.{operators-in, requires, is-false, next-of, ors, choice-of, Transition, transition-of, by-word}
+use Rattle.tableau.specs.Transition.{operators-in, requires, is-false, required-word, next-of, ors, choice-of, Transition}
+use Rattle.tableau.specs.Transition.{transition-of, by-word}
 use Rattle.tableau.specs.declared.Requirement.{Requirement}
+use Rattle.tableau.specs.declared.Gathered.{Gathered}
 use Rattle.tableau.specs.declared.Target.{Target}
 use Rattle.tableau.specs.declared.Target.the-variants.{Leads, Nothing}
 
@@ -69,28 +71,34 @@ is-unmet r x = any (λ j. not (eqb (bitAnd x (unmet-at r x j)) 0)) (range 0 12)
 pub record Unmet-ors (rows : List ℕ) (count node : ℕ) (r : List ℕ) : Type 0 where
   pub is : (x j : ℕ) → j < 12 → (bitAnd x (unmet-at r x j) ≡ 0 → ⊥) → Leads-nowhere rows count node x
 
--- The requirement r is the requirement q and what the operator o requires.
-pub record Requires-more (o : Operator) (q r : Requirement) : Type 0 where
-  pub present-is : r .present ≡ with-bits (requires Bool.true o) (q .present)
-  pub absent-is : r .absent ≡ with-bits (requires Bool.false o) (q .absent)
+-- a requirement with one signal more, to be present or to be absent
+abbrev pub with-signal : (present : Bool) → ℕ → Requirement → Requirement
+with-signal Bool.true j q = record { present = bitOr (q .present) (2 ^ j); absent = q .absent }
+with-signal Bool.false j q = record { present = q .present; absent = bitOr (q .absent) (2 ^ j) }
+
+-- What is gathered is r: what was gathered before, q, with what the operator o requires.
+pub record Requires-more (o : Operator) (q r : Gathered) : Type 0 where
+  pub present-is : r .required .present ≡ with-bits (requires Bool.true o) (q .required .present)
+  pub absent-is : r .required .absent ≡ with-bits (requires Bool.false o) (q .required .absent)
   pub falsum-is : r .falsum ≡ (q .falsum || is-false o)
   pub to-is : r .to ≡ with-bits (next-of o) (q .to)
 
--- The requirement r is what the operators require.
-pub record Required (os : List Operator) (r : Requirement) : Type 0 where
-  pub present-is : r .present ≡ with-bits (flat-map (requires Bool.true) os) 0
-  pub absent-is : r .absent ≡ with-bits (flat-map (requires Bool.false) os) 0
+-- What is gathered of the operators is r: the two words of what they require, all 16 bits of each, whether one is false, and the
+-- operands of the nexts.
+pub record Required (os : List Operator) (r : Gathered) : Type 0 where
+  pub present-is : r .required .present ≡ required-word Bool.true os
+  pub absent-is : r .required .absent ≡ required-word Bool.false os
   pub falsum-is : r .falsum ≡ any is-false os
   pub to-is : r .to ≡ with-bits (flat-map next-of os) 0
 
--- The requirement r is what the operators of a set in the first e rows require.
-pub record Required-by (rows : List ℕ) (count e set : ℕ) (r : Requirement) : Type 0 where
-  pub is : (s : Subset) → length s ≡ count → set ≡ word s → Required (operators-in (table-of rows e) s) r
+-- What is gathered of the subformulas of a set is r.
+pub record Required-by (rows : List ℕ) (count set : ℕ) (r : Gathered) : Type 0 where
+  pub is : (s : Subset) → length s ≡ count → set ≡ word s → Required (operators-in (table-of rows count) s) r
 
 -- the code's answer for the definition's transition, if it exists
 abbrev pub target : List Transition → Target
 target [] = Nothing
-target (x ∷ xs) = Leads (word (x .to)) (x .letter)
+target (x ∷ xs) = Leads (word (x .to)) (x .required)
 
 -- The step r of a node under a choice is the definition's.
 pub record Target-is (rows : List ℕ) (count choice node : ℕ) (r : Target) : Type 0 where

@@ -6,14 +6,14 @@ use mathlib.Core.List.{List, [], _∷_, _++_, map}
 use Prim.Native.Nat.{ℕ, _+_, _*_, _<_}
 use lib.ListN.{getD}
 use Rattle.formula.specs.Table.{Table}
-use Rattle.tableau.specs.Transition.{Transition}
+use Rattle.tableau.specs.Transition.{letter}
 use Rattle.tableau.specs.Nodes.{nodes}
 
 -- the letters of the way by which the search comes to node j
 abbrev pub way-letters : Table → ℕ → List ℕ
 unfolding nodes
 way-letters t j =
-    map (λ (s : Transition). s .letter) (getD (nodes t) j (record { way = []; at = [] }) .way)
+    map letter (getD (nodes t) j (record { way = []; at = [] }) .way)
 
 -- the number of the node that the search came from to node j
 abbrev pub parent-at : List ℕ → ℕ → ℕ

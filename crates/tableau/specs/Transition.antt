@@ -1,13 +1,15 @@
--- The transitions of a node (document 01: its steps): when one exists, its letter, and its target. MEANING 3.2 to 3.5. Assumes nothing.
+-- The transitions of a node (document 01: its steps): what one requires, when it exists, its letter, and its target. MEANING 3.2 to 3.5.
+-- Assumes nothing.
 use mathlib.Core.Bool.{Bool, true, false, not, cond, _&&_}
 use mathlib.Core.List.{List, [], _∷_, map}
 use Prim.Native.Nat.{ℕ, _+_, _/_, _%_, _^_}
 use lib.Dec.{eqb}
 use Rattle.base.specs.Lists.{flat-map, any, member, range, same-bit}
-use Rattle.base.specs.Bits.{word}
+use Rattle.base.specs.Bits.{bit, word}
 use Rattle.formula.specs.Formula.{Leaf}
 use Rattle.formula.specs.Table.{Operator, Table, is-or}
 use Rattle.tableau.specs.Saturation.{Subset, nothing, add, saturate}
+use Rattle.tableau.specs.declared.Requirement.{Requirement}
 
 -- the operators of the subformulas in a set
 abbrev pub operators-in : Table → Subset → List Operator
@@ -34,16 +36,26 @@ is-false (Operator.pair o l r) = false
 is-false (Operator.next g) = false
 is-false (Operator.fix g l) = false
 
+-- MEANING 3.4: the signals that operators require present, or absent, as a word of 16 bits: bit j is set exactly if signal j is one
+unfoldable pub required-word : (present : Bool) → List Operator → ℕ
+required-word p os = let signals = flat-map (requires p) os in word (map (λ j. member j signals) (range 0 16))
+
+-- the requirement of a set with these operators: both words, in the type of the code
+abbrev pub requirement : List Operator → Requirement
+requirement os = record { present = required-word true os; absent = required-word false os }
+
+-- a clash: a bit that is set in both words
+unfoldable pub clash : Requirement → Bool
+clash r = any (λ j. bit (r .present) j && bit (r .absent) j) (range 0 16)
+
 -- MEANING 3.4: whether a set with these operators gives a transition
 unfoldable pub possible : List Operator → Bool
-possible os =
-    let absent = flat-map (requires false) os in
-    let clash = any (λ j. member j absent) (flat-map (requires true) os) in
-    not (any is-false os) && not clash
+unfolding required-word clash
+possible os = not (any is-false os) && not (clash (requirement os))
 
--- MEANING 3.5: the letter has bit j where signal j is to be present
-unfoldable pub letter-of : List Operator → ℕ
-letter-of os = let present = flat-map (requires true) os in word (map (λ j. member j present) (range 0 16))
+-- MEANING 3.5: the letter for a requirement has the signals that are to be present
+unfoldable pub letter-of : Requirement → ℕ
+letter-of r = r .present
 
 -- MEANING 3.5: the operand of a next, which belongs to the target
 abbrev pub next-of : Operator → List ℕ
@@ -76,18 +88,22 @@ within (false ∷ w) (b ∷ v) = within w v
 within (true ∷ w) (true ∷ v) = within w v
 within (true ∷ w) (false ∷ v) = false
 
--- a transition of a node: its choice, its letter and its target
+-- a transition of a node: its choice, what it requires of a letter, and its target
 pub record Transition : Type 0 where
   pub choice : Subset
-  pub letter : ℕ
+  pub required : Requirement
   pub to : Subset
+
+-- the letter of a transition
+abbrev pub letter : Transition → ℕ
+letter s = letter-of (s .required)
 
 -- the transition with choice w whose saturated set is s, if it exists
 abbrev pub transition-of : Table → Subset → Subset → List Transition
-unfolding possible letter-of
+unfolding possible
 transition-of t w s =
     let os = operators-in t s in
-    let found : Transition = record { choice = w; letter = letter-of os; to = add (flat-map next-of os) (nothing t) } in
+    let found : Transition = record { choice = w; required = requirement os; to = add (flat-map next-of os) (nothing t) } in
     let one = found ∷ [] in
     cond (within w s && possible os) one []
 
@@ -97,5 +113,5 @@ by-word t x v = transition-of t (choice-of t x) (saturate t (choice-of t x) v)
 
 -- the transitions of a node, by rising choice word
 unfoldable pub transitions : Table → Subset → List Transition
-unfolding possible letter-of
+unfolding possible
 transitions t v = flat-map (λ w. transition-of t w (saturate t w v)) (choices t)

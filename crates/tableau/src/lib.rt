@@ -3,7 +3,7 @@ use formula::Operator;
 use formula::Subformula;
 ghost use mathlib.Core.Path.{_≡_};
 ghost use mathlib.Core.List.{_++_};
-ghost use Prim.Native.Nat.{_+_, _*_, _%_, _≤_, _<_};
+ghost use Prim.Native.Nat.{_+_, _*_, _≤_, _<_};
 ghost use lib.Dec.{eqb};
 ghost use lib.ListN.{length, drop};
 ghost use Rattle.base.specs.Bits.{bit, word};
@@ -11,8 +11,8 @@ ghost use Rattle.base.specs.Lists.{member, index};
 ghost use Rattle.formula.specs.Rows.{operator-at};
 ghost use Rattle.formula.specs.Access.{Placed};
 ghost use Rattle.tableau.specs.Saturation.{moves};
-ghost use Rattle.tableau.specs.Transition.{ors, choice-of};
-ghost use Rattle.tableau.specs.Inner.{table-of, Formed, with-bits, Saturated, Requires-more, Required-by, Target-is};
+ghost use Rattle.tableau.specs.Transition.{clash, letter-of, ors, choice-of};
+ghost use Rattle.tableau.specs.Inner.{table-of, Formed, with-bits, Saturated, with-signal, Requires-more, Required-by, Target-is};
 ghost use Rattle.tableau.specs.Inner.{Target-by, Widest, Unmet-between, is-unmet, Unmet-ors};
 ghost use Rattle.tableau.specs.Area.{eight, words-at, lookup, zeros, Node-room, Nodes-held, reachable, slot-of, Slots-marked};
 ghost use Rattle.tableau.specs.Area.{with-note};
@@ -32,20 +32,25 @@ pub enum Lookup {
 pub struct Arrival {
     pub set: u64,
     pub from: NodeNumber,
-    pub letter: u64,
+    pub letter: u16,
 }
 
-// What a saturated set requires: the signals present and absent, whether it holds false, and the operands of its nexts.
-struct Requirement {
-    present: u64,
-    absent: u64,
+// What a saturated set requires of a letter: in each word bit j is for signal j, to be present in it and to be absent.
+pub struct Requirement {
+    pub present: u16,
+    pub absent: u16,
+}
+
+// What one pass over a saturated set gathers: what it requires, whether it holds false, and the operands of its nexts.
+struct Gathered {
+    required: Requirement,
     falsum: bool,
     to: u64,
 }
 
-// Where a transition leads, with its letter, if it exists.
+// Where a transition leads, with what it requires of its letter, if it exists.
 pub enum Target {
-    Leads { to: u64, letter: u64 },
+    Leads { to: u64, required: Requirement },
     Nothing,
 }
 
@@ -207,45 +212,62 @@ fn is_unmet(unmet: &[u64; 24], choice_word: u64) -> bool
     false
 }
 
-// What a subformula requires beside the rest.
-fn with_required(rows: &[u8; 144], s: Subformula, q: Requirement) -> Requirement
-    requires { ⌜ Placed (now rows) (s .0) ⌝ }
-    ensures { λ r. ⌜ Requires-more (operator-at (now (rows .entry)) (s .0)) q r ⌝ }
+// What is required, with one signal more, to be present or to be absent.
+fn with_signal(q: Requirement, present: bool, signal: u8) -> Requirement
+    requires { ⌜ signal < 16 ⌝ }
+    ensures { λ r. ⌜ r ≡ with-signal present signal q ⌝ }
 {
-    let o = formula::operator_at(rows, s);
-    let mut r = q;
-    match o {
-        Operator::Constant(holds) => {
-            r.falsum = q.falsum | !holds;
-            r
-        }
-        Operator::Signal { present, signal } => {
-            let bit = base::power(base::wide(signal));
-            if present {
-                r.present = q.present | bit;
-                return r;
-            }
-            r.absent = q.absent | bit;
-            r
-        }
-        Operator::Next(operand) => {
-            r.to = q.to | base::power(operand.0);
-            r
-        }
-        Operator::Variable(_) => q,
-        Operator::Pair { .. } => q,
-        Operator::Fixpoint { .. } => q,
+    let bit = 1u16 << base::wide(signal);
+    if present {
+        return Requirement {
+            present: q.present | bit,
+            absent: q.absent,
+        };
+    }
+    Requirement {
+        present: q.present,
+        absent: q.absent | bit,
     }
 }
 
-// What the subformulas of a set require.
-fn required_by(rows: &[u8; 144], count: usize, set: u64) -> Requirement
-    requires { ⌜ Formed (now rows) count ⌝ }
-    ensures { λ r. ⌜ Required-by (now (rows .entry)) count count set r ⌝ }
+// What is gathered, with what a subformula requires.
+fn with_required(rows: &[u8; 144], s: Subformula, had: Gathered) -> Gathered
+    requires { ⌜ Placed (now rows) (s .0) ⌝ }
+    ensures { λ r. ⌜ Requires-more (operator-at (now (rows .entry)) (s .0)) had r ⌝ }
 {
-    let mut all = Requirement {
-        present: 0,
-        absent: 0,
+    let o = formula::operator_at(rows, s);
+    let mut r = had;
+    match o {
+        Operator::Constant(holds) => {
+            r.falsum = had.falsum | !holds;
+            r
+        }
+        Operator::Signal { present, signal } => {
+            let q = had.required;
+            let more = with_signal(q, present, signal);
+            r.required = more;
+            r
+        }
+        Operator::Next(operand) => {
+            r.to = had.to | base::power(operand.0);
+            r
+        }
+        Operator::Variable(_) => had,
+        Operator::Pair { .. } => had,
+        Operator::Fixpoint { .. } => had,
+    }
+}
+
+// What the subformulas of a set require, in one pass over it.
+fn required_by(rows: &[u8; 144], count: usize, set: u64) -> Gathered
+    requires { ⌜ Formed (now rows) count ⌝ }
+    ensures { λ r. ⌜ Required-by (now (rows .entry)) count set r ⌝ }
+{
+    let mut all = Gathered {
+        required: Requirement {
+            present: 0,
+            absent: 0,
+        },
         falsum: false,
         to: 0,
     };
@@ -256,6 +278,20 @@ fn required_by(rows: &[u8; 144], count: usize, set: u64) -> Requirement
         rest = base::without(rest, e);
     }
     all
+}
+
+// Whether a signal is to be both present and absent.
+fn clashes(required: Requirement) -> bool
+    ensures { λ r. ⌜ r ≡ clash required ⌝ }
+{
+    required.present & required.absent != 0
+}
+
+// The letter that meets a requirement.
+pub fn letter_of(required: Requirement) -> u16
+    ensures { λ r. ⌜ r ≡ letter-of required ⌝ }
+{
+    required.present
 }
 
 // The transition of a node under a choice, which picks nothing at an or that is not met.
@@ -271,12 +307,13 @@ fn transition(rows: &[u8; 144], count: usize, choice: u64, node: u64) -> Target
     if r.falsum {
         return Target::Nothing;
     }
-    if r.present & r.absent != 0 {
+    let required = r.required;
+    if clashes(required) {
         return Target::Nothing;
     }
     Target::Leads {
         to: r.to,
-        letter: r.present,
+        required: required,
     }
 }
 
@@ -330,12 +367,6 @@ fn slot(set: u64) -> usize
     (set % 2029) as usize
 }
 
-fn wide16(x: u16) -> usize
-    ensures { λ r. ⌜ r ≡ x ⌝ }
-{
-    x as usize
-}
-
 // Whether a set is one of the first `known` nodes. Without a mark it is not; else the marked node is tried first.
 fn is_known(area: &[u8], slots: &[u16; 2048], known: usize, set: u64) -> bool
     requires { ⌜ (known ≤ 1024) × (8 * known ≤ length (now area)) ⌝ }
@@ -343,7 +374,7 @@ fn is_known(area: &[u8], slots: &[u16; 2048], known: usize, set: u64) -> bool
     ensures { λ r. ⌜ r ≡ member set (words-at (now (area .entry)) 0 known) ⌝ }
 {
     let k = slot(set);
-    let mark = wide16(slots[k]);
+    let mark = base::wide16(slots[k]);
     if mark == 0 {
         return false;
     }
@@ -358,14 +389,14 @@ fn is_known(area: &[u8], slots: &[u16; 2048], known: usize, set: u64) -> bool
     }
 }
 
-// Notes where the search came to a node from. A letter has 16 bits.
-fn note(origins: &mut [u16], number: NodeNumber, from: NodeNumber, letter: u64)
+// Notes where the search came to a node from.
+fn note(origins: &mut [u16], number: NodeNumber, from: NodeNumber, letter: u16)
     requires { ⌜ (number .0 < 1024) × ((from .0 < 1024) × (2 * number .0 + 2 ≤ length (now origins))) ⌝ }
-    ensures { λ _. ⌜ now (origins .exit) ≡ with-note (now (origins .entry)) (number .0) (from .0) (letter % 65536) ⌝ }
+    ensures { λ _. ⌜ now (origins .exit) ≡ with-note (now (origins .entry)) (number .0) (from .0) letter ⌝ }
 {
     let j = number.0;
     origins[2 * j] = from.0 as u16;
-    origins[2 * j + 1] = (letter % 65536) as u16;
+    origins[2 * j + 1] = letter;
 }
 
 // How many nodes are known once that of an arrival is one of them; capacity + 1 where there is no room for it.
@@ -417,11 +448,11 @@ fn follow(
 {
     match target {
         Target::Nothing => known,
-        Target::Leads { to, letter } => {
+        Target::Leads { to, required } => {
             let new = Arrival {
                 set: to,
                 from: number,
-                letter: letter,
+                letter: letter_of(required),
             };
             add(area, slots, origins, known, capacity, new)
         }

@@ -13,3 +13,4 @@ pub mod Completeness
 pub mod CoreTheorem
 pub mod Pitfalls
 pub mod TraceTheorem
+pub mod Existence

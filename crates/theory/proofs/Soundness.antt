@@ -9,14 +9,15 @@ use mathlib.Core.Logic.{_⊎_, inl, inr, ⊎-elim}
 use mathlib.Core.List.{List, _∷_, _++_, map, List·Memᴰ, List·Memᴰ·head}
 use Prim.Native.Nat.{ℕ, suc, _≤_, _<_, min}
 use native.Mathlib.Omega.{arith}
-use lib.ListN.{length, drop, length-append, length-map, List·getD-map}
+use lib.ListN.{length, drop, length-append, length-map}
 use lib.Seq.{drop-cons, drop-append-seam, drop-length}
 use lib.Dec.{T, ltb}
 use borrow.Author.Tests.{ltb-true, ltb-false}
+use Rattle.base.proofs.ListLaws.{getD-map}
 use Rattle.formula.specs.Table.{Operator, Table, operator, is-fix}
 use Rattle.lasso.specs.Lasso.{Lasso}
 use Rattle.tableau.specs.Saturation.{Subset, has, moves, saturate}
-use Rattle.tableau.specs.Transition.{Transition, next-of}
+use Rattle.tableau.specs.Transition.{Transition, letter, next-of}
 use Rattle.tableau.proofs.SaturationLaws.{saturate-length}
 use Rattle.tableau.proofs.TransitionLaws.{asks, next-is, Facts, facts}
 use Rattle.profile.specs.Cycle.{Rejecting}
@@ -31,10 +32,10 @@ use Rattle.theory.proofs.LapLaws.{Laps, cycle-triples, laps-lap}
 
 -- the letters of a stem and a cycle
 abbrev pub lasso-of : (stem cycle : List Transition) → Lasso
-lasso-of stem cycle = record { letters = map (λ (s : Transition). s .letter) (stem ++ cycle); stem = length stem }
+lasso-of stem cycle = record { letters = map letter (stem ++ cycle); stem = length stem }
 
 pub stem-short : (stem : List Transition) (s : Transition) (ss : List Transition) → length stem < length (lasso-of stem (s ∷ ss) .letters)
-stem-short stem s ss = omega (arith, length-map (stem ++ (s ∷ ss)) (λ (s : Transition). s .letter), length-append stem (s ∷ ss))
+stem-short stem s ss = omega (arith, length-map (stem ++ (s ∷ ss)) letter, length-append stem (s ∷ ss))
 
 module _ (t : Table) (law : Lawful t) (start hub : Subset) (fits : length start ≡ length t)
     (stem : List Transition) (s : Transition) (ss : List Transition) (lead : Walk t start stem hub) (circle : Walk t hub (s ∷ ss) hub)
@@ -50,7 +51,7 @@ module _ (t : Table) (law : Lawful t) (start hub : Subset) (fits : length start 
   total = c .count
 
   total-is : total ≡ length all
-  total-is = length-map all (λ (s : Transition). s .letter)
+  total-is = length-map all letter
 
   abbrev node : ℕ → Subset
   node i = node-at start all i
@@ -122,14 +123,14 @@ module _ (t : Table) (law : Lawful t) (start hub : Subset) (fits : length start 
   cross {x} {y} {i} h m =
       let l = c .after-lt i (h .inside) in record { inside = l; holds-it = fact (c .after i) l .enters y (next-in h m .0) }
 
-  letter-at : (i : ℕ) → c .letter i ≡ step-at i .letter
-  letter-at i = List·getD-map (λ (s : Transition). s .letter) all i no-transition
+  letter-at : (i : ℕ) → i < total → c .letter i ≡ letter (step-at i)
+  letter-at i h = getD-map letter all i no-transition 0 (omega (arith, total-is))
 
   consistent : Consistent t c ch Met-on
   consistent =
       record {
         inside = λ x p h. h .inside;
-        fair = λ x p h. subst⁻¹ (λ (a : ℕ). T (asks (operator t x) a)) (letter-at p)
+        fair = λ x p h. subst⁻¹ (λ (a : ℕ). T (asks (operator t x) a)) (letter-at p (h .inside))
             (fact p (h .inside) .allows x (h .holds-it) (law .signals x));
         goes = λ x p y q h m. goes h m;
       }

@@ -15,7 +15,7 @@ use Rattle.tableau.specs.Run.{Along}
 use Rattle.profile.specs.Cycle.{Run}
 
 abbrev pub no-transition : Transition
-no-transition = record { choice = []; letter = 0; to = [] }
+no-transition = record { choice = []; required = record { present = 0; absent = 0 }; to = [] }
 
 abbrev pub transition-at : List Transition → ℕ → Transition
 transition-at ss i = getD ss i no-transition

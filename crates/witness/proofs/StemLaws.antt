@@ -8,7 +8,7 @@ use Rattle.base.specs.Search.{Item}
 use Rattle.base.specs.Spread.{Linked}
 use Rattle.formula.specs.Table.{Table}
 use Rattle.tableau.specs.Saturation.{Subset}
-use Rattle.tableau.specs.Transition.{Transition}
+use Rattle.tableau.specs.Transition.{Transition, letter}
 use Rattle.tableau.specs.Nodes.{nodes}
 use Rattle.tableau.specs.Origins.{way-letters, parent-at, letter-at, Origins}
 use Rattle.tableau.proofs.NodeLaws.{nodes-first}
@@ -18,7 +18,7 @@ use Rattle.witness.proofs.ChainLaws.{labels-are}
 -- the way to the root is empty
 way-root : (t : Table) → way-letters t 0 ≡ []
 unfolding nodes
-way-root t = ap (λ (l : List (Item Transition Subset)). map (λ (s : Transition). s .letter) (getD l 0 (record { way = []; at = [] }) .way))
+way-root t = ap (λ (l : List (Item Transition Subset)). map letter (getD l 0 (record { way = []; at = [] }) .way))
     (nodes-first t)
 
 -- a node's note, as an item of the chain

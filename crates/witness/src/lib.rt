@@ -24,19 +24,6 @@ pub struct Lengths {
     pub cycle: usize,
 }
 
-fn wide(x: u16) -> usize
-    ensures { λ r. ⌜ r ≡ x ⌝ }
-{
-    x as usize
-}
-
-fn narrow(x: usize) -> u16
-    requires { ⌜ x < 65536 ⌝ }
-    ensures { λ r. ⌜ r ≡ x ⌝ }
-{
-    x as u16
-}
-
 // Puts a letter at a position of the witness.
 fn put(letters: &mut [u16], at: Position, letter: u16)
     requires { ⌜ at .0 < length (now letters) ⌝ }
@@ -53,7 +40,7 @@ fn origin_of(origins: &[u16], node: NodeNumber) -> Origin
 {
     let i = node.0;
     Origin {
-        parent: NodeNumber(wide(origins[2 * i])),
+        parent: NodeNumber(base::wide16(origins[2 * i])),
         letter: origins[2 * i + 1],
     }
 }
@@ -116,7 +103,7 @@ fn write_cycle(area: &[u8], store: Store, p: usize, letters: &mut [u16], from: P
     while 0 < at {
         left -= 1;
         let e = profile_search::header_of(area, store, at - 1);
-        put(letters, Position(start + left), narrow(e.letter));
+        put(letters, Position(start + left), e.letter);
         at = e.parent;
     }
 }

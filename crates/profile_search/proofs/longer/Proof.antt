@@ -69,7 +69,6 @@ add-requires c κs =
         first = a .first;
         last = b .last;
         parent = omega (arith, shelved .fits .few, shelved .room, start .pre .1 .0);
-        letter = b .letter;
       },
     )
 

@@ -4,7 +4,7 @@ use mathlib.Core.Path.{refl, subst}
 use native.Mathlib.Omega.{arith}
 use Rattle.tableau.specs.Inner.{Target-by}
 use Rattle.tableau.proofs.TargetLaws.{target-nowhere}
-use Rattle.profile_search.proofs.SingleLaws.{single-nowhere, single-letter, single-there, single-last, single-small, single-some}
+use Rattle.profile_search.proofs.SingleLaws.{single-nowhere, single-there, single-last, single-small, single-some}
 use borrow.Author.Needs.{needs}
 use Rattle.profile_search.proofs.single.Statement.{statement}
 use Rattle.profile_search.proofs.single.Tie as tie
@@ -33,9 +33,12 @@ choice-of-requires c κs = search needs
 triples-of-requires : tie.Need-triples-of-requires
 triples-of-requires c κs = search needs
 
+letter-of-requires : tie.Need-letter-of-requires
+letter-of-requires c κs = search needs
+
 add-requires : tie.Need-add-requires
 add-requires c κs =
-    let earlier = c .before .before .before .before .before .before in
+    let earlier = c .before .before .before .before .before .before .before in
     let start = earlier .before .before .before .before .before .before .before .before .before in
     let to = earlier .before .before .before .before .before .to in
     let by-word = earlier .before .before .before .before .before .before .before .by-word in
@@ -52,7 +55,6 @@ add-requires c κs =
         last = single-small (ready .given) i x (ready .node) (chosen .below) (chosen .set-is) target (last .given .0 .0) (find .ensures)
             (last .given .1);
         parent = omega arith;
-        letter = single-letter (ready .given) i x (ready .node) (chosen .below) (chosen .set-is) target;
       },
     )
 
@@ -83,14 +85,15 @@ same-length-2 c = search needs
 
 returns-3 : tie.Need-returns-3
 returns-3 c =
-    let earlier = c .before .before .before .before .before .before .before .before .before in
+    let earlier = c .before .before .before .before .before .before .before .before .before .before in
     let start = earlier .before .before .before .before .before .before .before .before .before in
     let to = earlier .before .before .before .before .before .to in
     let by-word = earlier .before .before .before .before .before .before .before .by-word in
     let last = earlier .last in
     let find = earlier .before .before .find in
-    let triples-of = c .before .before .before .before .before .before .triples-of in
-    let choice-of = c .before .before .before .before .before .before .before .choice-of in
+    let triples-of = c .before .before .before .before .before .before .before .triples-of in
+    let letter-of = c .before .before .before .before .before .letter-of in
+    let choice-of = c .before .before .before .before .before .before .before .before .choice-of in
     let ready = start .pre .0 in
     let chosen = start .pre .1 in
     let target = subst (Target-by _ _ _ _) (to .given .1) (by-word .ensures) in
@@ -100,7 +103,7 @@ returns-3 c =
     single-last (ready .given) i x (ready .node) (chosen .below) (chosen .set-is) target (last .given .0 .0) (find .ensures)
     (last .given .1) in
     single-some (ready .given) i x (ready .node) (chosen .below) (chosen .set-is) target (triples-of .result) refl there
-    (choice-of .ensures) (triples-of .ensures) (c .before .before .add .ensures)
+    (letter-of .ensures) (choice-of .ensures) (triples-of .ensures) (c .before .before .add .ensures)
 
 pub single-spec : {M : Type 1} → statement M
 single-spec =
@@ -114,6 +117,7 @@ single-spec =
     enum-known-last
     choice-of-requires
     triples-of-requires
+    letter-of-requires
     add-requires
     returns
     same-length

@@ -24,7 +24,7 @@ returns : tie.Need-returns
 returns c =
     let start = c .before .before .before .before .before in
     let slot = c .before .before .before .slot in
-    sym (unmarked _ (start .pre .1) (slot .ensures) (c .before .wide16 .ensures) (c .if1 .taken))
+    sym (unmarked _ (start .pre .1) (slot .ensures) (c .before .wide16 .ensures .0) (c .if1 .taken))
 
 sub-t13 : tie.Need-sub-t13
 sub-t13 c = search needs

@@ -17,9 +17,6 @@ mul-origins-2 c = search needs
 slice-write-origins : tie.Need-slice-write-origins
 slice-write-origins c = search needs
 
-cast-origins-2 : tie.Need-cast-origins-2
-cast-origins-2 c = search needs
-
 mul-origins-3 : tie.Need-mul-origins-3
 mul-origins-3 c = search needs
 
@@ -46,7 +43,6 @@ note-spec =
     mul-origins
     mul-origins-2
     slice-write-origins
-    cast-origins-2
     mul-origins-3
     add-origins
     mul-origins-4

@@ -42,7 +42,7 @@ loop-again c =
     passed-more (loop .inv) (lowest .ensures) (c .without .ensures) (c .before .with-required .ensures)
 
 returns : tie.Need-returns Inv-loop μ-loop
-returns c = passed-all (c .before .loop .inv) (c .loop-test .left)
+returns c = passed-all (c .before .loop .inv) (c .before .before .before .pre) (c .loop-test .left)
 
 pub required-by-spec : {M : Type 1} → statement M
 required-by-spec =

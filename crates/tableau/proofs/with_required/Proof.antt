@@ -1,5 +1,5 @@
 -- `tableau::with_required` adds what one operator requires: a look at each operator.
-use Rattle.tableau.proofs.RowLaws.{found-fits, required-none, required-constant, required-present, required-absent, required-next}
+use Rattle.tableau.proofs.RowLaws.{found-fits, required-none, required-constant, required-signal, required-next}
 use native.Mathlib.Omega.{arith}
 use borrow.Author.Needs.{needs}
 use Rattle.tableau.proofs.with_required.Statement.{statement}
@@ -14,29 +14,18 @@ enum-known-o c = search needs
 enum-known-o-2 : tie.Need-enum-known-o-2
 enum-known-o-2 c = search needs
 
-wide-requires : tie.Need-wide-requires
-wide-requires c κs = search needs
-
-power-requires : tie.Need-power-requires
-power-requires c κs =
+with-signal-requires : tie.Need-with-signal-requires
+with-signal-requires c κs =
     let read = c .before .before .before .before .operator-at in
     let start = c .before .before .before .before .before in
     let small = found-fits (read .ensures) 48 (c .before .before .o2 .given .1) (start .pre .fits) in
-    omega (arith, c .wide .ensures, small)
-
-returns : tie.Need-returns
-returns c =
-    let read = c .before .before .before .before .before .before .before .operator-at in
-    let signal = c .before .before .before .before .before .o2 in
-    let wide = c .before .before .before .wide in
-    let power = c .before .before .power in
-    required-present (read .ensures) _ (signal .given .1) (wide .ensures) (power .ensures) (c .before .if1 .taken)
+    omega (arith, small)
 
 enum-known-o-3 : tie.Need-enum-known-o-3
 enum-known-o-3 c = search needs
 
-power-requires-2 : tie.Need-power-requires-2
-power-requires-2 c κs =
+power-requires : tie.Need-power-requires
+power-requires c κs =
     let read = c .before .before .before .operator-at in
     let start = c .before .before .before .before in
     let small = found-fits (read .ensures) 48 (c .before .o3 .given .1) (start .pre .fits) in
@@ -51,33 +40,30 @@ enum-told-2 c = search needs
 enum-told-3 : tie.Need-enum-told-3
 enum-told-3 c = search needs
 
+returns : tie.Need-returns
+returns c =
+    required-constant (c .before .before .before .before .operator-at .ensures) _ (c .before .before .o .given .1)
+
 returns-2 : tie.Need-returns-2
 returns-2 c =
-    required-constant (c .before .before .before .before .operator-at .ensures) _ (c .before .before .o .given .1)
+    let read = c .before .before .before .before .before .operator-at in
+    required-signal (read .ensures) _ (c .before .before .before .o2 .given .1) (c .with-signal .ensures)
 
 returns-3 : tie.Need-returns-3
 returns-3 c =
-    let read = c .before .before .before .before .before .before .before .operator-at in
-    let signal = c .before .before .before .before .before .o2 in
-    let wide = c .before .before .before .wide in
-    let power = c .before .before .power in
-    required-absent (read .ensures) _ (signal .given .1) (wide .ensures) (power .ensures) (c .before .if1 .left)
+    let read = c .before .before .before .before .before .operator-at in
+    required-next (read .ensures) _ (c .before .before .before .o3 .given .1) (c .before .power .ensures)
 
 returns-4 : tie.Need-returns-4
 returns-4 c =
-    let read = c .before .before .before .before .before .operator-at in
-    required-next (read .ensures) _ (c .before .before .before .o3 .given .1) (c .before .power2 .ensures)
+    required-none (c .before .before .operator-at .ensures) _ (c .enum-told .given .1) tt
 
 returns-5 : tie.Need-returns-5
 returns-5 c =
-    required-none (c .before .before .operator-at .ensures) _ (c .enum-told .given .1) tt
+    required-none (c .before .before .operator-at .ensures) _ (c .enum-told2 .given .1) tt
 
 returns-6 : tie.Need-returns-6
 returns-6 c =
-    required-none (c .before .before .operator-at .ensures) _ (c .enum-told2 .given .1) tt
-
-returns-7 : tie.Need-returns-7
-returns-7 c =
     required-none (c .before .before .operator-at .ensures) _ (c .enum-told3 .given .1) tt
 
 pub with-required-spec : {M : Type 1} → statement M
@@ -87,17 +73,15 @@ with-required-spec =
     operator-at-requires
     enum-known-o
     enum-known-o-2
-    wide-requires
-    power-requires
-    returns
+    with-signal-requires
     enum-known-o-3
-    power-requires-2
+    power-requires
     enum-told
     enum-told-2
     enum-told-3
+    returns
     returns-2
     returns-3
     returns-4
     returns-5
-    returns-6
-    returns-7)
+    returns-6)

@@ -1,6 +1,6 @@
 -- `witness::write_cycle` writes the letters from the last to the first. The invariant: those up to the profile where it stands are to be
 -- written, and the others are.
-use mathlib.Core.Path.{refl, _∙_}
+use mathlib.Core.Path.{refl}
 use Prim.Native.Nat.{suc}
 use native.Mathlib.Omega.{arith}
 use borrow.Author.Needs.{needs}
@@ -53,24 +53,20 @@ header-of-requires c κs =
 add-t12 : tie.Need-add-t12 Inv-loop μ-loop
 add-t12 c = record { fits = omega (arith, turn-room (turn (c .before .before)), turn-some (turn (c .before .before))) }
 
-narrow-requires : tie.Need-narrow-requires Inv-loop μ-loop
-narrow-requires c κs = c .before .header-of .ensures .small .letter
-
 put-requires : tie.Need-put-requires Inv-loop μ-loop
-put-requires c κs = turn-index (turn (c .before .before .before)) refl
+put-requires c κs = turn-index (turn (c .before .before)) refl
 
 loop-less : tie.Need-loop-less Inv-loop μ-loop
 loop-less c =
-    let in-loop = c .before .before .before .before .before .before in
-    let ends = c .before .before .before .before .before .header-of .ensures in
+    let in-loop = c .before .before .before .before .before in
+    let ends = c .before .before .before .before .header-of .ensures in
     turn-less (turn in-loop) (ends .parent)
 
 loop-again : tie.Need-loop-again Inv-loop μ-loop
 loop-again c =
-    let in-loop = c .before .before .before .before .before .before in
-    let ends = c .before .before .before .before .before .header-of .ensures in
-    let narrow = c .before .before .before .narrow .ensures in
-    turn-next (turn in-loop) refl (ends .parent) (narrow ∙ ends .letter) (c .before .before .put .ensures)
+    let in-loop = c .before .before .before .before .before in
+    let ends = c .before .before .before .before .header-of .ensures in
+    turn-next (turn in-loop) refl (ends .parent) (ends .letter) (c .before .before .put .ensures)
 
 same-length : tie.Need-same-length Inv-loop μ-loop
 same-length c = search needs
@@ -90,7 +86,6 @@ write-cycle-spec =
     sub-header-of
     header-of-requires
     add-t12
-    narrow-requires
     put-requires
     loop-less
     loop-again
