@@ -27,8 +27,30 @@ fn placeless(number: u8) -> Refused {
     Refused { number, place: None, fixpoint: None }
 }
 
+/// A rule's bytes, and how far its signals, which are few, are turned round among the sixteen; a course for it has them there too.
+pub struct Input {
+    pub rule: Vec<u8>,
+    turn: u32,
+}
+
+impl Input {
+    pub fn new(random: &mut Random) -> Self {
+        let mut rule = rule(random);
+        let turn = random.below(16) as u32;
+        let mut at = 0;
+        while at < rule.len() {
+            let takes_one = matches!(rule[at], 3..=5);
+            if let (3 | 4, Some(signal @ 0..=15)) = (rule[at], rule.get_mut(at + 1)) {
+                *signal = ((u32::from(*signal) + turn) % 16) as u8;
+            }
+            at += 1 + takes_one as usize;
+        }
+        Input { rule, turn }
+    }
+}
+
 /// The rule's bytes: at random, damaged, short, long, or with fixpoints that cross, most of which alternate; of these some lack a next.
-pub fn rule(random: &mut Random) -> Vec<u8> {
+fn rule(random: &mut Random) -> Vec<u8> {
     let most = [4, 12, 24, 48, 60][random.below(5)];
     let size = 1 + random.below(most);
     match random.below(10) {
@@ -52,6 +74,25 @@ impl Unguarded {
         self.all += 1;
         // the byte at the place is the variable's depth
         self.between += (rule[place] > 0 && fixpoint > 0) as u64;
+    }
+}
+
+/// For each signal, how many accepted rules have it both present and absent.
+#[derive(Default)]
+pub struct Signals([u64; 16]);
+
+impl Signals {
+    pub fn count(&mut self, rule: &[u8]) {
+        let Ok(entries) = reading::read(rule) else { return };
+        for (j, both) in self.0.iter_mut().enumerate() {
+            let has = |c: reading::Command| entries.contains(&c);
+            *both += (has(reading::Command::Present(j as u8)) && has(reading::Command::Absent(j as u8))) as u64;
+        }
+    }
+
+    /// Of the signal that the fewest have so.
+    pub fn fewest(&self) -> u64 {
+        self.0.into_iter().min().unwrap_or(0)
     }
 }
 
@@ -114,7 +155,7 @@ struct Asked {
     lent: Vec<u64>,
 }
 
-fn asked(random: &mut Random, longest: usize) -> Asked {
+fn asked(random: &mut Random, longest: usize, turn: u32) -> Asked {
     let n = length(random, longest);
     let lead_len = match random.below(20) {
         0 => n + random.below(2),
@@ -123,7 +164,8 @@ fn asked(random: &mut Random, longest: usize) -> Asked {
         _ => random.below(n.max(1)),
     };
     let room = if random.one_in(20) { n.saturating_sub(1) } else { n + random.below(3) };
-    Asked { places: random.course(n), lead_len, lent: (0..room as u64).map(|i| i ^ 0xdead_beef).collect() }
+    let places = random.course(n).into_iter().map(|place| place.rotate_left(turn)).collect();
+    Asked { places, lead_len, lent: (0..room as u64).map(|i| i ^ 0xdead_beef).collect() }
 }
 
 /// What the independent implementation answers, with what the words are afterwards. The two methods must agree on a short course.
@@ -140,8 +182,8 @@ fn expected(rule: &[u8], x: &Asked) -> Result<(Result<bool, Refused>, Vec<u64>),
 }
 
 /// Truth: the answer, the words, and the words past the course, which has at most `longest` places unless it is refused.
-pub fn truth(random: &mut Random, rule: &[u8], longest: usize, truths: &mut Truths) -> Result<(), String> {
-    let x = asked(random, longest);
+pub fn truth(random: &mut Random, Input { rule, turn }: &Input, longest: usize, truths: &mut Truths) -> Result<(), String> {
+    let x = asked(random, longest, *turn);
     let mut words = x.lent.clone();
     let ours = yuktrob::truth(rule, &x.places, x.lead_len, &mut words).map_err(ours);
     let (theirs, after) = expected(rule, &x)?;

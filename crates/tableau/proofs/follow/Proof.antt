@@ -33,9 +33,10 @@ returns-2 c =
     let earlier = c .before .before .before .before .before .before .before .before in
     let start = earlier .before .before .before .before .before .before in
     let target = earlier .before .before .target in
-    let add = c .before .before .before .before .add in
-    (follow-some (start .args .number) (target .given .1) (earlier .letter-of .ensures) (start .pre .0 .room .fits) (add .ensures .0),
-    add .ensures .1)
+    let add = c .before .before .before .before .add in (
+      follow-some (start .args .number) (target .given .1) (earlier .letter-of .ensures) (start .pre .0 .room .fits) (add .ensures .0),
+      add .ensures .1,
+    )
 
 pub follow-spec : {M : Type 1} → statement M
 follow-spec =
