@@ -15,7 +15,7 @@ use Rattle.formula.specs.declared.Operator.the-variants.{Constant, Signal, Vari
 use Rattle.formula.proofs.FitLaws as fits
 use Rattle.tableau.specs.Saturation.{moves}
 use Rattle.tableau.specs.Transition.{requires, next-of}
-use Rattle.tableau.specs.Inner.{Formed, with-bits, with-signal, Requires-more}
+use Rattle.tableau.specs.Inner.{Formed, with-bits, with-bit, Requires-more}
 use Rattle.tableau.specs.declared.Requirement.{Requirement}
 use Rattle.tableau.specs.declared.Gathered.{Gathered}
 use Rattle.tableau.proofs.WordSets.{All-below, below-none, below-cons, below-one}
@@ -84,7 +84,7 @@ module _ (q : Gathered) where
   constant-requires : (b : Bool) → Requires-more (Operator.leaf (Leaf.constant b)) q (with-falsum q (not b))
   constant-requires b = record { present-is = refl; absent-is = refl; falsum-is = refl; to-is = refl }
 
-  signal-requires : (p : Bool) (j : ℕ) {r : Requirement} → r ≡ with-signal p j (q .required)
+  signal-requires : (p : Bool) (j : ℕ) {r : Requirement} → r ≡ with-bit p (2 ^ j) (q .required)
       → Requires-more (Operator.leaf (Leaf.signal p j)) q (with-required q r)
   signal-requires true j i = record { present-is = λ k. i k .present; absent-is = λ k. i k .absent; falsum-is = still; to-is = refl }
   signal-requires false j i = record { present-is = λ k. i k .present; absent-is = λ k. i k .absent; falsum-is = still; to-is = refl }
@@ -130,7 +130,7 @@ module _ {o : Operator} {x : code.Operator} (read : o ≡ decoded x) where
     pub required-constant : {b : Bool} → x ≡ Constant b → Requires-more o q (with-falsum q (not b))
     required-constant {b} is = found-requires is (constant-requires q b)
 
-    pub required-signal : {p : Bool} {j : ℕ} {r : Requirement} → x ≡ Signal p j → r ≡ with-signal p j (q .required)
+    pub required-signal : {p : Bool} {j : ℕ} {r : Requirement} → x ≡ Signal p j → r ≡ with-bit p (2 ^ j) (q .required)
         → Requires-more o q (with-required q r)
     required-signal {p} {j} is i = found-requires is (signal-requires q p j i)
 

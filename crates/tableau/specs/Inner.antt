@@ -71,10 +71,10 @@ is-unmet r x = any (λ j. not (eqb (bitAnd x (unmet-at r x j)) 0)) (range 0 12)
 pub record Unmet-ors (rows : List ℕ) (count node : ℕ) (r : List ℕ) : Type 0 where
   pub is : (x j : ℕ) → j < 12 → (bitAnd x (unmet-at r x j) ≡ 0 → ⊥) → Leads-nowhere rows count node x
 
--- a requirement with one signal more, to be present or to be absent
-abbrev pub with-signal : (present : Bool) → ℕ → Requirement → Requirement
-with-signal Bool.true j q = record { present = bitOr (q .present) (2 ^ j); absent = q .absent }
-with-signal Bool.false j q = record { present = q .present; absent = bitOr (q .absent) (2 ^ j) }
+-- a requirement with one bit more, in the word of the signals to be present or in that of those to be absent
+abbrev pub with-bit : (present : Bool) (bit : ℕ) → Requirement → Requirement
+with-bit Bool.true b q = record { present = bitOr (q .present) b; absent = q .absent }
+with-bit Bool.false b q = record { present = q .present; absent = bitOr (q .absent) b }
 
 -- What is gathered is r: what was gathered before, q, with what the operator o requires.
 pub record Requires-more (o : Operator) (q r : Gathered) : Type 0 where

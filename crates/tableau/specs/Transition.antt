@@ -40,7 +40,7 @@ is-false (Operator.fix g l) = false
 unfoldable pub required-word : (present : Bool) → List Operator → ℕ
 required-word p os = let signals = flat-map (requires p) os in word (map (λ j. member j signals) (range 0 16))
 
--- the requirement of a set with these operators: both words, in the type of the code
+-- the requirement of a set with these operators (document 01: what the set requires): both words, in the type of the code
 abbrev pub requirement : List Operator → Requirement
 requirement os = record { present = required-word true os; absent = required-word false os }
 

@@ -3,7 +3,7 @@ use formula::Operator;
 use formula::Subformula;
 ghost use mathlib.Core.Path.{_≡_};
 ghost use mathlib.Core.List.{_++_};
-ghost use Prim.Native.Nat.{_+_, _*_, _≤_, _<_};
+ghost use Prim.Native.Nat.{_+_, _*_, _^_, _≤_, _<_};
 ghost use lib.Dec.{eqb};
 ghost use lib.ListN.{length, drop};
 ghost use Rattle.base.specs.Bits.{bit, word};
@@ -12,7 +12,7 @@ ghost use Rattle.formula.specs.Rows.{operator-at};
 ghost use Rattle.formula.specs.Access.{Placed};
 ghost use Rattle.tableau.specs.Saturation.{moves};
 ghost use Rattle.tableau.specs.Transition.{clash, letter-of, ors, choice-of};
-ghost use Rattle.tableau.specs.Inner.{table-of, Formed, with-bits, Saturated, with-signal, Requires-more, Required-by, Target-is};
+ghost use Rattle.tableau.specs.Inner.{table-of, Formed, with-bits, Saturated, with-bit, Requires-more, Required-by, Target-is};
 ghost use Rattle.tableau.specs.Inner.{Target-by, Widest, Unmet-between, is-unmet, Unmet-ors};
 ghost use Rattle.tableau.specs.Area.{eight, words-at, lookup, zeros, Node-room, Nodes-held, reachable, slot-of, Slots-marked};
 ghost use Rattle.tableau.specs.Area.{with-note};
@@ -215,7 +215,7 @@ fn is_unmet(unmet: &[u64; 24], choice_word: u64) -> bool
 // What is required, with one signal more, to be present or to be absent.
 fn with_signal(q: Requirement, present: bool, signal: u8) -> Requirement
     requires { ⌜ signal < 16 ⌝ }
-    ensures { λ r. ⌜ r ≡ with-signal present signal q ⌝ }
+    ensures { λ r. ⌜ r ≡ with-bit present (2 ^ signal) q ⌝ }
 {
     let bit = 1u16 << base::wide(signal);
     if present {
