@@ -233,9 +233,10 @@ module _ {rows : List ℕ} {count : ℕ} {r : Ranks} {s : Store} {nodes : ℕ} {
         single-some {had = had} triple-set e l z c k m =
             let q : triples-in (s .n) triple-set ≡ triples t v w =
             ap (λ (n : ℕ). triples-in n triple-set) (g .nexts ∙ g .ranks .nexts-are) ∙ k v w (f ∙ node-is) c in
+            let u = z ∙ ap letter-of (found .required-is) in
             grown-same
             ((λ j. add same-profile (stored s a had)
-            (record { at = record { first = e j; last = l j; triple-set = q j }; parent = 0; label = (z ∙ ap letter-of (found .required-is)) j }))
+            (record { at = record { first = e j; last = l j; triple-set = q j }; parent = 0; label = u j }))
             ∙ ap (λ (ys : List Transition). adds same-profile (stored s a had) (map (single-of t vs i v) ys)) (sym (found .exists)))
             m
 

@@ -1,5 +1,5 @@
--- `runs::add` adds one profile: it is known, or there is room for it, or there is none. Its record is written first, so that the chain is
--- told of a record that stands.
+-- `profile_search::add` adds one profile: it is known, or there is room for it, or there is none. Its record is written first, so that the
+-- chain is told of a record that stands.
 use mathlib.Core.Path.{sym, ap, subst⁻¹, _∙_}
 use Rattle.profile_tables.specs.Runs.{Found-profile}
 use Rattle.triples.specs.Inner.{triples-in}

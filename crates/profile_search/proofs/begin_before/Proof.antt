@@ -1,4 +1,4 @@
--- `runs::begin_before` halves the records between those that are known to begin before the node and those that are known not to.
+-- `profile_search::begin_before` halves the records between those that are known to begin before the node and those that are known not to.
 use Prim.Native.Nat.{_-_}
 use Rattle.profile_search.proofs.RisingLaws.{Halved, halved-start, halved-up, halved-down, halved-done}
 use borrow.Author.Needs.{needs}

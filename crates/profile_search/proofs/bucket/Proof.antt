@@ -1,4 +1,5 @@
--- `runs::bucket` hashes a profile: its two nodes, and then its triples row by row. The invariant: the first f rows are in the hash.
+-- `profile_search::bucket` hashes a profile: its two nodes, and then its triples row by row. The invariant: the first f rows are in the
+-- hash.
 use mathlib.Core.Path.{_≡_, refl, ap, _∙_}
 use mathlib.Core.List.{List, map, foldl}
 use Prim.Native.Nat.{ℕ, _+_, _-_, _*_, _/_, _≤_, _<_}

@@ -1,4 +1,4 @@
--- `runs::chain` puts a record at the head of the chain of its bucket, by three stores into spare bytes.
+-- `profile_search::chain` puts a record at the head of the chain of its bucket, by three stores into spare bytes.
 use Rattle.profile_search.proofs.BucketLaws.{linked-changed, linked-records, chained-more}
 use borrow.Author.Needs.{needs}
 use Rattle.profile_search.proofs.chain.Statement.{statement}

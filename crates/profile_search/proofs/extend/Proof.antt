@@ -1,5 +1,5 @@
--- `runs::extend` adds one profile followed by each of one transition. The invariant: the first q of these are done. Those before the first
--- that is tried begin before the profile's last node, and those behind the last one begin after it.
+-- `profile_search::extend` adds one profile followed by each of one transition. The invariant: the first q of these are done. Those before
+-- the first that is tried begin before the profile's last node, and those behind the last one begin after it.
 use mathlib.Core.Path.{subst⁻¹}
 use mathlib.Core.List.{List}
 use Prim.Native.Nat.{ℕ, _-_, _≤_}

@@ -1,4 +1,4 @@
--- `runs::get2` reads two bytes of a record, the low one first.
+-- `profile_search::get2` reads two bytes of a record, the low one first.
 use mathlib.Core.Path.{ap, _∙_}
 use Prim.Native.Nat.{ℕ, _+_}
 use Rattle.profile_search.specs.Stored.{two}

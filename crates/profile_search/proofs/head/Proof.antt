@@ -1,4 +1,4 @@
--- `runs::head` reads the head of a bucket, and takes it only if it is the number of a record of this bucket.
+-- `profile_search::head` reads the head of a bucket, and takes it only if it is the number of a record of this bucket.
 use mathlib.Core.Path.{sym, _∙_}
 use Rattle.profile_search.proofs.BucketLaws.{head-none, head-is}
 use native.Mathlib.Omega.{arith}

@@ -1,4 +1,4 @@
--- `runs::header_of` reads the four numbers of a record.
+-- `profile_search::header_of` reads the four numbers of a record.
 use Rattle.profile_search.proofs.RecordLaws.{header-are}
 use borrow.Author.Needs.{needs}
 use Rattle.profile_search.proofs.header_of.Statement.{statement}

@@ -1,5 +1,5 @@
--- `runs::known` looks for a profile among the records of its bucket, from the last one back by their links. The invariant: the records from
--- number v on are other profiles, and record v - 1 is in the bucket.
+-- `profile_search::known` looks for a profile among the records of its bucket, from the last one back by their links. The invariant: the
+-- records from number v on are other profiles, and record v - 1 is in the bucket.
 use mathlib.Core.Path.{sym, _∙_}
 use Prim.Native.Nat.{_-_}
 use Rattle.triples.specs.Inner.{triples-in}

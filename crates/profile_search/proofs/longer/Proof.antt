@@ -1,4 +1,4 @@
--- `runs::longer` adds one profile followed by one of one transition: none where the first does not end where the second begins.
+-- `profile_search::longer` adds one profile followed by one of one transition: none where the first does not end where the second begins.
 use Rattle.profile_search.proofs.TurnLaws.{longer-none, longer-one}
 use native.Mathlib.Omega.{arith}
 use borrow.Author.Needs.{needs}

@@ -1,4 +1,4 @@
--- `runs::mix` takes one byte more into a row's sum. The byte is the number that its eight bits make.
+-- `profile_search::mix` takes one byte more into a row's sum. The byte is the number that its eight bits make.
 use mathlib.Core.Path.{sym, ap, _∙_}
 use Prim.Native.Nat.{ℕ, _+_, _*_, _%_}
 use Rattle.profile_search.proofs.SingleLaws.{subset-word}

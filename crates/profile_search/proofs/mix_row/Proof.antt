@@ -1,4 +1,4 @@
--- `runs::mix_row` takes a row of bytes into a hash. The invariant: the first g are in their sum.
+-- `profile_search::mix_row` takes a row of bytes into a hash. The invariant: the first g are in their sum.
 use mathlib.Core.Path.{_≡_, refl, ap, _∙_}
 use mathlib.Core.List.{List, foldl}
 use Prim.Native.Nat.{ℕ, _+_, _-_, _*_, _%_, _≤_, _<_}

@@ -1,4 +1,4 @@
--- `runs::profiles` goes on from each record in turn. The invariant: the search after p turns is in the area.
+-- `profile_search::profiles` goes on from each record in turn. The invariant: the search after p turns is in the area.
 use mathlib.Core.Path.{subst⁻¹}
 use mathlib.Core.List.{List}
 use Prim.Native.Nat.{ℕ, _+_, _-_, _≤_}

@@ -1,4 +1,4 @@
--- `runs::put2` puts a number into two bytes of a record. What is read is what was put.
+-- `profile_search::put2` puts a number into two bytes of a record. What is read is what was put.
 use mathlib.Core.Path.{ap}
 use Prim.Native.Nat.{ℕ, _+_}
 use Rattle.profile_search.proofs.RecordLaws.{put-two, put-changed}

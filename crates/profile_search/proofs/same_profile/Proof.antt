@@ -1,4 +1,4 @@
--- `runs::same_profile` compares a record's nodes, and then its triples.
+-- `profile_search::same_profile` compares a record's nodes, and then its triples.
 use mathlib.Core.Path.{sym, ap, _∙_}
 use Rattle.profile_tables.specs.Triples.{Triples, same-triples}
 use Rattle.triples.specs.Inner.{triples-in}

@@ -1,5 +1,5 @@
--- `runs::single` adds the profile of the transition under one choice word, if there is one. A transition leads to a node of the area, so
--- that one is found.
+-- `profile_search::single` adds the profile of the transition under one choice word, if there is one. A transition leads to a node of the
+-- area, so that one is found.
 use mathlib.Core.Path.{refl, subst}
 use native.Mathlib.Omega.{arith}
 use Rattle.tableau.specs.Inner.{Target-by}

@@ -1,4 +1,4 @@
--- `runs::singles` adds the profiles of one transition, node by node. The invariant: those of the nodes before i are done.
+-- `profile_search::singles` adds the profiles of one transition, node by node. The invariant: those of the nodes before i are done.
 use mathlib.Core.List.{List}
 use native.Mathlib.Omega.{arith}
 use Prim.Native.Nat.{ℕ, _-_, _≤_, _<_}

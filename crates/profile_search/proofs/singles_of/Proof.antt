@@ -1,4 +1,4 @@
--- `runs::singles_of` adds the profiles of a node's transitions. The invariant: those of the choice words below `word` are done.
+-- `profile_search::singles_of` adds the profiles of a node's transitions. The invariant: those of the choice words below `word` are done.
 use mathlib.Core.Path.{ap, _∙_}
 use mathlib.Core.List.{List}
 use native.Mathlib.Omega.{arith}

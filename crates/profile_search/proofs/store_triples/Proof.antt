@@ -1,4 +1,4 @@
--- `runs::store_triples` copies 144 bytes. The invariant: those passed are copied, and no other has changed.
+-- `profile_search::store_triples` copies 144 bytes. The invariant: those passed are copied, and no other has changed.
 use mathlib.Core.Path.{_≡_}
 use mathlib.Core.List.{List}
 use Prim.Native.Nat.{ℕ, _+_, _-_, _≤_, _<_}

@@ -1,4 +1,4 @@
--- `runs::write` writes a record: its triples, and then its four numbers, each where no earlier one stands.
+-- `profile_search::write` writes a record: its triples, and then its four numbers, each where no earlier one stands.
 use mathlib.Core.Path.{_∙_}
 use Rattle.profile_search.specs.Stored.{record-start}
 use Rattle.profile_search.proofs.RecordLaws.{written, written-changed}
