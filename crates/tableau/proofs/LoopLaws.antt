@@ -151,15 +151,15 @@ flat-mapped g os o x y p q =
 
 -- The words have the bits that the operators require put in one after another.
 pub record Bits-put (os : List Operator) (r : Gathered) : Type 0 where
-  pub present-is : r .required .present ≡ with-bits (flat-map (requires true) os) 0
-  pub absent-is : r .required .absent ≡ with-bits (flat-map (requires false) os) 0
+  pub present-is : r .present ≡ with-bits (flat-map (requires true) os) 0
+  pub absent-is : r .absent ≡ with-bits (flat-map (requires false) os) 0
   pub falsum-is : r .falsum ≡ any is-false os
   pub to-is : r .to ≡ with-bits (flat-map next-of os) 0
 
 put-one : (os : List Operator) (o : Operator) (q r : Gathered) → Bits-put os q → Requires-more o q r → Bits-put (os ++ (o ∷ [])) r
 put-one os o q r k m = record {
-  present-is = flat-mapped (requires true) os o (q .required .present) (r .required .present) (k .present-is) (m .present-is);
-  absent-is = flat-mapped (requires false) os o (q .required .absent) (r .required .absent) (k .absent-is) (m .absent-is);
+  present-is = flat-mapped (requires true) os o (q .present) (r .present) (k .present-is) (m .present-is);
+  absent-is = flat-mapped (requires false) os o (q .absent) (r .absent) (k .absent-is) (m .absent-is);
   falsum-is = m .falsum-is ∙ ap (λ (b : Bool). b || is-false o) (k .falsum-is)
       ∙ sym (any-append is-false os (o ∷ []) ∙ ap (λ (b : Bool). any is-false os || b) (or-false (is-false o)));
   to-is = flat-mapped next-of os o (q .to) (r .to) (k .to-is) (m .to-is);
@@ -170,7 +170,7 @@ pub record Put-by (rows : List ℕ) (count e set : ℕ) (r : Gathered) : Type 0 
   pub is : (s : Subset) → length s ≡ count → set ≡ word s → Bits-put (operators-in (table-of rows e) s) r
 
 put-none : (rows : List ℕ) (count set : ℕ)
-    → Put-by rows count 0 set (record { required = record { present = 0; absent = 0 }; falsum = false; to = 0 })
+    → Put-by rows count 0 set (record { present = 0; absent = 0; falsum = false; to = 0 })
 put-none rows count set = record { is = λ s l e. record { present-is = refl; absent-is = refl; falsum-is = refl; to-is = refl } }
 
 module _ {rows : List ℕ} {count e set : ℕ} {q : Gathered} (k : Put-by rows count e set q) where
@@ -246,7 +246,7 @@ pub record Bits-passed (rows : List ℕ) (count set rest : ℕ) (q : Gathered) :
   pub same : (k : ℕ) → upto ≤ k → k < count → bit set k ≡ bit rest k
 
 pub passed-none : (rows : List ℕ) {count rest : ℕ} (set : ℕ) → rest ≡ set % 2 ^ count
-    → Bits-passed rows count set rest (record { required = record { present = 0; absent = 0 }; falsum = false; to = 0 })
+    → Bits-passed rows count set rest (record { present = 0; absent = 0; falsum = false; to = 0 })
 passed-none rows {count} {rest} set q = record {
   upto = 0;
   few = omega arith;

@@ -15,8 +15,7 @@ use Rattle.formula.specs.declared.Operator.the-variants.{Constant, Signal, Vari
 use Rattle.formula.proofs.FitLaws as fits
 use Rattle.tableau.specs.Saturation.{moves}
 use Rattle.tableau.specs.Transition.{requires, next-of}
-use Rattle.tableau.specs.Inner.{Formed, with-bits, with-bit, Requires-more}
-use Rattle.tableau.specs.declared.Requirement.{Requirement}
+use Rattle.tableau.specs.Inner.{Formed, with-bits, Requires-more}
 use Rattle.tableau.specs.declared.Gathered.{Gathered}
 use Rattle.tableau.proofs.WordSets.{All-below, below-none, below-cons, below-one}
 
@@ -52,14 +51,17 @@ signals-below p n (Operator.next g) f = below-none 16
 signals-below p n (Operator.fix g b) f = below-none 16
 
 -- what is gathered, with one part more
-abbrev pub with-required : Gathered → Requirement → Gathered
-with-required q r = record { required = r; falsum = q .falsum; to = q .to }
+abbrev pub with-present : Gathered → ℕ → Gathered
+with-present q a = record { present = bitOr (q .present) a; absent = q .absent; falsum = q .falsum; to = q .to }
+
+abbrev pub with-absent : Gathered → ℕ → Gathered
+with-absent q a = record { present = q .present; absent = bitOr (q .absent) a; falsum = q .falsum; to = q .to }
 
 abbrev pub with-falsum : Gathered → Bool → Gathered
-with-falsum q b = record { required = q .required; falsum = q .falsum || b; to = q .to }
+with-falsum q b = record { present = q .present; absent = q .absent; falsum = q .falsum || b; to = q .to }
 
 abbrev pub with-to : Gathered → ℕ → Gathered
-with-to q a = record { required = q .required; falsum = q .falsum; to = bitOr (q .to) a }
+with-to q a = record { present = q .present; absent = q .absent; falsum = q .falsum; to = bitOr (q .to) a }
 
 -- an operator that requires nothing
 abbrev Idle : Operator → Type 0
@@ -84,10 +86,11 @@ module _ (q : Gathered) where
   constant-requires : (b : Bool) → Requires-more (Operator.leaf (Leaf.constant b)) q (with-falsum q (not b))
   constant-requires b = record { present-is = refl; absent-is = refl; falsum-is = refl; to-is = refl }
 
-  signal-requires : (p : Bool) (j : ℕ) {r : Requirement} → r ≡ with-bit p (2 ^ j) (q .required)
-      → Requires-more (Operator.leaf (Leaf.signal p j)) q (with-required q r)
-  signal-requires true j i = record { present-is = λ k. i k .present; absent-is = λ k. i k .absent; falsum-is = still; to-is = refl }
-  signal-requires false j i = record { present-is = λ k. i k .present; absent-is = λ k. i k .absent; falsum-is = still; to-is = refl }
+  present-requires : (j : ℕ) {a : ℕ} → a ≡ 2 ^ j → Requires-more (Operator.leaf (Leaf.signal true j)) q (with-present q a)
+  present-requires j i = record { present-is = ap (bitOr (q .present)) i; absent-is = refl; falsum-is = still; to-is = refl }
+
+  absent-requires : (j : ℕ) {a : ℕ} → a ≡ 2 ^ j → Requires-more (Operator.leaf (Leaf.signal false j)) q (with-absent q a)
+  absent-requires j i = record { present-is = refl; absent-is = ap (bitOr (q .absent)) i; falsum-is = still; to-is = refl }
 
   next-requires : (g : ℕ) {a : ℕ} → a ≡ 2 ^ g → Requires-more (Operator.next g) q (with-to q a)
   next-requires g i = record { present-is = refl; absent-is = refl; falsum-is = still; to-is = ap (bitOr (q .to)) i }
@@ -130,9 +133,12 @@ module _ {o : Operator} {x : code.Operator} (read : o ≡ decoded x) where
     pub required-constant : {b : Bool} → x ≡ Constant b → Requires-more o q (with-falsum q (not b))
     required-constant {b} is = found-requires is (constant-requires q b)
 
-    pub required-signal : {p : Bool} {j : ℕ} {r : Requirement} → x ≡ Signal p j → r ≡ with-bit p (2 ^ j) (q .required)
-        → Requires-more o q (with-required q r)
-    required-signal {p} {j} is i = found-requires is (signal-requires q p j i)
+    module _ {present : Bool} {j a : ℕ} (is : x ≡ Signal present j) (bit-is : a ≡ 2 ^ j) where
+      pub required-present : present ≡ true → Requires-more o q (with-present q a)
+      required-present e = found-requires (is ∙ ap (λ (b : Bool). Signal b j) e) (present-requires q j bit-is)
+
+      pub required-absent : present ≡ false → Requires-more o q (with-absent q a)
+      required-absent e = found-requires (is ∙ ap (λ (b : Bool). Signal b j) e) (absent-requires q j bit-is)
 
     pub required-next : {g : Subformula} {a : ℕ} → x ≡ Next g → a ≡ 2 ^ g .0 → Requires-more o q (with-to q a)
     required-next {g} is i = found-requires is (next-requires q (g .0) i)

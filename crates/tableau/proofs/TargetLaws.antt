@@ -30,13 +30,17 @@ use Rattle.tableau.proofs.WordSets.{All-below, word-add, within-word}
 use Rattle.tableau.proofs.RowLaws.{next-below}
 use Rattle.tableau.proofs.LoopLaws.{table-length, flat-mapped-below}
 
+-- the two words of what is gathered
+abbrev pub gathered-words : Gathered → Requirement
+gathered-words r = record { present = r .present; absent = r .absent }
+
 module _ {rows : List ℕ} {count : ℕ} (f : Formed rows count) (s : Subset) where
   abbrev os : List Operator
   os = operators-in (table-of rows count) s
 
   -- what the transition requires, its node, and whether it exists
   module _ (r : Gathered) (q : Required os r) where
-    required-is : r .required ≡ requirement os
+    required-is : gathered-words r ≡ requirement os
     required-is i = record { present = q .present-is i; absent = q .absent-is i }
 
     to-is : r .to ≡ word (add (flat-map next-of os) (nothing (table-of rows count)))
@@ -48,7 +52,7 @@ module _ {rows : List ℕ} {count : ℕ} (f : Formed rows count) (s : Subset) wh
         (flat-mapped-below f s next-of count (next-below count))))
 
     test-is : (w : Subset) → (within w s && possible os)
-        ≡ (eqb (bitAnd (word w) (word s)) (word w) && (not (r .falsum) && not (clash (r .required))))
+        ≡ (eqb (bitAnd (word w) (word s)) (word w) && (not (r .falsum) && not (clash (gathered-words r))))
     unfolding possible
     test-is w = rw (within-word w s, q .falsum-is, required-is)
 
@@ -67,9 +71,9 @@ target-unmet {rows} {count} {choice} {set = set} st h = record {
 module _ {rows : List ℕ} {count choice node set : ℕ} {r : Gathered} (f : Formed rows count)
     (st : Saturated rows count choice node set) (rq : Required-by rows count set r) where
   abbrev test : Bool
-  test = eqb (bitAnd choice set) choice && (not (r .falsum) && not (clash (r .required)))
+  test = eqb (bitAnd choice set) choice && (not (r .falsum) && not (clash (gathered-words r)))
 
-  answer : (x : Target) (b : Bool) → test ≡ b → x ≡ cond b (Leads (r .to) (r .required)) Nothing → Target-is rows count choice node x
+  answer : (x : Target) (b : Bool) → test ≡ b → x ≡ cond b (Leads (r .to) (gathered-words r)) Nothing → Target-is rows count choice node x
   answer x b h e = record { is = λ w v l c n. go w v l c n }
     where
       t : Table
@@ -83,21 +87,22 @@ module _ {rows : List ℕ} {count choice node set : ℕ} {r : Gathered} (f : For
           let p : (within w s && possible (operators-in t s)) ≡ b = test-is f s r q w ∙ rw (← c, ← k) h in
           e ∙ by b (required-is f s r q) (to-is f s r q) ∙ ap target (sym (transition-by t w s b p))
         where
-          by : (b : Bool) → r .required ≡ requirement (operators-in t (saturate t w v))
+          by : (b : Bool) → gathered-words r ≡ requirement (operators-in t (saturate t w v))
               → r .to ≡ word (transition-with t w (saturate t w v) .to)
-              → cond b (Leads (r .to) (r .required)) Nothing ≡ target (cond b (transition-with t w (saturate t w v) ∷ []) [])
+              → cond b (Leads (r .to) (gathered-words r)) Nothing ≡ target (cond b (transition-with t w (saturate t w v) ∷ []) [])
           by true p t = rw (p, t)
           by false p t = refl
 
   pub target-false : bitAnd choice set ≡ choice → r .falsum ≡ true → Target-is rows count choice node Nothing
   target-false m h = answer Nothing false (rw (eq-eqb (bitAnd choice set) choice m, h)) refl
 
-  pub target-clash : bitAnd choice set ≡ choice → r .falsum ≡ false → clash (r .required) ≡ true → Target-is rows count choice node Nothing
+  pub target-clash : bitAnd choice set ≡ choice → r .falsum ≡ false → clash (gathered-words r) ≡ true
+      → Target-is rows count choice node Nothing
   target-clash m h k = answer Nothing false (rw (eq-eqb (bitAnd choice set) choice m, h, k)) refl
 
-  pub target-some : bitAnd choice set ≡ choice → r .falsum ≡ false → clash (r .required) ≡ false
-      → Target-is rows count choice node (Leads (r .to) (r .required))
-  target-some m h k = answer (Leads (r .to) (r .required)) true (rw (eq-eqb (bitAnd choice set) choice m, h, k)) refl
+  pub target-some : bitAnd choice set ≡ choice → r .falsum ≡ false → clash (gathered-words r) ≡ false
+      → Target-is rows count choice node (Leads (r .to) (gathered-words r))
+  target-some m h k = answer (Leads (r .to) (gathered-words r)) true (rw (eq-eqb (bitAnd choice set) choice m, h, k)) refl
 
 -- what the code's answer says of the definition's transition
 no-target : (t : Table) (w s : Subset) → Nothing ≡ target (transition-of t w s) → transition-of t w s ≡ []

@@ -1,9 +1,9 @@
--- When a transition exists, what its letter has and where it leads, as laws: the layers above use the requirement, the existence and
--- the letter of a transition only through these, and none opens `possible` or `letter-of`. In one direction (`facts`): the letter of a
--- transition is one that every subformula of the saturated set allows, and it leads to the operands of the next operators there. In the
--- other (`transition-in`): where some letter is allowed by each subformula of the saturated set, the transition exists. A choice word has
--- one transition or none (`one-or-none`), all choice words make the transitions of a node (`transitions-by-word`, `word-of`, `word-in`),
--- and a letter has sixteen bits (`letter-small`, `letter-bound`). Assumes nothing.
+-- When a transition exists, what its letter has and where it leads, as laws: with those of the requirement (`RequirementLaws`) they are
+-- all that the layers above use of these, and no proof there opens `required-word`, `clash`, `possible` or `letter-of`. In one direction
+-- (`facts`): the letter of a transition is one that every subformula of the saturated set allows, and it leads to the operands of the next
+-- operators there. In the other (`transition-in`): where some letter is allowed by each subformula of the saturated set, the transition
+-- exists. A choice word has one transition or none (`one-or-none`), all choice words make the transitions of a node
+-- (`transitions-by-word`, `word-of`, `word-in`), and a letter has sixteen bits (`letter-small`, `letter-bound`). Assumes nothing.
 use mathlib.Core.Path.{_≡_, refl, sym, ap, subst, subst⁻¹, _∙_}
 use mathlib.Core.Logic.{_⊎_, inl, inr}
 use mathlib.Core.Bool.{Bool, true, false, not, cond, _&&_}

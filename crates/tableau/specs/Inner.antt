@@ -16,7 +16,6 @@ use Rattle.formula.specs.Access.{Fits}
 use Rattle.tableau.specs.Saturation.{Subset, has, saturate}
 use Rattle.tableau.specs.Transition.{operators-in, requires, is-false, required-word, next-of, ors, choice-of, Transition}
 use Rattle.tableau.specs.Transition.{transition-of, by-word}
-use Rattle.tableau.specs.declared.Requirement.{Requirement}
 use Rattle.tableau.specs.declared.Gathered.{Gathered}
 use Rattle.tableau.specs.declared.Target.{Target}
 use Rattle.tableau.specs.declared.Target.the-variants.{Leads, Nothing}
@@ -71,23 +70,18 @@ is-unmet r x = any (λ j. not (eqb (bitAnd x (unmet-at r x j)) 0)) (range 0 12)
 pub record Unmet-ors (rows : List ℕ) (count node : ℕ) (r : List ℕ) : Type 0 where
   pub is : (x j : ℕ) → j < 12 → (bitAnd x (unmet-at r x j) ≡ 0 → ⊥) → Leads-nowhere rows count node x
 
--- a requirement with one bit more, in the word of the signals to be present or in that of those to be absent
-abbrev pub with-bit : (present : Bool) (bit : ℕ) → Requirement → Requirement
-with-bit Bool.true b q = record { present = bitOr (q .present) b; absent = q .absent }
-with-bit Bool.false b q = record { present = q .present; absent = bitOr (q .absent) b }
-
 -- What is gathered is r: what was gathered before, q, with what the operator o requires.
 pub record Requires-more (o : Operator) (q r : Gathered) : Type 0 where
-  pub present-is : r .required .present ≡ with-bits (requires Bool.true o) (q .required .present)
-  pub absent-is : r .required .absent ≡ with-bits (requires Bool.false o) (q .required .absent)
+  pub present-is : r .present ≡ with-bits (requires Bool.true o) (q .present)
+  pub absent-is : r .absent ≡ with-bits (requires Bool.false o) (q .absent)
   pub falsum-is : r .falsum ≡ (q .falsum || is-false o)
   pub to-is : r .to ≡ with-bits (next-of o) (q .to)
 
 -- What is gathered of the operators is r: the two words of what they require, all 16 bits of each, whether one is false, and the
 -- operands of the nexts.
 pub record Required (os : List Operator) (r : Gathered) : Type 0 where
-  pub present-is : r .required .present ≡ required-word Bool.true os
-  pub absent-is : r .required .absent ≡ required-word Bool.false os
+  pub present-is : r .present ≡ required-word Bool.true os
+  pub absent-is : r .absent ≡ required-word Bool.false os
   pub falsum-is : r .falsum ≡ any is-false os
   pub to-is : r .to ≡ with-bits (flat-map next-of os) 0
 

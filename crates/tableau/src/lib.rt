@@ -12,7 +12,7 @@ ghost use Rattle.formula.specs.Rows.{operator-at};
 ghost use Rattle.formula.specs.Access.{Placed};
 ghost use Rattle.tableau.specs.Saturation.{moves};
 ghost use Rattle.tableau.specs.Transition.{clash, letter-of, ors, choice-of};
-ghost use Rattle.tableau.specs.Inner.{table-of, Formed, with-bits, Saturated, with-bit, Requires-more, Required-by, Target-is};
+ghost use Rattle.tableau.specs.Inner.{table-of, Formed, with-bits, Saturated, Requires-more, Required-by, Target-is};
 ghost use Rattle.tableau.specs.Inner.{Target-by, Widest, Unmet-between, is-unmet, Unmet-ors};
 ghost use Rattle.tableau.specs.Area.{eight, words-at, lookup, zeros, Node-room, Nodes-held, reachable, slot-of, Slots-marked};
 ghost use Rattle.tableau.specs.Area.{with-note};
@@ -41,9 +41,10 @@ pub struct Requirement {
     pub absent: u16,
 }
 
-// What one pass over a saturated set gathers: what it requires, whether it holds false, and the operands of its nexts.
+// What one pass over a saturated set gathers: the two words of what it requires, whether it holds false, and the operands of its nexts.
 struct Gathered {
-    required: Requirement,
+    present: u16,
+    absent: u16,
     falsum: bool,
     to: u64,
 }
@@ -212,22 +213,12 @@ fn is_unmet(unmet: &[u64; 24], choice_word: u64) -> bool
     false
 }
 
-// What is required, with one signal more, to be present or to be absent.
-fn with_signal(q: Requirement, present: bool, signal: u8) -> Requirement
+// The bit of a signal in a word of 16.
+fn signal_bit(signal: u8) -> u16
     requires { ⌜ signal < 16 ⌝ }
-    ensures { λ r. ⌜ r ≡ with-bit present (2 ^ signal) q ⌝ }
+    ensures { λ r. ⌜ r ≡ 2 ^ signal ⌝ }
 {
-    let bit = 1u16 << base::wide(signal);
-    if present {
-        return Requirement {
-            present: q.present | bit,
-            absent: q.absent,
-        };
-    }
-    Requirement {
-        present: q.present,
-        absent: q.absent | bit,
-    }
+    1u16 << base::wide(signal)
 }
 
 // What is gathered, with what a subformula requires.
@@ -243,9 +234,12 @@ fn with_required(rows: &[u8; 144], s: Subformula, had: Gathered) -> Gathered
             r
         }
         Operator::Signal { present, signal } => {
-            let q = had.required;
-            let more = with_signal(q, present, signal);
-            r.required = more;
+            let bit = signal_bit(signal);
+            if present {
+                r.present = had.present | bit;
+                return r;
+            }
+            r.absent = had.absent | bit;
             r
         }
         Operator::Next(operand) => {
@@ -264,10 +258,8 @@ fn required_by(rows: &[u8; 144], count: usize, set: u64) -> Gathered
     ensures { λ r. ⌜ Required-by (now (rows .entry)) count set r ⌝ }
 {
     let mut all = Gathered {
-        required: Requirement {
-            present: 0,
-            absent: 0,
-        },
+        present: 0,
+        absent: 0,
         falsum: false,
         to: 0,
     };
@@ -307,7 +299,10 @@ fn transition(rows: &[u8; 144], count: usize, choice: u64, node: u64) -> Target
     if r.falsum {
         return Target::Nothing;
     }
-    let required = r.required;
+    let required = Requirement {
+        present: r.present,
+        absent: r.absent,
+    };
     if clashes(required) {
         return Target::Nothing;
     }

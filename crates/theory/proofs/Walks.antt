@@ -8,6 +8,7 @@ use lib.ListN.{length, getD}
 use Rattle.formula.specs.Table.{Table}
 use Rattle.tableau.specs.Saturation.{Subset}
 use Rattle.tableau.specs.Transition.{Transition, transitions}
+use Rattle.tableau.proofs.RequirementLaws.{nothing-required}
 use Rattle.tableau.proofs.TransitionLaws.{facts}
 use Rattle.profile.specs.Traces.{Triple, triples, join}
 use Rattle.profile.specs.Profiles.{Profile}
@@ -15,7 +16,7 @@ use Rattle.tableau.specs.Run.{Along}
 use Rattle.profile.specs.Cycle.{Run}
 
 abbrev pub no-transition : Transition
-no-transition = record { choice = []; required = record { present = 0; absent = 0 }; to = [] }
+no-transition = record { choice = []; required = nothing-required; to = [] }
 
 abbrev pub transition-at : List Transition → ℕ → Transition
 transition-at ss i = getD ss i no-transition

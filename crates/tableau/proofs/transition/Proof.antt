@@ -26,21 +26,21 @@ clashes-requires c κs = search needs
 
 returns-3 : tie.Need-returns-3
 returns-3 c =
-    let start = c .before .before .before .before .before .before .before in
-    let saturated = c .before .before .before .before .before .before .saturated in
-    let required-by = c .before .before .before .before .required-by in
-    let if1 = c .before .before .before .before .before .if1 in
-    let if2 = c .before .before .before .if2 in
+    let start = c .before .before .before .before .before .before in
+    let saturated = c .before .before .before .before .before .saturated in
+    let required-by = c .before .before .before .required-by in
+    let if1 = c .before .before .before .before .if1 in
+    let if2 = c .before .before .if2 in
     target-clash (start .pre) (saturated .ensures) (required-by .ensures) (if1 .left) (if2 .left)
     (sym (c .before .clashes .ensures) ∙ c .if3 .taken)
 
 returns-4 : tie.Need-returns-4
 returns-4 c =
-    let start = c .before .before .before .before .before .before .before in
-    let saturated = c .before .before .before .before .before .before .saturated in
-    let required-by = c .before .before .before .before .required-by in
-    let if1 = c .before .before .before .before .before .if1 in
-    let if2 = c .before .before .before .if2 in
+    let start = c .before .before .before .before .before .before in
+    let saturated = c .before .before .before .before .before .saturated in
+    let required-by = c .before .before .before .required-by in
+    let if1 = c .before .before .before .before .if1 in
+    let if2 = c .before .before .if2 in
     target-some (start .pre) (saturated .ensures) (required-by .ensures) (if1 .left) (if2 .left)
     (sym (c .before .clashes .ensures) ∙ c .if3 .left)
 

@@ -39,7 +39,7 @@ pub fn table() {
         ("and of 24 signals, 47 commands", signals(24)),
         ("49 ands, each inside the one before, refused 3", vec![7; 49]),
         ("7 fixpoints, 12 nexts, 28 ands, so too, refused 1", [vec![9; 7], vec![8; 12], vec![7; 28], vec![1]].concat()),
-        ("48 commands that are read, and 100,000 bytes behind them, refused 9", [signals(24), vec![7; 100_000]].concat()),
+        ("47 commands that are read, and 100,000 bytes behind them, refused 9", [signals(24), vec![7; 100_000]].concat()),
         ("refused 8, for the first byte", vec![9, 5, 0]),
         ("refused 8, for the outermost of seven", vec![9, 10, 9, 10, 9, 10, 9, 5, 6]),
         ("refused 8 at the latest place, for the latest fixpoint", [[7, 3, 0].repeat(23), vec![9, 5, 0]].concat()),

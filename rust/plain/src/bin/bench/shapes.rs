@@ -18,3 +18,9 @@ pub fn release(f: &[u8], g: &[u8]) -> Vec<u8> {
 pub fn each(signals: u8, joint: u8, part: impl Fn(u8) -> Vec<u8>) -> Vec<u8> {
     (0..signals).map(part).rev().reduce(|all, one| [&[joint][..], &one, &all].concat()).unwrap_or(vec![1])
 }
+
+/// A rule written out in hex.
+pub fn written(hex: &str) -> Vec<u8> {
+    let byte = |i| u8::from_str_radix(&hex[i..i + 2], 16).expect("two hex digits");
+    (0..hex.len()).step_by(2).map(byte).collect()
+}
