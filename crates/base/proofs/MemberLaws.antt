@@ -11,8 +11,8 @@ use native.Mathlib.Omega.{arith}
 use native.Mathlib.Decide.{ℕ-discrete}
 use native.Mathlib.Nat.{pow-succ', suc-mul, zero-mul}
 use lib.Dec.{T, eqb, eqb→eq, eqb-refl}
-use lib.ListN.{length, length-append, length-map}
-use Rattle.base.specs.Lists.{range, flat-map, any, filter, alike, member}
+use lib.ListN.{length, getD, length-append, length-map}
+use Rattle.base.specs.Lists.{range, flat-map, any, all, filter, alike, member}
 use Rattle.base.proofs.BoolLaws.{by-test, and-left, and-right, and-both, or-cases, or-left, or-right}
 
 module _ {A B : Type 0} (f : A → List B) where
@@ -40,6 +40,11 @@ module _ {A : Type 0} (q : A → Bool) where
   pub any-in : {xs : List A} {a : A} → List·Memᴰ a xs → T (q a) → T (any q xs)
   any-in (List·Memᴰ·head {x} {xs} e) h = or-left (q x) (any q xs) (subst (λ (b : A). T (q b)) e h)
   any-in (List·Memᴰ·tail {x} {xs} m) h = or-right (q x) (any q xs) (any-in m h)
+
+  pub all-at : (xs : List A) (d : A) → T (all q xs) → (i : ℕ) → i < length xs → T (q (getD xs i d))
+  all-at [] d h i l = absurd (omega arith)
+  all-at (x ∷ xs) d h zero l = and-left (q x) (all q xs) h
+  all-at (x ∷ xs) d h (suc i) l = all-at xs d (and-right (q x) (all q xs) h) i (omega arith)
 
   pub filter-of : (xs : List A) {a : A} → List·Memᴰ a (filter q xs) → List·Memᴰ a xs × T (q a)
   filter-of [] m = absurd (List·Memᴰ·not-nil m)

@@ -27,6 +27,11 @@ module _ {A : Type 0} where
   any q [] = false
   any q (x ∷ xs) = let r = any q xs in q x || r
 
+  -- whether q holds of every element
+  abbrev pub all : (A → Bool) → List A → Bool
+  all q [] = true
+  all q (x ∷ xs) = let r = all q xs in q x && r
+
   -- the elements that q holds of
   abbrev pub filter : (A → Bool) → List A → List A
   filter q [] = []

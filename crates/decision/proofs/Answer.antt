@@ -1,5 +1,5 @@
--- What the verdict says of the formula is so: MET comes with a lasso that meets it, NOT is given only where no lasso meets it, and where
--- nothing is refused the verdict is MET exactly if some lasso meets the formula. From the laws of the verdict and the two halves of the
+-- What the verdict says of the formula is so: MET comes with a lasso over the alphabet that meets it, NOT is given only where no such lasso
+-- meets it, and where nothing is refused the verdict is MET exactly if some such lasso meets the formula. From the laws of the verdict and the two halves of the
 -- core theorem. Assumes nothing.
 use mathlib.Core.Path.{_≡_, refl, subst, subst⁻¹}
 use mathlib.Core.Logic.{_↔_}
@@ -12,10 +12,10 @@ use Rattle.formula.specs.Table.{Table, table}
 use Rattle.formula.specs.Reading.{Reading, parse}
 use Rattle.formula.proofs.Guarded.{parse-guarded}
 use Rattle.formula.proofs.Limits.{parse-limited}
-use Rattle.lasso.specs.Lasso.{Lasso, meets}
+use Rattle.lasso.specs.Lasso.{Lasso, over-alphabet, meets}
 use Rattle.tableau.specs.Saturation.{Subset}
 use Rattle.tableau.specs.Transition.{Transition}
-use Rattle.theory.proofs.CoreTheorem.{cycle-meets, meets-cycle}
+use Rattle.theory.proofs.CoreTheorem.{cycle-over-alphabet, cycle-meets, meets-cycle}
 use Rattle.decision.specs.Verdict.{Verdict, verdict}
 use Rattle.profile.specs.Cycle.{AcceptingCycle}
 use Rattle.decision.specs.Contract.{node-count, profile-count, Witness, Met, Unmet}
@@ -58,19 +58,28 @@ fitting : {N M workspace buffer : ℕ} {t : Table} {o : Verdict} → Decided-cas
 fitting d f = passed (passed (past-13 d (f .lends)) (f .nodes-fit)) (f .profiles-fit)
 
 module _ (bytes : List ℕ) (f : Formula) (reads : parse bytes ≡ Reading.accepted f) where
+  pub witness-such : {stem cycle : ℕ} {letters : List ℕ} → Witness (table f) stem cycle letters → over-alphabet (lasso letters stem) ≡ true
+  witness-such w =
+      subst⁻¹ (λ (c : Lasso). over-alphabet c ≡ true) (λ i. lasso (w .letters-are i) (w .stem-is i))
+      (cycle-over-alphabet f (parse-guarded bytes f reads) (parse-limited bytes f reads .signals) (w .leads) (w .accepted))
+
   pub witness-holds : {stem cycle : ℕ} {letters : List ℕ} → Witness (table f) stem cycle letters → meets (lasso letters stem) f ≡ true
   witness-holds w =
       subst⁻¹ (λ (c : Lasso). meets c f ≡ true) (λ i. lasso (w .letters-are i) (w .stem-is i))
       (cycle-meets f (parse-guarded bytes f reads) (parse-limited bytes f reads .signals) (w .leads) (w .accepted))
 
-  pub no-lasso : ((v : Subset) (ss : List Transition) → AcceptingCycle (table f) v ss → ⊥) → (c : Lasso) → meets c f ≡ true → ⊥
-  no-lasso n c h = let (v, ss, a) = meets-cycle f (parse-guarded bytes f reads) (parse-limited bytes f reads .signals) c h in n v ss a
+  pub no-lasso : ((v : Subset) (ss : List Transition) → AcceptingCycle (table f) v ss → ⊥)
+      → (c : Lasso) → over-alphabet c ≡ true → meets c f ≡ true → ⊥
+  no-lasso n c s h =
+      let (v, ss, a) = meets-cycle f (parse-guarded bytes f reads) (parse-limited bytes f reads .signals) c s h in
+      n v ss a
 
   concluded-says : {o : Verdict} → Concluded (table f) o → Says bytes o
   concluded-says (Concluded.met w) =
       record {
         formula = f;
         reads = reads;
+        such = witness-such w;
         holds = witness-holds w;
         witness = w;
         nodes-counted = refl;
@@ -80,7 +89,7 @@ module _ (bytes : List ℕ) (f : Formula) (reads : parse bytes ≡ Reading.accep
       record {
         formula = f;
         reads = reads;
-        none-holds = λ c h. no-lasso n c h;
+        none-holds = no-lasso n;
         nodes-counted = refl;
         profiles-counted = refl;
       }
@@ -110,14 +119,14 @@ pub verdict-unmet : (N M workspace buffer : ℕ) (bytes : List ℕ) (K P : ℕ) 
     P → Unmet bytes K P
 verdict-unmet N M workspace buffer bytes K P e = subst (Says bytes) e (verdict-says N M workspace buffer bytes)
 
--- Theorem: where nothing is refused, the verdict is MET exactly if some lasso meets the formula.
+-- Theorem: where nothing is refused, the verdict is MET exactly if some lasso over the alphabet meets the formula.
 pub verdict-exact : (N M workspace buffer : ℕ) (bytes : List ℕ) (f : Formula) → parse bytes ≡ Reading.accepted f
     → Unrefused N M workspace buffer (table f)
-    → IsMet (verdict N M workspace buffer bytes) ↔ ((c : Lasso) × (meets c f ≡ true))
+    → IsMet (verdict N M workspace buffer bytes) ↔ ((c : Lasso) × (over-alphabet c ≡ true) × (meets c f ≡ true))
 verdict-exact N M workspace buffer bytes f e fits =
     exact (fitting (read-of (subst (λ (r : Reading Formula). Verdict-cases N M workspace buffer r (verdict N M workspace buffer bytes)) e
     (verdict-answered N M workspace buffer bytes))) fits)
   where
-    exact : {o : Verdict} → Concluded (table f) o → IsMet o ↔ ((c : Lasso) × (meets c f ≡ true))
-    exact (Concluded.met {stem} {letters = letters} w) = (λ h. (lasso letters stem, witness-holds bytes f e w), λ h. tt)
-    exact (Concluded.unmet n) = (λ h. absurd h, λ h. no-lasso bytes f e n (h .0) (h .1))
+    exact : {o : Verdict} → Concluded (table f) o → IsMet o ↔ ((c : Lasso) × (over-alphabet c ≡ true) × (meets c f ≡ true))
+    exact (Concluded.met {stem} {letters = letters} w) = (λ h. (lasso letters stem, witness-such bytes f e w, witness-holds bytes f e w), λ h. tt)
+    exact (Concluded.unmet n) = (λ h. absurd h, λ h. no-lasso bytes f e n (h .0) (h .1) (h .2))

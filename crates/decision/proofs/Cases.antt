@@ -1,4 +1,4 @@
--- The starred cases of MEANING 5.9, those without a star, and the examples of capacities, as statements that the definitions compute
+-- The starred cases of MEANING 5.9, those without a star, those of the scale flags, and the examples of capacities, as statements that the definitions compute
 -- through the reading of the bytes. Assumes nothing.
 use mathlib.Core.Path.{_≡_, refl}
 use mathlib.Core.List.{List, [], _∷_, map}
@@ -15,16 +15,16 @@ is b o = record { bytes = b; outcome = o }
 
 abbrev pub starred : List Case
 starred =
-    is (0x01 ∷ []) (Verdict.satisfiable 1 1 2 1 (0 ∷ 0 ∷ []))
+    is (0x01 ∷ []) (Verdict.satisfiable 1 1 2 1 (0x4000 ∷ 0x4000 ∷ []))
     ∷ is (0x02 ∷ []) (Verdict.unsatisfiable 1 0)
-    ∷ is (0x0A ∷ 0x07 ∷ 0x03 ∷ 0x00 ∷ 0x08 ∷ 0x05 ∷ 0x00 ∷ []) (Verdict.satisfiable 1 1 2 1 (1 ∷ 1 ∷ []))
+    ∷ is (0x0A ∷ 0x07 ∷ 0x03 ∷ 0x00 ∷ 0x08 ∷ 0x05 ∷ 0x00 ∷ []) (Verdict.satisfiable 1 1 2 1 (0x4001 ∷ 0x4001 ∷ []))
     ∷ is (0x09 ∷ 0x07 ∷ 0x03 ∷ 0x00 ∷ 0x08 ∷ 0x05 ∷ 0x00 ∷ []) (Verdict.unsatisfiable 2 1)
-    ∷ is (0x09 ∷ 0x06 ∷ 0x03 ∷ 0x00 ∷ 0x08 ∷ 0x05 ∷ 0x00 ∷ []) (Verdict.satisfiable 1 1 3 3 (1 ∷ 0 ∷ []))
-    ∷ is (0x0A ∷ 0x07 ∷ 0x09 ∷ 0x06 ∷ 0x03 ∷ 0x00 ∷ 0x08 ∷ 0x05 ∷ 0x00 ∷ 0x08 ∷ 0x05 ∷ 0x00 ∷ []) (Verdict.satisfiable 1 1 3 5 (1 ∷ 1 ∷ []))
+    ∷ is (0x09 ∷ 0x06 ∷ 0x03 ∷ 0x00 ∷ 0x08 ∷ 0x05 ∷ 0x00 ∷ []) (Verdict.satisfiable 1 1 3 3 (0x4001 ∷ 0x4000 ∷ []))
+    ∷ is (0x0A ∷ 0x07 ∷ 0x09 ∷ 0x06 ∷ 0x03 ∷ 0x00 ∷ 0x08 ∷ 0x05 ∷ 0x00 ∷ 0x08 ∷ 0x05 ∷ 0x00 ∷ []) (Verdict.satisfiable 1 1 3 5 (0x4001 ∷ 0x4001 ∷ []))
     ∷ is (0x07 ∷ 0x09 ∷ 0x06 ∷ 0x03 ∷ 0x00 ∷ 0x08 ∷ 0x05 ∷ 0x00 ∷ 0x0A ∷ 0x07 ∷ 0x04 ∷ 0x00 ∷ 0x08 ∷ 0x05 ∷ 0x00 ∷ [])
     (Verdict.unsatisfiable 2 1)
     ∷ is (0x0A ∷ 0x07 ∷ 0x03 ∷ 0x00 ∷ 0x07 ∷ 0x08 ∷ 0x04 ∷ 0x00 ∷ 0x08 ∷ 0x08 ∷ 0x05 ∷ 0x00 ∷ [])
-    (Verdict.satisfiable 1 2 3 5 (1 ∷ 0 ∷ 1 ∷ []))
+    (Verdict.satisfiable 1 2 3 5 (0x4001 ∷ 0x4000 ∷ 0x4001 ∷ []))
     ∷ is (0x0A ∷ 0x07 ∷ 0x09 ∷ 0x08 ∷ 0x08 ∷ 0x05 ∷ 0x00 ∷ 0x08 ∷ 0x05 ∷ 0x00 ∷ []) (Verdict.unsatisfiable 3 6)
     ∷ is (0x09 ∷ 0x05 ∷ 0x00 ∷ []) (Verdict.unread (unguarded 0 2))
     ∷ is (0x08 ∷ 0x09 ∷ 0x05 ∷ 0x00 ∷ []) (Verdict.unread (unguarded 1 3))
@@ -39,14 +39,32 @@ starred-cases = refl
 -- accepting cycle a least fixpoint still waits (MEANING 8): always, two positions on, signal 0.
 abbrev pub unstarred : List Case
 unstarred =
-    is (0x0A ∷ 0x09 ∷ 0x06 ∷ 0x07 ∷ 0x03 ∷ 0x00 ∷ 0x08 ∷ 0x05 ∷ 0x01 ∷ 0x08 ∷ 0x05 ∷ 0x00 ∷ []) (Verdict.satisfiable 1 1 3 6 (1 ∷ 1 ∷ []))
-    ∷ is (0x09 ∷ 0x0A ∷ 0x06 ∷ 0x07 ∷ 0x03 ∷ 0x00 ∷ 0x08 ∷ 0x05 ∷ 0x01 ∷ 0x08 ∷ 0x05 ∷ 0x00 ∷ []) (Verdict.satisfiable 1 1 3 6 (0 ∷ 0 ∷ []))
-    ∷ is (0x0A ∷ 0x07 ∷ 0x08 ∷ 0x09 ∷ 0x08 ∷ 0x03 ∷ 0x00 ∷ 0x08 ∷ 0x05 ∷ 0x00 ∷ []) (Verdict.satisfiable 2 1 3 4 (0 ∷ 0 ∷ 1 ∷ []))
+    is (0x0A ∷ 0x09 ∷ 0x06 ∷ 0x07 ∷ 0x03 ∷ 0x00 ∷ 0x08 ∷ 0x05 ∷ 0x01 ∷ 0x08 ∷ 0x05 ∷ 0x00 ∷ []) (Verdict.satisfiable 1 1 3 6 (0x4001 ∷ 0x4001 ∷ []))
+    ∷ is (0x09 ∷ 0x0A ∷ 0x06 ∷ 0x07 ∷ 0x03 ∷ 0x00 ∷ 0x08 ∷ 0x05 ∷ 0x01 ∷ 0x08 ∷ 0x05 ∷ 0x00 ∷ []) (Verdict.satisfiable 1 1 3 6 (0x4000 ∷ 0x4000 ∷ []))
+    ∷ is (0x0A ∷ 0x07 ∷ 0x08 ∷ 0x09 ∷ 0x08 ∷ 0x03 ∷ 0x00 ∷ 0x08 ∷ 0x05 ∷ 0x00 ∷ []) (Verdict.satisfiable 2 1 3 4 (0x4000 ∷ 0x4000 ∷ 0x4001 ∷ []))
     ∷ []
 
 pub unstarred-cases : map (λ (c : Case). verdict 256 300 59648 556 (c .bytes)) unstarred ≡ map (λ (c : Case). c .outcome) unstarred
 unfolding verdict
 unstarred-cases = refl
+
+-- The two scale flags (MEANING 3.4, 3.5): 15 present, 14 absent, 15 absent; both present, both absent; either absent, where the left one
+-- is picked; and 15 present, then 14 absent.
+abbrev pub scaled : List Case
+scaled =
+    is (0x03 ∷ 0x0F ∷ []) (Verdict.satisfiable 1 1 2 1 (0x8000 ∷ 0x4000 ∷ []))
+    ∷ is (0x04 ∷ 0x0E ∷ []) (Verdict.satisfiable 1 1 2 1 (0x8000 ∷ 0x4000 ∷ []))
+    ∷ is (0x04 ∷ 0x0F ∷ []) (Verdict.satisfiable 1 1 2 1 (0x4000 ∷ 0x4000 ∷ []))
+    ∷ is (0x07 ∷ 0x03 ∷ 0x0E ∷ 0x03 ∷ 0x0F ∷ []) (Verdict.unsatisfiable 1 0)
+    ∷ is (0x07 ∷ 0x04 ∷ 0x0E ∷ 0x04 ∷ 0x0F ∷ []) (Verdict.unsatisfiable 1 0)
+    ∷ is (0x06 ∷ 0x04 ∷ 0x0E ∷ 0x04 ∷ 0x0F ∷ []) (Verdict.satisfiable 1 1 2 1 (0x8000 ∷ 0x4000 ∷ []))
+    ∷ is (0x07 ∷ 0x03 ∷ 0x0F ∷ 0x08 ∷ 0x07 ∷ 0x04 ∷ 0x0E ∷ 0x04 ∷ 0x00 ∷ [])
+    (Verdict.satisfiable 2 1 3 2 (0x8000 ∷ 0x8000 ∷ 0x4000 ∷ []))
+    ∷ []
+
+pub scaled-cases : map (λ (c : Case). verdict 256 300 59648 556 (c .bytes)) scaled ≡ map (λ (c : Case). c .outcome) scaled
+unfolding verdict
+scaled-cases = refl
 
 abbrev F : List ℕ
 F = 0x0A ∷ 0x07 ∷ 0x09 ∷ 0x06 ∷ 0x03 ∷ 0x00 ∷ 0x08 ∷ 0x05 ∷ 0x00 ∷ 0x08 ∷ 0x05 ∷ 0x00 ∷ []
@@ -54,6 +72,6 @@ F = 0x0A ∷ 0x07 ∷ 0x09 ∷ 0x06 ∷ 0x03 ∷ 0x00 ∷ 0x08 ∷ 0x05 ∷ 0x00
 -- A with N = 1; F with M = 4, with M = 5, and with N = 2 and M = 1
 pub sizes :
     verdict 1 300 59648 556 (0x01 ∷ []) ∷ verdict 256 4 59648 556 F ∷ verdict 256 5 59648 556 F ∷ verdict 2 1 59648 556 F ∷ []
-    ≡ Verdict.refused 14 ∷ Verdict.refused 15 ∷ Verdict.satisfiable 1 1 3 5 (1 ∷ 1 ∷ []) ∷ Verdict.refused 14 ∷ []
+    ≡ Verdict.refused 14 ∷ Verdict.refused 15 ∷ Verdict.satisfiable 1 1 3 5 (0x4001 ∷ 0x4001 ∷ []) ∷ Verdict.refused 14 ∷ []
 unfolding verdict
 sizes = refl

@@ -1,8 +1,8 @@
 -- What is asked of the decision, each demand as one theorem about the verdict, for any bytes, N, M and sizes of the two areas. Unless it is
--- a refusal, the verdict is NOT exactly if no lasso, however long, meets the formula that the bytes are (`not-exactly`). Nothing of 1 to 13
+-- a refusal, the verdict is NOT exactly if no lasso over the alphabet, however long, meets the formula that the bytes are (`not-exactly`). Nothing of 1 to 13
 -- refuses exactly if the bytes are a formula and the capacities and the areas are as asked (`granted-exactly`). It is 14 exactly if then K
 -- is above N (`refused-14-exactly`), and 15 exactly if then K is at most N and P above M (`refused-15-exactly`). Where none of these
--- refuses and some lasso meets the formula, the verdict is MET with a short witness (`met-short`). Assumes nothing.
+-- refuses and some such lasso meets the formula, the verdict is MET with a short witness (`met-short`). Assumes nothing.
 use mathlib.Core.Path.{_≡_, refl, subst, subst⁻¹}
 use mathlib.Core.Logic.{_↔_}
 use mathlib.Core.Bool.{true}
@@ -13,12 +13,12 @@ use Rattle.base.proofs.AskLaws.{Asked, first-refusal, passed, settled}
 use Rattle.formula.specs.Formula.{Formula}
 use Rattle.formula.specs.Table.{Table, table}
 use Rattle.formula.specs.Reading.{Reading, parse}
-use Rattle.lasso.specs.Lasso.{Lasso, meets}
+use Rattle.lasso.specs.Lasso.{Lasso, over-alphabet, meets}
 use Rattle.decision.specs.Verdict.{Verdict, verdict}
 use Rattle.decision.specs.Contract.{node-count, profile-count, Witness}
 use Rattle.decision.specs.Lends.{Lends}
 use Rattle.decision.proofs.VerdictLaws.{Concluded, From14, Verdict-cases, verdict-answered}
-use Rattle.decision.proofs.Answer.{lasso, past-13, read-of, witness-holds, no-lasso}
+use Rattle.decision.proofs.Answer.{lasso, past-13, read-of, witness-such, witness-holds, no-lasso}
 
 -- the verdict is no refusal
 abbrev pub IsAnswer : Verdict → Type 0
@@ -46,17 +46,18 @@ pub record Granted (N M workspace buffer : ℕ) (bytes : List ℕ) (f : Formula)
   pub reads : parse bytes ≡ Reading.accepted f
   pub lends : Lends N M workspace buffer
 
--- no lasso meets a formula, of whatever length
+-- no lasso over the alphabet meets a formula, of whatever length
 abbrev pub NoLasso : Formula → Type 0
-NoLasso f = (c : Lasso) → meets c f ≡ true → ⊥
+NoLasso f = (c : Lasso) → over-alphabet c ≡ true → meets c f ≡ true → ⊥
 
--- MET, with K and P, a lasso that meets the formula, and the witness that it is: `Witness` has that its stem is shorter than K, its cycle
+-- MET, with K and P, a lasso over the alphabet that meets the formula, and the witness that it is: `Witness` has that its stem is shorter than K, its cycle
 -- at most P, and that no accepting cycle has fewer transitions.
 pub record Short (f : Formula) (o : Verdict) : Type 0 where
   pub stem : ℕ
   pub cycle : ℕ
   pub letters : List ℕ
   pub answer : o ≡ Verdict.satisfiable stem cycle (node-count (table f)) (profile-count (table f)) letters
+  pub such : over-alphabet (lasso letters stem) ≡ true
   pub holds : meets (lasso letters stem) f ≡ true
   pub witness : Witness (table f) stem cycle letters
 
@@ -130,7 +131,7 @@ module _ (N M workspace buffer : ℕ) (bytes : List ℕ) where
   granted-exactly =
       (λ p. answered-granted refl (verdict-answered N M workspace buffer bytes) p, λ h. past-14 (from-14 (h .1)))
 
-  -- Theorem: unless the verdict is a refusal, it is NOT exactly if no lasso meets the formula that the bytes are.
+  -- Theorem: unless the verdict is a refusal, it is NOT exactly if no such lasso meets the formula that the bytes are.
   pub not-exactly : IsAnswer (verdict N M workspace buffer bytes)
       → (f : Formula) × (parse bytes ≡ Reading.accepted f) × (IsNot (verdict N M workspace buffer bytes) ↔ NoLasso f)
   not-exactly h =
@@ -138,8 +139,9 @@ module _ (N M workspace buffer : ℕ) (bytes : List ℕ) where
       (f, g .reads, exactly f (g .reads) (answer-concluded (from-14 g) h))
     where
       exactly : (f : Formula) → parse bytes ≡ Reading.accepted f → {o : Verdict} → Concluded (table f) o → IsNot o ↔ NoLasso f
-      exactly f e (Concluded.met {stem} {letters = letters} w) = (λ h. absurd h, λ n. n (lasso letters stem) (witness-holds bytes f e w))
-      exactly f e (Concluded.unmet n) = (λ h c m. no-lasso bytes f e n c m, λ h. tt)
+      exactly f e (Concluded.met {stem} {letters = letters} w) =
+          (λ h. absurd h, λ n. n (lasso letters stem) (witness-such bytes f e w) (witness-holds bytes f e w))
+      exactly f e (Concluded.unmet n) = (λ h. no-lasso bytes f e n, λ h. tt)
 
   -- Theorem: the verdict is 14 exactly if nothing of 1 to 13 refuses and K is above N.
   pub refused-14-exactly : (verdict N M workspace buffer bytes ≡ Verdict.refused 14)
@@ -160,13 +162,21 @@ module _ (N M workspace buffer : ℕ) (bytes : List ℕ) where
     λ h. first-refusal (passed (from-14 (h .1)) (h .2)) (λ k. omega (arith, h .3)),
   )
 
-  -- Theorem: where nothing of 1 to 13 refuses, K is at most N, P at most M, and some lasso meets the formula, the verdict is MET, and the
-  -- witness is short.
+  -- Theorem: where nothing of 1 to 13 refuses, K is at most N, P at most M, and some such lasso meets the formula, the verdict is MET, and
+  -- the witness is short.
   pub met-short : (f : Formula) → Granted N M workspace buffer bytes f → node-count (table f) ≤ N → profile-count (table f) ≤ M
-      → (c : Lasso) → meets c f ≡ true → Short f (verdict N M workspace buffer bytes)
-  met-short f g k p c m = by (passed (passed (from-14 g) k) p)
+      → (c : Lasso) → over-alphabet c ≡ true → meets c f ≡ true → Short f (verdict N M workspace buffer bytes)
+  met-short f g k p c s m = by (passed (passed (from-14 g) k) p)
     where
       by : {o : Verdict} → Concluded (table f) o → Short f o
       by (Concluded.met {stem} {cycle} {letters} w) =
-          record { stem = stem; cycle = cycle; letters = letters; answer = refl; holds = witness-holds bytes f (g .reads) w; witness = w }
-      by (Concluded.unmet n) = absurd (no-lasso bytes f (g .reads) n c m)
+          record {
+            stem = stem;
+            cycle = cycle;
+            letters = letters;
+            answer = refl;
+            such = witness-such bytes f (g .reads) w;
+            holds = witness-holds bytes f (g .reads) w;
+            witness = w;
+          }
+      by (Concluded.unmet n) = absurd (no-lasso bytes f (g .reads) n c s m)

@@ -9,7 +9,7 @@ use lib.ListN.{length, drop, replicate}
 use Rattle.formula.specs.Formula.{Formula}
 use Rattle.formula.specs.Table.{Table, table}
 use Rattle.formula.specs.Reading.{Reading, parse}
-use Rattle.lasso.specs.Lasso.{Lasso, meets}
+use Rattle.lasso.specs.Lasso.{Lasso, over-alphabet, meets}
 use Rattle.tableau.specs.Saturation.{Subset}
 use Rattle.tableau.specs.Transition.{Transition, letter}
 use Rattle.tableau.specs.Nodes.{root, nodes}
@@ -52,20 +52,21 @@ pub record Witness (t : Table) (stem cycle : ℕ) (letters : List ℕ) : Type 0 
   pub stem-short : stem < node-count t
   pub cycle-short : cycle ≤ profile-count t
 
--- what MET says of the formula that was read: the lasso meets it and is a witness (MEANING 5.7)
+-- what MET says of the formula that was read: the lasso is over the alphabet, meets it and is a witness (MEANING 5.7)
 pub record Met (bytes : List ℕ) (stem cycle K P : ℕ) (letters : List ℕ) : Type 0 where
   pub formula : Formula
   pub reads : parse bytes ≡ Reading.accepted formula
+  pub such : over-alphabet (record { letters = letters; stem = stem }) ≡ true
   pub holds : meets (record { letters = letters; stem = stem }) formula ≡ true
   pub witness : Witness (table formula) stem cycle letters
   pub nodes-counted : K ≡ node-count (table formula)
   pub profiles-counted : P ≡ profile-count (table formula)
 
--- what NOT says: no lasso meets it, however long
+-- what NOT says: no such lasso meets it, however long
 pub record Unmet (bytes : List ℕ) (K P : ℕ) : Type 0 where
   pub formula : Formula
   pub reads : parse bytes ≡ Reading.accepted formula
-  pub none-holds : (c : Lasso) → meets c formula ≡ true → ⊥
+  pub none-holds : (c : Lasso) → over-alphabet c ≡ true → meets c formula ≡ true → ⊥
   pub nodes-counted : K ≡ node-count (table formula)
   pub profiles-counted : P ≡ profile-count (table formula)
 

@@ -9,12 +9,13 @@ use lib.ListN.{length}
 use Rattle.base.specs.Ask.{ask}
 use Rattle.base.specs.Lists.{first}
 use Rattle.base.specs.Search.{Item}
+use Rattle.letters.specs.Requirements.{letter-of}
 use Rattle.formula.specs.Formula.{Formula}
 use Rattle.formula.specs.Table.{Table, table}
 use Rattle.formula.specs.Reading.{Reading, parse}
 use Rattle.formula.specs.declared.Refusal.{Refusal}
 use Rattle.tableau.specs.Saturation.{Subset, same-subset}
-use Rattle.tableau.specs.Transition.{Transition, letter-of, letter}
+use Rattle.tableau.specs.Transition.{Transition, letter}
 use Rattle.tableau.specs.Nodes.{nodes}
 use Rattle.profile.specs.Profiles.{Profile, profiles, rejecting, accepting}
 

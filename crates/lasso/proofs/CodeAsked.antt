@@ -1,14 +1,17 @@
 -- The questions after reading, one after another, and the outcome of reading: the code's answers are those of the definition.
 -- Assumes nothing.
-use mathlib.Core.Path.{_≡_, refl, sym, ap, _∙_}
-use mathlib.Core.Bool.{Bool}
+use mathlib.Core.Path.{_≡_, refl, sym, ap, subst, _∙_}
+use mathlib.Core.Bool.{Bool, true, false}
 use mathlib.Core.List.{List, [], _++_, map}
 use Prim.Native.Nat.{ℕ, _+_, _≤_, _<_}
 use native.Mathlib.Omega.{arith}
+use lib.Dec.{T}
 use lib.ListN.{length, drop, getD}
-use Rattle.base.specs.Lists.{range}
+use Rattle.base.specs.Lists.{all, range}
+use Rattle.base.proofs.BoolLaws.{to-T}
 use Rattle.base.proofs.NumberLaws.{values-at}
-use Rattle.base.proofs.AskLaws.{first-refusal, passed}
+use Rattle.base.proofs.AskLaws.{Asked, first-refusal, passed}
+use Rattle.letters.specs.Alphabet.{in-alphabet}
 use Rattle.formula.specs.Formula.{Formula, size}
 use Rattle.formula.specs.Table.{Operator}
 use Rattle.formula.specs.Reading.{Reading, parse, reading}
@@ -22,7 +25,7 @@ use Rattle.formula.proofs.Limits.{parse-limited}
 use Rattle.formula.proofs.Guarded.{parse-guarded}
 use Rattle.formula.proofs.WellFormed.{occurs-whole}
 use Rattle.formula.proofs.RowLaws.{Holds-formula as Read, held-count, reading-held, reading-refused}
-use Rattle.lasso.specs.Lasso.{Lasso, labelling, meets}
+use Rattle.lasso.specs.Lasso.{Lasso, over-alphabet, labelling, meets}
 use Rattle.lasso.specs.Truth.{Truth, asked, after-reading, truth, written}
 use Rattle.lasso.specs.Contract.{answer}
 use Rattle.lasso.specs.Inner.{Formula-in-rows, Formula-at, Truth-found, Judged}
@@ -47,19 +50,40 @@ module _ (rows : List ℕ) (c : Lasso) (w : List ℕ) where
   pub too-long : c .stem < n → 8192 < n → Judged rows c (Refused 17) w w
   too-long h k = refused 17 (λ f. first-refusal (passed (from-16 f) h) (λ q. omega arith))
 
-  pub no-room : c .stem < n → n ≤ 8192 → length w < n → Judged rows c (Refused 18) w w
-  no-room h k l = refused 18 (λ f. first-refusal (passed (passed (from-16 f) h) k) (λ q. omega arith))
+  -- the letters as code tests them
+  abbrev Tested : Bool → Type 0
+  Tested b = all in-alphabet (c .letters) ≡ b
 
-  all-well : (f : Formula) → c .stem < n → n ≤ 8192 → n ≤ length w → asked c (length w) f ≡ truth-of c f
-  all-well f h k l = passed (passed (passed (from-16 f) h) k) l
+  such : Tested true → T (over-alphabet c)
+  unfolding over-alphabet
+  such e = to-T (over-alphabet c) e
 
-  pub judged : (b : Bool) (v : List ℕ) → c .stem < n → n ≤ 8192 → n ≤ length w → Truth-found rows c b w v → Judged rows c (Holds b) w v
-  judged b v h k l a = record {
-    answer = λ f t. ap Holds (a .truth f t) ∙ sym (ap answer (all-well f h k l));
+  not-such : Tested false → T (over-alphabet c) → ⊥
+  unfolding over-alphabet
+  not-such e t = subst T e t
+
+  pub other-letter : c .stem < n → n ≤ 8192 → Tested false → Judged rows c (Refused 19) w w
+  other-letter h k e = refused 19 (λ f. first-refusal (passed (passed (from-16 f) h) k) (not-such e))
+
+  -- past 19
+  from-18 : (f : Formula) → c .stem < n → n ≤ 8192 → T (over-alphabet c)
+      → Asked (n ≤ length w) (Truth.refused 18) (λ o. o ≡ truth-of c f) (asked c (length w) f)
+  from-18 f h k t = passed (passed (passed (from-16 f) h) k) t
+
+  pub no-room : c .stem < n → n ≤ 8192 → Tested true → length w < n → Judged rows c (Refused 18) w w
+  no-room h k e l = refused 18 (λ f. first-refusal (from-18 f h k (such e)) (λ q. omega arith))
+
+  pub judged : (b : Bool) (v : List ℕ) → c .stem < n → n ≤ 8192 → Tested true → n ≤ length w → Truth-found rows c b w v
+      → Judged rows c (Holds b) w v
+  judged b v h k e l a = record {
+    answer = λ f t. ap Holds (a .truth f t) ∙ sym (ap answer (all-well f));
     words = λ f t.
         a .words f t ∙ ap (λ (m : ℕ). labelling c f ++ drop m w) (sym (length-labelling c f))
-        ∙ sym (ap (λ (t : Truth). written t w) (all-well f h k l));
+        ∙ sym (ap (λ (t : Truth). written t w) (all-well f));
   }
+    where
+      all-well : (f : Formula) → asked c (length w) f ≡ truth-of c f
+      all-well f = passed (from-18 f h k (such e)) l
 
 -- the rows that reading hands back have the formula at 0
 held-written : (bytes : List ℕ) (t : Table) (h : Read bytes t) → Formula-in-rows (t .rows) 0 [] [] (h .formula)
@@ -97,11 +121,11 @@ module _ (bytes : List ℕ) (c : Lasso) (w : List ℕ) where
   Promised a v = (a ≡ answer outcome) × (v ≡ written outcome w)
 
   outcome-accepted : (f : Formula) → parse bytes ≡ Reading.accepted f → outcome ≡ asked c (length w) f
-  unfolding truth parse labelling meets
+  unfolding truth parse over-alphabet labelling meets
   outcome-accepted f q = ap (after-reading c (length w)) q
 
   outcome-refused : {why : Refusal} → parse bytes ≡ Reading.refused why → outcome ≡ Truth.unread why
-  unfolding truth parse labelling meets
+  unfolding truth parse over-alphabet labelling meets
   outcome-refused q = ap (after-reading c (length w)) q
 
   module _ (r : read.Reading) (q : reading-of r ≡ reading bytes) where

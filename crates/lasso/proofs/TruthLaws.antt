@@ -1,28 +1,31 @@
 -- The questions that truth asks after reading (MEANING 2.5), by what they mean, in their order. Assumes nothing.
 use mathlib.Core.Path.{_≡_, refl}
 use Prim.Native.Nat.{ℕ, _≤_, _<_}
+use lib.Dec.{T}
 use lib.ListN.{length}
-use Rattle.base.proofs.AskLaws.{Asked, asked-le, asked-lt}
+use Rattle.base.proofs.AskLaws.{Asked, asked as asked-of, asked-le, asked-lt}
 use Rattle.formula.specs.Formula.{Formula}
-use Rattle.lasso.specs.Lasso.{Lasso, labelling, meets}
+use Rattle.lasso.specs.Lasso.{Lasso, over-alphabet, labelling, meets}
 use Rattle.lasso.specs.Truth.{Truth, asked}
 
--- 16, 17 and 18, and then what comes after
+-- 16, 17, 19 and 18, and then what comes after
 abbrev pub From16 : Lasso → (room : ℕ) → (Truth → Type 0) → Truth → Type 0
 From16 c room After =
     Asked (c .stem < length (c .letters)) (Truth.refused 16)
     (Asked (length (c .letters) ≤ 8192) (Truth.refused 17)
+    (Asked (T (over-alphabet c)) (Truth.refused 19)
     (Asked (length (c .letters) ≤ room) (Truth.refused 18)
-    After))
+    After)))
 
 -- the answer past them
 abbrev pub truth-of : Lasso → Formula → Truth
 truth-of c f = Truth.holds (meets c f) (labelling c f)
 
 pub truth-asked : (c : Lasso) (room : ℕ) (f : Formula) → From16 c room (λ o. o ≡ truth-of c f) (asked c room f)
-unfolding labelling meets
+unfolding over-alphabet labelling meets
 truth-asked c room f =
     asked-lt (c .stem) (length (c .letters)) _
     (asked-le (length (c .letters)) 8192 _
+    (asked-of _ (over-alphabet c) (λ t. t) (λ t. t)
     (asked-le (length (c .letters)) room (truth-of c f)
-    refl))
+    refl)))

@@ -4,14 +4,20 @@ use mathlib.Core.List.{List, [], _∷_, _++_, map}
 use Prim.Native.Nat.{ℕ}
 use lib.Dec.{ltb}
 use lib.ListN.{length, getD}
-use Rattle.base.specs.Lists.{range, iterate, tail}
+use Rattle.base.specs.Lists.{all, range, iterate, tail}
 use Rattle.base.specs.Bits.{bit, word}
+use Rattle.letters.specs.Alphabet.{in-alphabet}
 use Rattle.formula.specs.Formula.{Leaf, Formula}
 
 -- The letters (document 01: values of places), stem and cycle, and the length of the stem (document 01: lead-in): MEANING 2.1.
 pub record Lasso : Type 0 where
   pub letters : List ℕ
   pub stem : ℕ
+
+-- MEANING 2.1: a lasso over the alphabet: each of its letters is in it.
+unfoldable pub over-alphabet : Lasso → Bool
+unfolding in-alphabet
+over-alphabet c = all in-alphabet (c .letters)
 
 -- A set of positions (document 01: places): a Bool for each.
 abbrev pub Positions : Type 0

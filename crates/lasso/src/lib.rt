@@ -560,7 +560,7 @@ fn whole(rows: &[u8; 144], letters: &[u16], stem: usize, words: &mut [u64]) -> b
     base::has(words[0], 0)
 }
 
-// The questions after reading: 16, 17 and 18.
+// The questions after reading: 16, 17, 19 and 18.
 fn judge(t: Table, letters: &[u16], stem: usize, words: &mut [u64]) -> Truth
     requires { ⌜ Formula-at (t .rows) 0 ⌝ }
     ensures { λ r. ⌜ Judged (t .rows) (lasso (now (letters .entry)) stem) r (now (words .entry)) (now (words .exit)) ⌝ }
@@ -570,6 +570,10 @@ fn judge(t: Table, letters: &[u16], stem: usize, words: &mut [u64]) -> Truth
     }
     if 8192 < letters.len() {
         return Truth::Refused(17);
+    }
+    let such = letters::all_in_alphabet(letters);
+    if !such {
+        return Truth::Refused(19);
     }
     if words.len() < letters.len() {
         return Truth::Refused(18);

@@ -21,13 +21,14 @@ use Rattle.base.proofs.AppendLaws.{map-flat-map}
 use Rattle.base.proofs.NumberLaws.{values-length, values-at}
 use Rattle.base.proofs.ShiftLaws.{same-low-bits}
 use Rattle.base.proofs.WordLaws.{word-bit, word-lt, word-inj}
+use Rattle.letters.specs.Requirements.{letter-of}
+use Rattle.letters.specs.declared.Requirement.{Requirement}
 use Rattle.formula.specs.Table.{Table}
 use Rattle.tableau.specs.Saturation.{Subset, same-subset, saturate}
-use Rattle.tableau.specs.Transition.{letter-of, ors, choice-of, Transition, by-word, transitions}
+use Rattle.tableau.specs.Transition.{ors, choice-of, Transition, by-word, transitions}
 use Rattle.tableau.specs.Inner.{table-of, Leads-nowhere, Target-by}
 use Rattle.tableau.specs.Area.{eight, words-at, lookup, Subsets-sized}
 use Rattle.tableau.specs.declared.NodeNumber.{NodeNumber}
-use Rattle.tableau.specs.declared.Requirement.{Requirement}
 use Rattle.tableau.specs.declared.Lookup.{Lookup}
 use Rattle.tableau.specs.declared.Lookup.the-variants.{Number, Absent}
 use Rattle.tableau.specs.declared.Target.the-variants.{Leads}

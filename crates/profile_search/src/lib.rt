@@ -265,7 +265,7 @@ fn single(
                     first: first,
                     last: last,
                     parent: 0,
-                    letter: tableau::letter_of(required),
+                    letter: letters::letter_of(required),
                 };
                 add(area, store, count, header, &t)
             }

@@ -15,6 +15,7 @@ use Rattle.base.specs.Sets.{Inside}
 use Rattle.base.proofs.BoolLaws.{by-test, of-T, and-right}
 use Rattle.base.proofs.MemberLaws.{range-in}
 use Rattle.base.proofs.Inside.{inside-both}
+use Rattle.letters.specs.Alphabet.{in-alphabet}
 use Rattle.formula.specs.Table.{Operator, Table, operator, is-or}
 use Rattle.tableau.specs.Saturation.{Subset, has, moves, saturate}
 use Rattle.tableau.specs.Transition.{ors, choice-of, choices, Transition, transitions}
@@ -147,18 +148,18 @@ module _ (t : Table) (v : Subset) (len : length v ≡ length t) (f : ℕ → Boo
       subst (λ (s : Subset). Inside s u) near-same
       (saturate-least t (every t f) i (λ e m h r l. c e m h (subst (List·Memᴰ m) (every-moves e) r) l))
 
-  -- and it exists if some letter is allowed there
-  pub chosen-in : (a : ℕ) → ((e : ℕ) → T (has (saturate t (chosen t v f .choice) v) e) → T (asks (operator t e) a))
+  -- and it exists if some letter of the alphabet is allowed there
+  pub chosen-in : (a : ℕ) → T (in-alphabet a) → ((e : ℕ) → T (has (saturate t (chosen t v f .choice) v) e) → T (asks (operator t e) a))
       → List·Memᴰ (chosen t v f) (transitions t v)
   unfolding chosen choice-for
-  chosen-in a h =
+  chosen-in a such h =
       transition-in t v (choice-for t v f) (choice-by-in t (λ e. f e && has (saturate t (every t f) v) e))
       (λ e k.
       subst (λ (s : Subset). T (has s e)) near-same
       (and-right (f e) (has (saturate t (every t f) v) e)
       (and-right (is-or (operator t e)) (f e && has (saturate t (every t f) v) e)
       (subst T (choice-by-has t (λ e. f e && has (saturate t (every t f) v) e) e) k))))
-      a h
+      a such h
 
 -- a choice has picks only at or operators
 pub choice-of-length : (t : Table) (x : ℕ) → length (choice-of t x) ≡ length t

@@ -1,5 +1,5 @@
--- MEANING 3.6. Nothing is saturated to nothing, so each transition of the empty node requires nothing and leads back to it with no signal
--- (`empty-transition`), and there is one, with no pick (`empty-transitions`). Assumes nothing.
+-- MEANING 3.6. Nothing is saturated to nothing, so each transition of the empty node requires nothing and leads back to it with the flag of
+-- the previous scale alone (`empty-transition`), and there is one, with no pick (`empty-transitions`). Assumes nothing.
 use mathlib.Core.Path.{_≡_, refl, ap, subst, _∙_}
 use mathlib.Core.Bool.{Bool, true, false, cond}
 use mathlib.Core.List.{[], _∷_, List·Memᴰ, Memᴰ·map}
@@ -9,12 +9,14 @@ use lib.Dec.{T, eqb}
 use lib.Pow.{pow-pos}
 use Rattle.base.proofs.MemberLaws.{range-in}
 use Rattle.base.proofs.Inside.{inside-refl}
+use Rattle.letters.specs.Requirements.{letter-of}
+use Rattle.letters.proofs.LetterLaws.{nothing-required, letter-none, none-in-alphabet}
 use Rattle.formula.specs.Table.{Table, is-or}
 use Rattle.tableau.specs.Saturation.{Subset, has, nothing, saturate}
-use Rattle.tableau.specs.Transition.{operators-in, ors, choice-of, choices, Transition, letter, letter-of, transitions}
+use Rattle.tableau.specs.Transition.{operators-in, ors, choice-of, choices, Transition, letter, transitions}
 use Rattle.tableau.proofs.SaturationLaws.{inside-has, subset-ext, nothing-has, saturate-length, saturate-least}
-use Rattle.tableau.proofs.RequirementLaws.{nothing-required, required-none}
-use Rattle.tableau.proofs.TransitionLaws.{transition-with, letter-none, transition-is, transition-in}
+use Rattle.tableau.proofs.RequirementLaws.{required-none}
+use Rattle.tableau.proofs.TransitionLaws.{transition-with, transition-is, transition-in}
 
 none-in : (t : Table) → operators-in t (nothing t) ≡ []
 none-in [] = refl
@@ -41,7 +43,7 @@ module _ (t : Table) where
   back w = ap (transition-with t w) (saturated-nothing w) ∙ rw (none-in t, required-none)
 
   pub empty-transition : (x : Transition) → List·Memᴰ x (transitions t (nothing t))
-      → (x .to ≡ nothing t) × (x .required ≡ nothing-required) × (letter x ≡ 0)
+      → (x .to ≡ nothing t) × (x .required ≡ nothing-required) × (letter x ≡ 0x4000)
   empty-transition x m =
       let e = transition-is t (nothing t) x m ∙ back (x .choice) in
       let r = ap (λ (y : Transition). y .required) e in
@@ -54,5 +56,5 @@ module _ (t : Table) where
       (transition-in t (nothing t) (nothing t)
       (subst (λ (w : Subset). List·Memᴰ w (choices t)) (none-picked t)
       (Memᴰ·map (choice-of t) (range-in 0 (2 ^ ors t) 0 (omega arith) (omega (arith, pow-pos (ors t))))))
-      (λ e h. absurd (nothing-has t e h)) 0
+      (λ e h. absurd (nothing-has t e h)) 0x4000 none-in-alphabet
       (λ e h. absurd (nothing-has t e (subst (λ (s : Subset). T (has s e)) (saturated-nothing (nothing t)) h))))

@@ -20,16 +20,17 @@ use Rattle.base.proofs.MemberLaws.{flat-map-of}
 use Rattle.base.proofs.At.{at-lt, at-in, in-at, at-some, at-map}
 use Rattle.base.proofs.SpreadLaws.{adds-append, adds-at, After-turns, turns-start, turns-next, turns-done, turns-begin}
 use Rattle.base.proofs.WordLaws.{word-set, word-none}
+use Rattle.letters.specs.Requirements.{letter-of}
+use Rattle.letters.specs.declared.Requirement.{Requirement}
 use Rattle.formula.specs.Table.{Operator, Table}
 use Rattle.tableau.specs.Saturation.{Subset, same-subset, nothing, saturate}
-use Rattle.tableau.specs.Transition.{letter-of, ors, choice-of, Transition, by-word, transitions}
+use Rattle.tableau.specs.Transition.{ors, choice-of, Transition, by-word, transitions}
 use Rattle.tableau.specs.Nodes.{root, nodes}
 use Rattle.tableau.specs.Origins.{Origins}
 use Rattle.tableau.specs.Inner.{table-of, Formed, Target-by}
 use Rattle.tableau.specs.Area.{eight, store, Nodes-held, reachable, Reached-node, worded, root-reached, reached-by, leads, outs}
 use Rattle.tableau.specs.Area.{Reached-sized, Arrives, Nodes-noted, Node-added, Followed, Expanded}
 use Rattle.tableau.specs.declared.NodeNumber.{NodeNumber}
-use Rattle.tableau.specs.declared.Requirement.{Requirement}
 use Rattle.tableau.specs.declared.Target.{Target}
 use Rattle.tableau.specs.declared.Target.the-variants.{Leads, Nothing}
 use Rattle.tableau.proofs.TransitionLaws.{transition-with, to-length, transitions-by-word}

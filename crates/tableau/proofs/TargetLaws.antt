@@ -15,12 +15,13 @@ use borrow.Author.Tests.{eq-eqb, ne-eqb}
 use Rattle.base.specs.Lists.{flat-map}
 use Rattle.base.specs.Bits.{word}
 use Rattle.base.proofs.WordLaws.{word-none}
+use Rattle.letters.specs.Requirements.{clash}
+use Rattle.letters.specs.declared.Requirement.{Requirement}
 use Rattle.formula.specs.Table.{Operator, Table}
 use Rattle.tableau.specs.Saturation.{Subset, nothing, add, saturate}
-use Rattle.tableau.specs.Transition.{operators-in, requirement, clash, next-of, possible, choice-of, within, transition-of}
+use Rattle.tableau.specs.Transition.{operators-in, requirement, next-of, possible, choice-of, within, transition-of}
 use Rattle.tableau.specs.Inner.{table-of, Formed, with-bits, Saturated, Leads-nowhere, Required, Required-by, target}
 use Rattle.tableau.specs.Inner.{Target-is, Target-by}
-use Rattle.tableau.specs.declared.Requirement.{Requirement}
 use Rattle.tableau.specs.declared.Gathered.{Gathered}
 use Rattle.tableau.specs.declared.Target.{Target}
 use Rattle.tableau.specs.declared.Target.the-variants.{Leads, Nothing}

@@ -1,9 +1,10 @@
 -- When a transition exists, what its letter has and where it leads, as laws: with those of the requirement (`RequirementLaws`) they are
 -- all that the layers above use of these, and no proof there opens `required-word`, `clash`, `possible` or `letter-of`. In one direction
 -- (`facts`): the letter of a transition is one that every subformula of the saturated set allows, and it leads to the operands of the next
--- operators there. In the other (`transition-in`): where some letter is allowed by each subformula of the saturated set, the transition
--- exists. A choice word has one transition or none (`one-or-none`), all choice words make the transitions of a node
--- (`transitions-by-word`, `word-of`, `word-in`), and a letter has sixteen bits (`letter-small`, `letter-bound`). Assumes nothing.
+-- operators there; and it is in the alphabet (`letter-in-alphabet`). In the other (`transition-in`): where some letter of the alphabet is
+-- allowed by each subformula of the saturated set, the transition exists. A choice word has one transition or none (`one-or-none`), all
+-- choice words make the transitions of a node (`transitions-by-word`, `word-of`, `word-in`), and a letter has sixteen bits
+-- (`letter-bound`). Assumes nothing.
 use mathlib.Core.Path.{_≡_, refl, sym, ap, subst, subst⁻¹, _∙_}
 use mathlib.Core.Logic.{_⊎_, inl, inr}
 use mathlib.Core.Bool.{Bool, true, false, not, cond, _&&_}
@@ -21,15 +22,18 @@ use Rattle.base.proofs.AppendLaws.{flat-map-map, range-of}
 use Rattle.base.proofs.CondLaws.{cond-of}
 use Rattle.base.proofs.MemberLaws.{flat-map-of, flat-map-in, any-of, any-in, range-in}
 use Rattle.base.proofs.Inside.{inside-length}
+use Rattle.letters.specs.Alphabet.{in-alphabet}
+use Rattle.letters.specs.Requirements.{clash, letter-of}
+use Rattle.letters.proofs.LetterLaws.{Fits, Clash, clash-of, clash-in, clash-fits-none, letter-small, letter-fits, letter-in}
 use Rattle.formula.specs.Formula.{Leaf}
 use Rattle.formula.specs.Table.{Operator, Table, operator}
 use Rattle.tableau.specs.Saturation.{Subset, has, nothing, add, saturate}
-use Rattle.tableau.specs.Transition.{operators-in, is-false, required-word, requirement, clash, possible, letter-of, next-of, ors}
+use Rattle.tableau.specs.Transition.{operators-in, is-false, requirement, possible, next-of, ors}
 use Rattle.tableau.specs.Transition.{choice-of, choices, within, Transition, letter, transition-of, by-word, transitions}
 use Rattle.tableau.specs.Nodes.{operands}
 use Rattle.tableau.proofs.SaturationLaws.{inside-has, has-lt, nothing-has, add-inside, add-has, add-of, Closed-under, saturate-holds}
 use Rattle.tableau.proofs.SaturationLaws.{saturate-length, saturate-closed}
-use Rattle.tableau.proofs.RequirementLaws.{required-small, required-of, required-in, nothing-required, clash-of, clash-in}
+use Rattle.tableau.proofs.RequirementLaws.{required-small, required-in, fits-by}
 
 -- what an operator asks of a letter by itself
 abbrev pub asks : Operator → (letter : ℕ) → Bool
@@ -40,18 +44,29 @@ asks (Operator.pair o l r) a = true
 asks (Operator.next g) a = true
 asks (Operator.fix g l) a = true
 
--- Theorem: where a transition is possible, its letter is allowed by each operator of the set.
+-- what makes a transition possible has no clash in it
+possible-clashless : (os : List Operator) → T (possible os) → Clash (requirement os) → ⊥
+unfolding possible
+possible-clashless os h c = T-not (clash (requirement os)) (and-right (not (any is-false os)) _ h) (clash-in (requirement os) c)
+
+-- Theorem: where a transition is possible, its letter is in the alphabet,
+pub possible-in-alphabet : (os : List Operator) → T (possible os) → T (in-alphabet (letter-of (requirement os)))
+possible-in-alphabet os h = letter-in (requirement os) (possible-clashless os h)
+
+-- and allowed by each operator of the set.
 pub possible-allows : (os : List Operator) → T (possible os) → (o : Operator) → List·Memᴰ o os
     → ((p : Bool) (j : ℕ) → o ≡ Operator.leaf (Leaf.signal p j) → j < 16) → T (asks o (letter-of (requirement os)))
-unfolding possible letter-of
+unfolding possible
 possible-allows os h (Operator.leaf (Leaf.constant true)) m small = tt
 possible-allows os h (Operator.leaf (Leaf.constant false)) m small =
     T-not (any is-false os) (and-left (not (any is-false os)) _ h) (any-in is-false m tt)
-possible-allows os h (Operator.leaf (Leaf.signal true j)) m small = required-in true os m (small true j refl)
+possible-allows os h (Operator.leaf (Leaf.signal true j)) m small =
+    let l = small true j refl in
+    letter-fits (requirement os) (possible-clashless os h) .has j l (required-in true os m l)
 possible-allows os h (Operator.leaf (Leaf.signal false j)) m small =
-    not-T (bit (required-word true os) j)
-    (λ k. T-not (clash (requirement os)) (and-right (not (any is-false os)) _ h)
-    (clash-in os (small false j refl) (required-of true os j k) m))
+    let l = small false j refl in
+    not-T (bit (letter-of (requirement os)) j)
+    (letter-fits (requirement os) (possible-clashless os h) .lacks j l (required-in false os m l))
 possible-allows os h (Operator.variable n) m small = tt
 possible-allows os h (Operator.pair e l r) m small = tt
 possible-allows os h (Operator.next g) m small = tt
@@ -65,16 +80,18 @@ never-asked (Operator.pair e l r) a h k = h
 never-asked (Operator.next g) a h k = h
 never-asked (Operator.fix g l) a h k = h
 
--- Theorem: where some letter is allowed by each operator of the set, the transition is possible.
-pub possible-of : (os : List Operator) (a : ℕ) → ((o : Operator) → List·Memᴰ o os → T (asks o a)) → T (possible os)
+-- Theorem: where some letter of the alphabet is allowed by each operator of the set, the transition is possible.
+pub possible-of : (os : List Operator) (a : ℕ) → T (in-alphabet a) → ((o : Operator) → List·Memᴰ o os → T (asks o a)) → T (possible os)
 unfolding possible
-possible-of os a f =
+possible-of os a such f =
     and-both (not (any is-false os)) _
     (not-T (any is-false os) (λ h. let (o, m, k) = any-of is-false os h in never-asked o a k (f o m)))
-    (not-T (clash (requirement os))
-    (λ h.
-    let (j, m, n) = clash-of os h in
-    T-not (bit a j) (f (Operator.leaf (Leaf.signal false j)) n) (f (Operator.leaf (Leaf.signal true j)) m)))
+    (not-T (clash (requirement os)) (λ h. clash-fits-none (requirement os) such fits (clash-of (requirement os) h)))
+  where
+    fits : Fits (requirement os) a
+    fits =
+        fits-by os a (λ j m. f (Operator.leaf (Leaf.signal true j)) m)
+        (λ j m. T-not (bit a j) (f (Operator.leaf (Leaf.signal false j)) m))
 
 -- the operators of a set are those of its subformulas
 pub met-of : (t : Table) (v : Subset) {o : Operator} → List·Memᴰ o (operators-in t v) → (e : ℕ) × T (has v e) × (operator t e ≡ o)
@@ -142,15 +159,6 @@ one-or-none t w s = by (within w s && possible (operators-in t s)) refl
         → (transition-of t w s ≡ transition-with t w s ∷ []) ⊎ (transition-of t w s ≡ [])
     by true q = inl (transition-by t w s true q)
     by false q = inr (transition-by t w s false q)
-
--- a letter has sixteen bits, and none where nothing is required
-pub letter-small : (t : Table) (w s : Subset) → letter (transition-with t w s) < 65536
-unfolding letter-of
-letter-small t w s = required-small true (operators-in t s)
-
-pub letter-none : letter-of nothing-required ≡ 0
-unfolding letter-of
-letter-none = refl
 
 -- the target has a Bool for each subformula
 pub to-length : (t : Table) (w s : Subset) → length (transition-with t w s .to) ≡ length t
@@ -276,13 +284,23 @@ transition-is t v x m =
 -- and so its letter has sixteen bits
 pub letter-bound : (t : Table) (v : Subset) {x : Transition} → List·Memᴰ x (transitions t v) → letter x < 65536
 letter-bound t v {x} m =
-    subst⁻¹ (λ (y : Transition). letter y < 65536) (transition-is t v x m) (letter-small t (x .choice) (saturate t (x .choice) v))
+    subst⁻¹ (λ (y : Transition). letter y < 65536) (transition-is t v x m)
+    (letter-small (requirement (operators-in t set)) (required-small true (operators-in t set)))
+  where
+    set : Subset
+    set = saturate t (x .choice) v
 
--- Theorem: a choice that is met gives a transition if some letter is allowed by each subformula of the saturated set.
+-- Theorem: the letter of a transition is in the alphabet.
+pub letter-in-alphabet : (t : Table) (v : Subset) {x : Transition} → List·Memᴰ x (transitions t v) → T (in-alphabet (letter x))
+letter-in-alphabet t v {x} m =
+    let (w, c, i, p, e) = transitions-of t v x m in
+    subst⁻¹ (λ (y : Transition). T (in-alphabet (letter y))) e (possible-in-alphabet (operators-in t (saturate t w v)) p)
+
+-- Theorem: a choice that is met gives a transition if some letter of the alphabet is allowed by each subformula of the saturated set.
 pub transition-in : (t : Table) (v w : Subset) → List·Memᴰ w (choices t) → ((e : ℕ) → T (has w e) → T (has (saturate t w v) e))
-    → (a : ℕ) → ((e : ℕ) → T (has (saturate t w v) e) → T (asks (operator t e) a))
+    → (a : ℕ) → T (in-alphabet a) → ((e : ℕ) → T (has (saturate t w v) e) → T (asks (operator t e) a))
     → List·Memᴰ (transition-with t w (saturate t w v)) (transitions t v)
-transition-in t v w c i a f =
+transition-in t v w c i a such f =
     transitions-in t v w c (within-in w (saturate t w v) i)
-    (possible-of (operators-in t (saturate t w v)) a
+    (possible-of (operators-in t (saturate t w v)) a such
     (λ o m. let (e, h, q) = met-of t (saturate t w v) m in subst (λ (p : Operator). T (asks p a)) q (f e h)))

@@ -5,11 +5,12 @@ use mathlib.Core.List.{List, [], _∷_, map}
 use Prim.Native.Nat.{ℕ, _+_, _/_, _%_, _^_}
 use lib.Dec.{eqb}
 use Rattle.base.specs.Lists.{flat-map, any, member, range, same-bit}
-use Rattle.base.specs.Bits.{bit, word}
+use Rattle.base.specs.Bits.{word}
+use Rattle.letters.specs.Requirements.{clash, letter-of}
+use Rattle.letters.specs.declared.Requirement.{Requirement}
 use Rattle.formula.specs.Formula.{Leaf}
 use Rattle.formula.specs.Table.{Operator, Table, is-or}
 use Rattle.tableau.specs.Saturation.{Subset, nothing, add, saturate}
-use Rattle.tableau.specs.declared.Requirement.{Requirement}
 
 -- the operators of the subformulas in a set
 abbrev pub operators-in : Table → Subset → List Operator
@@ -44,18 +45,10 @@ required-word p os = let signals = flat-map (requires p) os in word (map (λ j. 
 abbrev pub requirement : List Operator → Requirement
 requirement os = record { present = required-word true os; absent = required-word false os }
 
--- a clash: a bit that is set in both words
-unfoldable pub clash : Requirement → Bool
-clash r = any (λ j. bit (r .present) j && bit (r .absent) j) (range 0 16)
-
 -- MEANING 3.4: whether a set with these operators gives a transition
 unfoldable pub possible : List Operator → Bool
 unfolding required-word clash
 possible os = not (any is-false os) && not (clash (requirement os))
-
--- MEANING 3.5: the letter for a requirement has the signals that are to be present
-unfoldable pub letter-of : Requirement → ℕ
-letter-of r = r .present
 
 -- MEANING 3.5: the operand of a next, which belongs to the target
 abbrev pub next-of : Operator → List ℕ

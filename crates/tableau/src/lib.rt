@@ -1,6 +1,7 @@
 // The tableau of a formula: sets of subformulas as words, bit e for subformula e; transitions by choice words; nodes.
 use formula::Operator;
 use formula::Subformula;
+use letters::Requirement;
 ghost use mathlib.Core.Path.{_≡_};
 ghost use mathlib.Core.List.{_++_};
 ghost use Prim.Native.Nat.{_+_, _*_, _^_, _≤_, _<_};
@@ -11,7 +12,7 @@ ghost use Rattle.base.specs.Lists.{member, index};
 ghost use Rattle.formula.specs.Rows.{operator-at};
 ghost use Rattle.formula.specs.Access.{Placed};
 ghost use Rattle.tableau.specs.Saturation.{moves};
-ghost use Rattle.tableau.specs.Transition.{clash, letter-of, ors, choice-of};
+ghost use Rattle.tableau.specs.Transition.{ors, choice-of};
 ghost use Rattle.tableau.specs.Inner.{table-of, Formed, with-bits, Saturated, Requires-more, Required-by, Target-is};
 ghost use Rattle.tableau.specs.Inner.{Target-by, Widest, Unmet-between, is-unmet, Unmet-ors};
 ghost use Rattle.tableau.specs.Area.{eight, words-at, lookup, zeros, Node-room, Nodes-held, reachable, slot-of, Slots-marked};
@@ -33,12 +34,6 @@ pub struct Arrival {
     pub set: u64,
     pub from: NodeNumber,
     pub letter: u16,
-}
-
-// What a saturated set requires of a letter: in each word bit j is for signal j, to be present in it and to be absent.
-pub struct Requirement {
-    pub present: u16,
-    pub absent: u16,
 }
 
 // What one pass over a saturated set gathers: the two words of what it requires, whether it holds false, and the operands of its nexts.
@@ -272,20 +267,6 @@ fn required_by(rows: &[u8; 144], count: usize, set: u64) -> Gathered
     all
 }
 
-// Whether a signal is to be both present and absent.
-fn clashes(required: Requirement) -> bool
-    ensures { λ r. ⌜ r ≡ clash required ⌝ }
-{
-    required.present & required.absent != 0
-}
-
-// The letter that meets a requirement.
-pub fn letter_of(required: Requirement) -> u16
-    ensures { λ r. ⌜ r ≡ letter-of required ⌝ }
-{
-    required.present
-}
-
 // The transition of a node under a choice, which picks nothing at an or that is not met.
 fn transition(rows: &[u8; 144], count: usize, choice: u64, node: u64) -> Target
     requires { ⌜ Formed (now rows) count ⌝ }
@@ -303,7 +284,7 @@ fn transition(rows: &[u8; 144], count: usize, choice: u64, node: u64) -> Target
         present: r.present,
         absent: r.absent,
     };
-    if clashes(required) {
+    if letters::clashes(required) {
         return Target::Nothing;
     }
     Target::Leads {
@@ -447,7 +428,7 @@ fn follow(
             let new = Arrival {
                 set: to,
                 from: number,
-                letter: letter_of(required),
+                letter: letters::letter_of(required),
             };
             add(area, slots, origins, known, capacity, new)
         }

@@ -1,6 +1,6 @@
--- A lasso that meets the formula gives an accepting cycle. A strategy for the formula picks a transition at each position of the lasso,
--- from the root on: the nodes stay inside its region, so the lasso's letter allows the transition, which therefore exists. There are
--- finitely many pairs of a node and a position, so one comes again: a cycle of transitions. Its traces are moves of the strategy; a lap
+-- A lasso over the alphabet that meets the formula gives an accepting cycle. A strategy for the formula picks a transition at each
+-- position of the lasso, from the root on: the nodes stay inside its region, so the lasso's letter, which is in the alphabet, allows the
+-- transition, which therefore exists. There are finitely many pairs of a node and a position, so one comes again: a cycle of transitions. Its traces are moves of the strategy; a lap
 -- back to its beginning with the priority of a least fixpoint would be a path on which that fixpoint comes back to itself, and the
 -- strategy has none. Assumes nothing.
 use mathlib.Core.Path.{_≡_, refl, sym, ap, _∙_, subst, subst⁻¹}
@@ -18,6 +18,7 @@ use Rattle.base.specs.Bits.{word}
 use Rattle.base.proofs.BoolLaws.{of-T, to-T}
 use Rattle.base.proofs.ListLaws.{getD-map, getD-range, length-range}
 use Rattle.base.proofs.WordLaws.{word-lt, word-inj}
+use Rattle.letters.specs.Alphabet.{in-alphabet}
 use Rattle.formula.specs.Table.{Operator, Table, operator, is-fix}
 use Rattle.tableau.specs.Saturation.{Subset, has, nothing, moves, saturate}
 use Rattle.tableau.specs.Transition.{Transition, transitions, next-of}
@@ -162,7 +163,8 @@ module _ (t : Table) (law : Lawful t) (c : Lasso-positions) where
     path-of stay h k = here
     path-of (move d g a) h k = let b = lands h k d a in step d b (path-of a b k)
 
-  module _ (s : Strategy t c 0 (λ y q. false ≡ true)) (some : 0 < c .count) (begins : s .won 0 0 ≡ true) where
+  module _ (such : (p : ℕ) → p < c .count → T (in-alphabet (c .letter p)))
+      (s : Strategy t c 0 (λ y q. false ≡ true)) (some : 0 < c .count) (begins : s .won 0 0 ≡ true) where
     abbrev ch : ℕ → ℕ → Bool
     ch = s .ch
 
@@ -220,7 +222,7 @@ module _ (t : Table) (law : Lawful t) (c : Lasso-positions) where
 
       turn-in : List·Memᴰ (turn i) (transitions t (node i))
       turn-in =
-          chosen-in t (node i) (h .long) (λ e. ch e (position i)) (c .letter (position i))
+          chosen-in t (node i) (h .long) (λ e. ch e (position i)) (c .letter (position i)) (such (position i) (position-lt i))
           (λ e k. s .fair e (position i) (position-lt i) (set-won e k))
 
       turn-facts : Facts t (node i) (turn i)
@@ -417,8 +419,8 @@ module _ (t : Table) (law : Lawful t) (c : Lasso-positions) where
           },
         )
 
-  pub cycle-found : (a : Part t 0) → 0 < c .count → holds t c a (λ m p. false) 0 ≡ true
+  pub cycle-found : ((p : ℕ) → p < c .count → T (in-alphabet (c .letter p))) → (a : Part t 0) → 0 < c .count → holds t c a (λ m p. false) 0 ≡ true
       → (v : Subset) × (ss : List Transition) × AcceptingCycle t v ss
-  cycle-found a some h =
+  cycle-found such a some h =
       let v = win t c a (λ m p. false) (λ y q e. absurd (false≢true e)) in
-      found (v .plan) some (v .root 0 some h)
+      found such (v .plan) some (v .root 0 some h)

@@ -1,6 +1,7 @@
 -- The theorem behind yes and no. Of a guarded formula, as every accepted one is: the lasso of any walk from the root to an accepting
--- cycle, its letters in order, meets the formula; a lasso of any length that meets it gives an accepting cycle of a reachable node. So a
--- lasso meets the formula exactly if its tableau has a reachable accepting cycle. Assumes nothing.
+-- cycle, its letters in order, is over the alphabet and meets the formula; a lasso over the alphabet, of any length, that meets it gives an
+-- accepting cycle of a reachable node. So such a lasso meets the formula exactly if its tableau has a reachable accepting cycle. Assumes
+-- nothing.
 use mathlib.Core.Path.{_≡_, sym, ap, _∙_, subst, subst⁻¹}
 use mathlib.Core.Logic.{_↔_}
 use mathlib.Core.Bool.{Bool, true, false, _&&_}
@@ -11,10 +12,12 @@ use lib.Dec.{T, ltb}
 use borrow.Author.Tests.{ltb-true, lt-ltb}
 use lib.ListN.{length, getD, length-map}
 use Rattle.base.proofs.BoolLaws.{of-T, to-T, and-left, and-right}
+use Rattle.base.proofs.MemberLaws.{all-at}
+use Rattle.letters.specs.Alphabet.{in-alphabet}
 use Rattle.formula.specs.Formula.{Formula}
 use Rattle.formula.specs.Table.{Operator, Table, table}
 use Rattle.formula.specs.Occurrence.{Ranged, Guarded}
-use Rattle.lasso.specs.Lasso.{Lasso, meets, holds as lasso-holds}
+use Rattle.lasso.specs.Lasso.{Lasso, over-alphabet, meets, holds as lasso-holds}
 use Rattle.tableau.specs.Saturation.{Subset, has, nothing}
 use Rattle.tableau.specs.Transition.{Transition}
 use Rattle.tableau.specs.Nodes.{root}
@@ -26,7 +29,7 @@ use Rattle.profile.specs.Cycle.{Rejecting, AcceptingCycle, around}
 use Rattle.theory.proofs.Semantics.{holds}
 use Rattle.theory.proofs.Agreement.{orbit}
 use Rattle.theory.proofs.TreeLaws.{Lawful, lawful, whole-part, whole-means, table-some}
-use Rattle.theory.proofs.Walks.{Walk, along-walk, Split, run-split}
+use Rattle.theory.proofs.Walks.{Walk, along-walk, walk-join, walk-letters, Split, run-split}
 use Rattle.theory.proofs.LapLaws.{cycle-triples}
 use Rattle.theory.proofs.Soundness.{lasso-of, stem-short, cycle-holds}
 use Rattle.theory.proofs.Completeness.{cycle-found}
@@ -54,6 +57,15 @@ module _ (f : Formula) (guarded : Guarded [] f) (ranged : Ranged f) where
   has-first : T (has (root t) 0)
   has-first = set-has (nothing t) 0 (omega (arith, table-some f guarded ranged, length-map t (λ (o : Operator). false)))
 
+  -- Theorem: an accepting reachable cycle gives a lasso over the alphabet:
+  pub cycle-over-alphabet : {v : Subset} {stem cycle : List Transition} → Along t (root t) stem v → AcceptingCycle t v cycle
+      → over-alphabet (lasso-of stem cycle) ≡ true
+  unfolding over-alphabet
+  cycle-over-alphabet {stem = stem} {cycle} a x =
+      let q = run-split t (x .run) in
+      subst⁻¹ (λ (ss : List Transition). over-alphabet (lasso-of stem ss) ≡ true) (q .is)
+      (of-T (over-alphabet (lasso-of stem (q .s ∷ q .ss))) (walk-letters t (walk-join t (along-walk t a) (q .walk))))
+
   -- Theorem: an accepting reachable cycle gives a lasso that meets the formula: the letters of any walk to it, then its own.
   pub cycle-meets : {v : Subset} {stem cycle : List Transition} → Along t (root t) stem v → AcceptingCycle t v cycle
       → meets (lasso-of stem cycle) f ≡ true
@@ -80,18 +92,22 @@ module _ (f : Formula) (guarded : Guarded [] f) (ranged : Ranged f) where
       true-at-0 = cycle-holds t law (root t) v (root-length t) stem (q .s) (q .ss) lead (q .walk) has-first accepts
           (whole-part f guarded ranged)
 
-  -- Theorem: a lasso of any length that meets the formula gives an accepting reachable cycle.
-  pub meets-cycle : (c : Lasso) → meets c f ≡ true → (v : Subset) × (cycle : List Transition) × AcceptingCycle t v cycle
-  meets-cycle c e =
+  -- Theorem: a lasso over the alphabet, of any length, that meets the formula gives an accepting reachable cycle.
+  pub meets-cycle : (c : Lasso) → over-alphabet c ≡ true → meets c f ≡ true
+      → (v : Subset) × (cycle : List Transition) × AcceptingCycle t v cycle
+  unfolding over-alphabet
+  meets-cycle c such e =
       let (h, z) = meets-of c f e in
-      cycle-found t law (orbit c h) (whole-part f guarded ranged) (omega arith) (whole-means f guarded ranged c h (λ m p. false) ∙ z)
+      let letters = all-at in-alphabet (c .letters) 0 (to-T (over-alphabet c) such) in
+      cycle-found t law (orbit c h) letters (whole-part f guarded ranged) (omega arith) (whole-means f guarded ranged c h (λ m p. false) ∙ z)
 
   -- The core theorem.
-  pub satisfiable : ((c : Lasso) × (meets c f ≡ true)) ↔ ((v : Subset) × (cycle : List Transition) × AcceptingCycle t v cycle)
+  pub satisfiable : ((c : Lasso) × (over-alphabet c ≡ true) × (meets c f ≡ true))
+      ↔ ((v : Subset) × (cycle : List Transition) × AcceptingCycle t v cycle)
   satisfiable = (
-    λ p. meets-cycle (p .0) (p .1),
+    λ p. meets-cycle (p .0) (p .1) (p .2),
     λ p.
         let (v, cycle, x) = p in
         let (stem, a) = x .reachable in
-        (lasso-of stem cycle, cycle-meets a x),
+        (lasso-of stem cycle, cycle-over-alphabet a x, cycle-meets a x),
   )

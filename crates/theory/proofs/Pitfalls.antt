@@ -28,14 +28,14 @@ abbrev pub cycle : List ℕ → Lasso
 cycle letters = record { letters = letters; stem = 0 }
 
 -- A least fixpoint that still waits: F is true although its signal is absent at every other position.
-pub pending : meets (cycle (0x0000 ∷ 0x0001 ∷ [])) F ≡ true
+pub pending : meets (cycle (0x4000 ∷ 0x4001 ∷ [])) F ≡ true
 unfolding parse meets
 pending = refl
 
 -- A least fixpoint on the way. Where signal 0 is present for ever J may pass its inner least fixpoint for ever, since the outer greatest
 -- one is passed too; where it is absent J is false, as only the inner one is left to it, and L true.
 pub outer-decides :
-    map (λ (f : Formula). map (λ (letters : List ℕ). meets (cycle letters) f) ((0x0001 ∷ []) ∷ (0x0000 ∷ []) ∷ [])) (J ∷ L ∷ [])
+    map (λ (f : Formula). map (λ (letters : List ℕ). meets (cycle letters) f) ((0x4001 ∷ []) ∷ (0x4000 ∷ []) ∷ [])) (J ∷ L ∷ [])
     ≡ (true ∷ false ∷ []) ∷ (true ∷ true ∷ []) ∷ []
 unfolding parse meets
 outer-decides = refl

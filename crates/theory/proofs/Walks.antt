@@ -1,15 +1,19 @@
 -- Transitions one after another, taken apart from the front: the node before each of them, and what a run carries on. Runs from the
 -- root and the runs of profiles, which grow at their end, are such walks. Assumes nothing.
 use mathlib.Core.Path.{_≡_, refl, sym, ap, _∙_}
-use mathlib.Core.List.{List, [], _∷_, _++_, List·Memᴰ}
+use mathlib.Core.List.{List, [], _∷_, _++_, map, List·Memᴰ}
 use Prim.Native.Nat.{ℕ, zero, suc, _<_}
 use native.Mathlib.Omega.{arith}
+use lib.Dec.{T}
 use lib.ListN.{length, getD}
+use Rattle.base.specs.Lists.{all}
+use Rattle.base.proofs.BoolLaws.{and-both}
+use Rattle.letters.specs.Alphabet.{in-alphabet}
+use Rattle.letters.proofs.LetterLaws.{nothing-required}
 use Rattle.formula.specs.Table.{Table}
 use Rattle.tableau.specs.Saturation.{Subset}
-use Rattle.tableau.specs.Transition.{Transition, transitions}
-use Rattle.tableau.proofs.RequirementLaws.{nothing-required}
-use Rattle.tableau.proofs.TransitionLaws.{facts}
+use Rattle.tableau.specs.Transition.{Transition, letter, transitions}
+use Rattle.tableau.proofs.TransitionLaws.{facts, letter-in-alphabet}
 use Rattle.profile.specs.Traces.{Triple, triples, join}
 use Rattle.profile.specs.Profiles.{Profile}
 use Rattle.tableau.specs.Run.{Along}
@@ -59,6 +63,12 @@ module _ (t : Table) where
   pub walk-seam : {v u : Subset} {ss : List Transition} (rs : List Transition) → Walk v ss u → node-at v (ss ++ rs) (length ss) ≡ u
   walk-seam rs stop = refl
   walk-seam rs (go m a) = walk-seam rs a
+
+  -- the letters of a walk are in the alphabet
+  pub walk-letters : {v u : Subset} {ss : List Transition} → Walk v ss u → T (all in-alphabet (map letter ss))
+  walk-letters stop = tt
+  walk-letters {v} (go {s = s} {ss} m a) =
+      and-both (in-alphabet (letter s)) (all in-alphabet (map letter ss)) (letter-in-alphabet t v m) (walk-letters a)
 
   -- a node has a Bool for each subformula
   pub walk-length : {v u : Subset} {ss : List Transition} → Walk v ss u → length v ≡ length t → (i : ℕ) → length (node-at v ss i) ≡ length t

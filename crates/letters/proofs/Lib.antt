@@ -1,0 +1,2 @@
+pub mod AlphabetLaws
+pub mod LetterLaws
