@@ -2,9 +2,10 @@
 
 use crate::random::{nesting, Random};
 use crate::reading::{self, Unreadable};
+use crate::scale::{is_place, BOTH, CURRENT_SCALE, PREVIOUS_SCALE};
 use crate::truth::{self, Truth};
 use crate::{decision, decision::Verdict};
-use yuktrob::{course_len, work_len, Command, Refusal, Rule, MOST_NODES, MOST_PROFILES};
+use yuktrob::{course_len, work_len, Command, Refusal, Rule, MOST_NODES, MOST_PLACES, MOST_PROFILES};
 
 /// A refusal's number, with the byte's place and the fixpoint's where it has them.
 #[derive(Clone, Copy, Debug, PartialEq, Eq)]
@@ -27,7 +28,8 @@ fn placeless(number: u8) -> Refused {
     Refused { number, place: None, fixpoint: None }
 }
 
-/// A rule's bytes, and how far its signals, which are few, are turned round among the sixteen; a course for it has them there too.
+/// A rule's bytes, and how far its signals, which are few, are turned round among the sixteen; a course for it has them there too. Every
+/// third is joined with a second rule by an and, and its signals are the scale flags and signal 0, so that much is asked of the flags.
 pub struct Input {
     pub rule: Vec<u8>,
     turn: u32,
@@ -36,16 +38,27 @@ pub struct Input {
 impl Input {
     pub fn new(random: &mut Random) -> Self {
         let mut rule = rule(random);
-        let turn = random.below(16) as u32;
-        let mut at = 0;
-        while at < rule.len() {
-            let takes_one = matches!(rule[at], 3..=5);
-            if let (3 | 4, Some(signal @ 0..=15)) = (rule[at], rule.get_mut(at + 1)) {
-                *signal = ((u32::from(*signal) + turn) % 16) as u8;
-            }
-            at += 1 + takes_one as usize;
+        if random.one_in(3) {
+            let size = 1 + random.below(12);
+            rule = [vec![7], rule, random.rule(size)].concat();
+            each_signal(&mut rule, |_| [PREVIOUS_SCALE, PREVIOUS_SCALE, CURRENT_SCALE, CURRENT_SCALE, 0][random.below(5)]);
+            return Input { rule, turn: PREVIOUS_SCALE.into() };
         }
-        Input { rule, turn }
+        let turn = random.below(16) as u8;
+        each_signal(&mut rule, |signal| (signal + turn) % 16);
+        Input { rule, turn: turn.into() }
+    }
+}
+
+/// Puts another signal for each signal in a rule's bytes.
+fn each_signal(rule: &mut [u8], mut other: impl FnMut(u8) -> u8) {
+    let mut at = 0;
+    while at < rule.len() {
+        let takes_one = matches!(rule[at], 3..=5);
+        if let (3 | 4, Some(signal @ 0..=15)) = (rule[at], rule.get_mut(at + 1)) {
+            *signal = other(*signal);
+        }
+        at += 1 + takes_one as usize;
     }
 }
 
@@ -126,6 +139,27 @@ pub struct Truths {
     pub all: u64,
     pub alternating: u64,
     pub long: u64,
+    /// Refused with 19, and of these with too few words as well.
+    pub refused_19: u64,
+    pub before_18: u64,
+    /// Refused with 16 and with 17 on a course with such a place.
+    pub behind_16: u64,
+    pub behind_17: u64,
+}
+
+impl Truths {
+    fn count(&mut self, rule: &[u8], x: &Asked, answer: &Result<bool, Refused>) {
+        let alternating = answer.is_ok() && reading::read(rule).is_ok_and(|entries| nesting(&entries).alternating);
+        let refused = |number| answer.is_err_and(|why| why.number == number);
+        let misflagged = !x.places.iter().all(|&place| is_place(place));
+        self.all += 1;
+        self.alternating += alternating as u64;
+        self.long += (alternating && x.places.len() >= LONG) as u64;
+        self.refused_19 += refused(19) as u64;
+        self.before_18 += (refused(19) && x.lent.len() < x.places.len()) as u64;
+        self.behind_16 += (refused(16) && misflagged) as u64;
+        self.behind_17 += (refused(17) && misflagged) as u64;
+    }
 }
 
 /// What counts as a long course.
@@ -155,6 +189,15 @@ struct Asked {
     lent: Vec<u64>,
 }
 
+/// Now and then, and often where the course is refused anyway, one place gets both scale flags or neither.
+fn misflag(random: &mut Random, places: &mut [u16], refused: bool) {
+    let seldom = if refused { 2 } else { 12 };
+    if let (Some(last), true) = (places.len().checked_sub(1), random.one_in(seldom)) {
+        let i = [0, last, random.below(places.len())][random.below(3)];
+        places[i] ^= random.flag();
+    }
+}
+
 fn asked(random: &mut Random, longest: usize, turn: u32) -> Asked {
     let n = length(random, longest);
     let lead_len = match random.below(20) {
@@ -164,7 +207,8 @@ fn asked(random: &mut Random, longest: usize, turn: u32) -> Asked {
         _ => random.below(n.max(1)),
     };
     let room = if random.one_in(20) { n.saturating_sub(1) } else { n + random.below(3) };
-    let places = random.course(n).into_iter().map(|place| place.rotate_left(turn)).collect();
+    let mut places = random.course(n, turn);
+    misflag(random, &mut places, lead_len >= n || n > MOST_PLACES || room < n);
     Asked { places, lead_len, lent: (0..room as u64).map(|i| i ^ 0xdead_beef).collect() }
 }
 
@@ -187,10 +231,7 @@ pub fn truth(random: &mut Random, Input { rule, turn }: &Input, longest: usize, 
     let mut words = x.lent.clone();
     let ours = yuktrob::truth(rule, &x.places, x.lead_len, &mut words).map_err(ours);
     let (theirs, after) = expected(rule, &x)?;
-    let alternating = theirs.is_ok() && reading::read(rule).is_ok_and(|entries| nesting(&entries).alternating);
-    truths.all += 1;
-    truths.alternating += alternating as u64;
-    truths.long += (alternating && x.places.len() >= LONG) as u64;
+    truths.count(rule, &x, &theirs);
     if ours == theirs && words == after {
         return Ok(());
     }
@@ -237,7 +278,7 @@ fn lent(random: &mut Random) -> Lent {
 }
 
 /// The answer without the course.
-#[derive(Debug, PartialEq)]
+#[derive(Clone, Copy, Debug, PartialEq)]
 enum Settled {
     Met { lead_len: usize, loop_len: usize, nodes: usize, profiles: usize },
     Not { nodes: usize, profiles: usize },
@@ -269,15 +310,42 @@ fn zeros(settled: &Settled, lent: Lent) -> usize {
     }
 }
 
-/// Whether a course other than expected meets the rule as well.
-fn meets(rule: &[u8], course: &[u16], settled: &Settled) -> bool {
-    let Settled::Met { lead_len, .. } = *settled else { return false };
-    matches!(truth::by_laps(rule, course, lead_len, course.len()), Truth::Told(true, _))
+/// How many decisions gave another course, as short, and what the scale flags did in those that came to a verdict.
+#[derive(Default)]
+pub struct Decisions {
+    pub other: u64,
+    /// Of a rule with both flags, and of these with a step missing for the flags alone, as both would be present, as both would be absent.
+    pub with_flags: u64,
+    pub both_present: u64,
+    pub both_absent: u64,
+    /// With a course that has a place of the current scale.
+    pub current: u64,
 }
 
-/// The decision: the answer, the work area, and the course buffer. Another course of the same two lengths is as right, if it meets the rule;
-/// `other` counts these.
-pub fn decision(random: &mut Random, rule: &[u8], areas: &mut Areas, other: &mut u64) -> Result<(), String> {
+impl Decisions {
+    fn count(&mut self, rule: &[u8], course: &[u16]) {
+        let Ok(entries) = reading::read(rule) else { return };
+        let has = |j: u8| entries.contains(&reading::Command::Present(j)) || entries.contains(&reading::Command::Absent(j));
+        if has(PREVIOUS_SCALE) && has(CURRENT_SCALE) {
+            let lost = decision::lost_to_flags(&entries, MOST_NODES);
+            self.with_flags += 1;
+            self.both_present += lost.iter().any(|present| present & BOTH == BOTH) as u64;
+            self.both_absent += lost.iter().any(|present| present & BOTH == 0) as u64;
+        }
+        self.current += course.iter().any(|place| place >> CURRENT_SCALE & 1 == 1) as u64;
+    }
+}
+
+/// Whether a course other than expected meets the rule as well, by steps of its graph.
+fn meets(rule: &[u8], course: &[u16], settled: &Settled) -> bool {
+    let (Settled::Met { lead_len, .. }, Ok(entries)) = (*settled, reading::read(rule)) else { return false };
+    let told = truth::by_laps(rule, course, lead_len, course.len());
+    matches!(told, Truth::Told(true, _)) && decision::has_run(&entries, course, lead_len)
+}
+
+/// The decision: the answer, the work area, and the course buffer. Another course of the same two lengths is as right if it meets the rule by
+/// steps of its graph.
+pub fn decision(random: &mut Random, rule: &[u8], areas: &mut Areas, decisions: &mut Decisions) -> Result<(), String> {
     let lent = lent(random);
     let (work, buffer) = (&mut areas.work[..lent.work], &mut areas.course[..lent.course]);
     work.fill(0xa5);
@@ -296,9 +364,15 @@ pub fn decision(random: &mut Random, rule: &[u8], areas: &mut Areas, other: &mut
     if rest.iter().any(|&p| p != 0x5a5a) {
         return fail("course buffer");
     }
-    *other += (found != course) as u64;
+    if !found.iter().all(|&place| is_place(place)) {
+        return fail("scale flags");
+    }
     if found != course && !meets(rule, found, &ours) {
         return fail("course");
+    }
+    decisions.other += (found != course) as u64;
+    if !matches!(ours, Settled::Refused(_)) {
+        decisions.count(rule, found);
     }
     Ok(())
 }

@@ -1,6 +1,7 @@
 //! The decision: the graph of a rule, its profiles, and a shortest course.
 
 use crate::reading::{read, Command, Unreadable};
+use crate::scale;
 use std::collections::{HashMap, HashSet};
 
 /// What the decision answers.
@@ -44,6 +45,26 @@ pub fn decide(rule: &[u8], n: usize, m: usize, work: usize, buffer: usize) -> Ve
     }
 }
 
+/// Of each step that a rule's graph, of at most `room` nodes, lacks for the scale flags alone, the signals that it requires present: both
+/// flags are among them, or neither is, since both are required absent.
+pub fn lost_to_flags(entries: &[Command], room: usize) -> Vec<u16> {
+    let graph = Graph::new(entries);
+    let nodes = graph.nodes(room).map_or(Vec::new(), |nodes| nodes.order);
+    let lost = |x: &Asked| x.present & x.absent == 0 && scale::place(x.present, x.absent).is_none();
+    nodes.iter().flat_map(|&node| graph.asked_by(node)).filter(lost).map(|x| x.present).collect()
+}
+
+/// Whether a rule's graph has a run from the root with the places of a course, which comes back at its end to the node where the loop begins.
+pub fn has_run(entries: &[Command], course: &[u16], lead_len: usize) -> bool {
+    let graph = Graph::new(entries);
+    let after = |nodes: HashSet<u64>, &place: &u16| -> HashSet<u64> {
+        nodes.into_iter().flat_map(|node| graph.steps(node)).filter(|step| step.place == place).map(|step| step.to).collect()
+    };
+    let (lead, around) = course.split_at(lead_len);
+    let begins = lead.iter().fold(HashSet::from([1]), after);
+    begins.into_iter().any(|node| around.iter().fold(HashSet::from([node]), after).contains(&node))
+}
+
 /// The places of the steps from the root to a node.
 fn lead_to(nodes: &Nodes, mut node: usize) -> Vec<u16> {
     let mut lead = Vec::new();
@@ -67,7 +88,16 @@ fn around(profiles: &[Profile], found: usize) -> Vec<u16> {
     around
 }
 
-/// One step: its pick (the ors whose right operand is taken), its place and where it leads.
+/// What a set asks for: its pick (the ors whose right operand is taken), the signals that it requires present and absent, and the operands
+/// of its nexts.
+struct Asked {
+    pick: u64,
+    present: u16,
+    absent: u16,
+    to: u64,
+}
+
+/// One step: its pick, its place and where it leads.
 struct Step {
     pick: u64,
     place: u16,
@@ -175,35 +205,40 @@ impl<'a> Graph<'a> {
         set
     }
 
-    fn step(&self, node: u64, pick: u64) -> Option<Step> {
+    /// What a node's set with this pick asks for, unless the pick is at an or that it does not meet, or it has false in it.
+    fn asked(&self, node: u64, pick: u64) -> Option<Asked> {
         let set = self.closure(node, pick);
         if pick & !set != 0 {
             return None;
         }
-        let (mut present, mut absent, mut to) = (0u16, 0u16, 0u64);
+        let mut asked = Asked { pick, present: 0, absent: 0, to: 0 };
         let mut rest = set;
         while rest != 0 {
             let e = rest.trailing_zeros() as usize;
             rest &= rest - 1;
             match self.entries[e] {
                 Command::False => return None,
-                Command::Present(j) => present |= 1 << j,
-                Command::Absent(j) => absent |= 1 << j,
-                Command::Next(g) => to |= 1 << g,
+                Command::Present(j) => asked.present |= 1 << j,
+                Command::Absent(j) => asked.absent |= 1 << j,
+                Command::Next(g) => asked.to |= 1 << g,
                 _ => {}
             }
         }
-        if present & absent != 0 { None } else { Some(Step { pick, place: present, to }) }
+        Some(asked)
+    }
+
+    /// What the sets of a node ask for, by rising pick word.
+    fn asked_by(&self, node: u64) -> impl Iterator<Item = Asked> + '_ {
+        (0..1u64 << self.ors.len()).filter_map(move |word| {
+            let pick = self.ors.iter().enumerate().fold(0, |p, (j, &e)| p | (word >> j & 1) << e);
+            self.asked(node, pick)
+        })
     }
 
     /// The steps of a node, by rising pick word.
     fn steps(&self, node: u64) -> Vec<Step> {
-        (0..1u64 << self.ors.len())
-            .filter_map(|word| {
-                let pick = self.ors.iter().enumerate().fold(0, |p, (j, &e)| p | (word >> j & 1) << e);
-                self.step(node, pick)
-            })
-            .collect()
+        let step = |Asked { pick, present, absent, to }| scale::place(present, absent).map(|place| Step { pick, place, to });
+        self.asked_by(node).filter_map(step).collect()
     }
 
     /// The reachable nodes, breadth first, if there are at most `room`.

@@ -1,6 +1,6 @@
-//! An independent implementation of reading, truth and decision in plain Rust, written from the defining paper ("document 01") with Rust's
-//! own collections. It shares nothing with the proved library and is there to be compared with it: `compared` runs one input through both,
-//! the programs `compare` and `bench` many. Not published.
+//! An independent implementation of reading, truth and decision in plain Rust, written from the defining papers ("documents 01 and 02")
+//! with Rust's own collections. It shares nothing with the proved library and is there to be compared with it: `compared` runs one input
+//! through both, the programs `compare` and `bench` many. Not published.
 
 pub mod compared;
 pub mod decision;
@@ -8,4 +8,5 @@ mod laps;
 pub mod random;
 pub mod reading;
 mod rounds;
+pub mod scale;
 pub mod truth;

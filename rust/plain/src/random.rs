@@ -1,6 +1,7 @@
 //! Random rules, whole and damaged, and random courses, for comparing and timing. The same seed gives the same ones.
 
 use crate::reading::{ends, read, Command};
+use crate::scale::{is_place, FLAGS};
 
 pub struct Random(u64);
 
@@ -184,23 +185,42 @@ impl Random {
         bytes
     }
 
-    /// A course of which long stretches are the same, or random places.
-    pub fn course(&mut self, n: usize) -> Vec<u16> {
-        if self.one_in(2) {
-            return self.places(n);
-        }
-        let mut places = vec![0; n];
-        for _ in 0..1 + self.below(4) {
-            let (a, b) = (self.below(n + 1), self.below(n + 1));
-            let place = [0, 1, 2, 3, 0xffff][self.below(5)];
-            let end = if self.one_in(3) { n.min(a + 1) } else { a.max(b) };
-            places[a.min(end)..end].fill(place);
-        }
-        places
+    /// A course of which long stretches are the same, or random places; its signals, mostly few, are turned round by so many.
+    pub fn course(&mut self, n: usize, turn: u32) -> Vec<u16> {
+        let values = if self.one_in(2) { self.values(n) } else { self.stretches(n) };
+        let turned = values.into_iter().map(|value| value.rotate_left(turn)).collect();
+        self.flagged(turned)
     }
 
     /// Places over few signals, and now and then over all.
     pub fn places(&mut self, n: usize) -> Vec<u16> {
+        let values = self.values(n);
+        self.flagged(values)
+    }
+
+    /// One of the two scale flags.
+    pub fn flag(&mut self) -> u16 {
+        FLAGS[self.below(2)]
+    }
+
+    /// The values, each with one scale flag: those with neither get one that is drawn for all of them, and those with both keep the other.
+    fn flagged(&mut self, values: Vec<u16>) -> Vec<u16> {
+        let flag = self.flag();
+        values.into_iter().map(|value| if is_place(value) { value } else { value ^ flag }).collect()
+    }
+
+    fn stretches(&mut self, n: usize) -> Vec<u16> {
+        let mut values = vec![0; n];
+        for _ in 0..1 + self.below(4) {
+            let (a, b) = (self.below(n + 1), self.below(n + 1));
+            let value = [0, 1, 2, 3, 0xffff][self.below(5)];
+            let end = if self.one_in(3) { n.min(a + 1) } else { a.max(b) };
+            values[a.min(end)..end].fill(value);
+        }
+        values
+    }
+
+    fn values(&mut self, n: usize) -> Vec<u16> {
         let mask = if self.one_in(10) { 0xffff } else { 0x7 };
         (0..n).map(|_| self.below(0x10000) as u16 & mask).collect()
     }

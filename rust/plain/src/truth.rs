@@ -4,6 +4,7 @@
 use crate::laps::Laps;
 use crate::reading::{read, Command, Unreadable};
 use crate::rounds::Rounds;
+use crate::scale::is_place;
 
 /// What the truth operation answers.
 #[derive(Clone, Debug, PartialEq, Eq)]
@@ -34,6 +35,9 @@ fn asked(rule: &[u8], places: &[u16], lead_len: usize, room: usize, words: impl 
     }
     if places.len() > 8192 {
         return Truth::Refused(17);
+    }
+    if !places.iter().all(|&place| is_place(place)) {
+        return Truth::Refused(19);
     }
     if room < places.len() {
         return Truth::Refused(18);

@@ -86,7 +86,20 @@ fn cases() {
 
 #[test]
 fn case_h_whole() {
-    assert_eq!(at_once(CASES[7].0), "MET 1 2 3 5\nS 0001\nL 0000\nL 0001\n");
+    assert_eq!(at_once(CASES[7].0), "MET 1 2 3 5\nS 4001\nL 4000\nL 4001\n");
+}
+
+#[test]
+fn scale_flags() {
+    let told: [(&[u8], &str); 4] = [
+        (&[3, 15], "MET 1 1 2 1\nS 8000\nL 4000\n"),
+        (&[7, 4, 14, 3, 1], "MET 1 1 2 1\nS 8002\nL 4000\n"),
+        (&[7, 3, 14, 3, 15], "NOT 1 0\n"),
+        (&[7, 4, 14, 4, 15], "NOT 1 0\n"),
+    ];
+    for (rule, expected) in told {
+        assert_eq!(at_once(rule), expected, "{rule:02x?}");
+    }
 }
 
 #[test]

@@ -1,4 +1,4 @@
-//! The independent implementation's two methods for truth say the same, and both say what document 01 gives.
+//! The independent implementation's two methods for truth say the same, and both say what documents 01 and 02 give.
 
 use yuktrob_plain::random::{nesting, Random};
 use yuktrob_plain::reading::{read, Command};
@@ -11,12 +11,36 @@ fn same(rule: &[u8], places: &[u16], lead_len: usize) -> Truth {
 }
 
 #[test]
-fn document_01() {
+fn examples() {
     let eventually = [9, 6, 3, 0, 8, 5, 0];
-    assert_eq!(same(&eventually, &[0, 1], 1), Truth::Told(true, vec![27, 31]));
-    assert_eq!(same(&eventually, &[0], 0), Truth::Told(false, vec![0]));
-    assert_eq!(same(&eventually, &[0, 0, 1], 2), Truth::Told(true, vec![27, 27, 31]));
-    assert_eq!(same(&[9, 7, 3, 0, 8, 5, 0], &[1], 0), Truth::Told(false, vec![4]));
+    assert_eq!(same(&eventually, &[0x4000, 0x4001], 1), Truth::Told(true, vec![27, 31]));
+    assert_eq!(same(&eventually, &[0x4000], 0), Truth::Told(false, vec![0]));
+    assert_eq!(same(&eventually, &[0x4000, 0x4000, 0x4001], 2), Truth::Told(true, vec![27, 27, 31]));
+    assert_eq!(same(&[9, 7, 3, 0, 8, 5, 0], &[0x4001], 0), Truth::Told(false, vec![4]));
+}
+
+#[test]
+fn a_place_has_one_scale_flag() {
+    assert_eq!(same(&[1], &[0x4000, 0x8000, 0x7fff, 0xbfff], 0), Truth::Told(true, vec![1; 4]));
+    for places in [[0x0000, 0x4000], [0x8000, 0xc000], [0x3fff, 0xffff]] {
+        assert_eq!(same(&[1], &places, 1), Truth::Refused(19), "{places:04x?}");
+    }
+}
+
+/// 19 comes behind reading, 16 and 17, and before 18.
+#[test]
+fn refusals_in_order() {
+    let refused = |rule: &[u8], places: &[u16], lead_len, room| match by_laps(rule, places, lead_len, room) {
+        Truth::Unread(why) => why.number,
+        Truth::Refused(number) => number,
+        Truth::Told(..) => 0,
+    };
+    assert_eq!(refused(&[1, 1], &[0], 0, 1), 9);
+    assert_eq!(refused(&[1], &[0], 1, 0), 16);
+    assert_eq!(refused(&[1], &[0; 8193], 0, 0), 17);
+    assert_eq!(refused(&[1], &[0; 8192], 0, 0), 19);
+    assert_eq!(refused(&[1], &[0x4000; 8192], 0, 8191), 18);
+    assert_eq!(refused(&[1], &[0x4000; 8192], 0, 8192), 0);
 }
 
 fn fixpoints(entries: &[Command]) -> usize {
@@ -34,7 +58,7 @@ fn crossing_rules() {
         alternating += nesting(&entries).alternating as u32;
         by_depth[fixpoints(&entries)] += 1;
         let n = 1 + random.below(40);
-        let (places, lead_len) = (random.course(n), random.below(n));
+        let (places, lead_len) = (random.course(n, 0), random.below(n));
         met += matches!(same(&rule, &places, lead_len), Truth::Told(true, _)) as u32;
     }
     // so that the draws are worth something
@@ -60,7 +84,7 @@ fn any_rules() {
     for _ in 0..20_000 {
         let size = 1 + random.below(47);
         let (rule, n) = (random.rule(size), 1 + random.below(40));
-        let (places, lead_len) = (random.course(n), random.below(n));
+        let (places, lead_len) = (random.course(n, 0), random.below(n));
         same(&rule, &places, lead_len);
     }
 }
@@ -78,7 +102,7 @@ fn a_loop_that_is_unrolled_changes_nothing() {
     let mut random = Random::new(13);
     for _ in 0..400 {
         let (rule, n) = (random.crossing(), 1 + random.below(40));
-        let (short, lead_len) = (random.course(n), random.below(n));
+        let (short, lead_len) = (random.course(n, 0), random.below(n));
         let Truth::Told(met, words) = by_rounds(&rule, &short, lead_len, n) else { panic!("{rule:02x?} is refused") };
         let (from, long_lead_len) = unrolled(n, lead_len, random.below(20), 1 + random.below(20));
         let long: Vec<u16> = from.iter().map(|&i| short[i]).collect();

@@ -2,7 +2,7 @@
 //! `compare [INPUTS [SEED [LONGEST]]]`, where no course that both work out is longer than LONGEST places, 60 at least and 8,192 at most.
 
 use std::time::Instant;
-use yuktrob_plain::compared::{self, Areas, Input, Signals, Truths, Unguarded, LONG};
+use yuktrob_plain::compared::{self, Areas, Decisions, Input, Signals, Truths, Unguarded, LONG};
 use yuktrob_plain::random::Random;
 
 fn main() {
@@ -10,8 +10,9 @@ fn main() {
     let word = |i: usize, otherwise: u64| words.get(i).copied().unwrap_or(otherwise);
     let (inputs, seed, longest) = (word(0, 100_000), word(1, 1), word(2, 8192).clamp(60, 8192) as usize);
     let mut random = Random::new(seed);
-    let (mut areas, mut truths, mut unguarded, mut signals) = (Areas::new(), Truths::default(), Unguarded::default(), Signals::default());
-    let (mut differences, mut other) = (0u64, 0u64);
+    let (mut unguarded, mut signals) = (Unguarded::default(), Signals::default());
+    let (mut areas, mut truths, mut decisions) = (Areas::new(), Truths::default(), Decisions::default());
+    let mut differences = 0u64;
     let start = Instant::now();
     for i in 0..inputs {
         let input = Input::new(&mut random);
@@ -21,7 +22,7 @@ fn main() {
         let result = match i % 3 {
             0 => compared::reading(rule),
             1 => compared::truth(&mut random, &input, longest, &mut truths),
-            _ => compared::decision(&mut random, rule, &mut areas, &mut other),
+            _ => compared::decision(&mut random, rule, &mut areas, &mut decisions),
         };
         if let Err(what) = result {
             differences += 1;
@@ -29,15 +30,25 @@ fn main() {
         }
     }
     let seconds = start.elapsed().as_secs_f64();
-    let (readings, decisions) = (inputs.div_ceil(3), inputs / 3);
-    println!("compared: {readings} readings, {} truths, {decisions} decisions in {seconds:.1} s", truths.all);
+    println!("compared: {} readings, {} truths, {} decisions in {seconds:.1} s", inputs.div_ceil(3), truths.all, inputs / 3);
     println!("truths of rules with alternating fixpoints: {}, of these on {LONG} places or more: {}", truths.alternating, truths.long);
     let Unguarded { all, between } = unguarded;
     println!("rules refused with 8: {all}, of these for a fixpoint that is neither the innermost nor at byte 0: {between}");
     println!("rules with one signal both present and absent, of the signal that the fewest have so: {}", signals.fewest());
-    println!("decisions with another course, as short: {other}");
+    report_flags(&truths, &decisions);
+    println!("decisions with another course, as short: {}", decisions.other);
     println!("differences: {differences}");
     if differences > 0 {
         std::process::exit(1);
     }
+}
+
+fn report_flags(truths: &Truths, decisions: &Decisions) {
+    let Truths { refused_19, before_18, behind_16, behind_17, .. } = truths;
+    println!("truths refused with 19: {refused_19}, of these with too few words as well: {before_18}");
+    println!("truths on a course with such a place refused with 16: {behind_16}, with 17: {behind_17}");
+    let Decisions { with_flags, both_present, both_absent, current, .. } = decisions;
+    println!("verdicts on rules with both scale flags: {with_flags}");
+    println!("of these with a step missing for the flags alone, both present: {both_present}, both absent: {both_absent}");
+    println!("courses given with a place of the current scale: {current}");
 }
