@@ -12,17 +12,17 @@ type Course = (Vec<u16>, usize);
 /// A kind of course, by the number of places.
 type Kind = (&'static str, fn(usize) -> Course);
 
-const GAP: Kind = ("a loop of FFFF, the middle place 0000", |n| (with_middle(n, 0xffff, 0), 0));
-const BLAZE: Kind = ("a loop of 0000, the middle place FFFF", |n| (with_middle(n, 0, 0xffff), 0));
-const SPARK: Kind = ("a loop of 0000, the middle place 0001", |n| (with_middle(n, 0, 1), 0));
-const FADING: Kind = ("a lead-in of 0001, a loop 0000", |n| (with_last(n, 1, 0), n - 1));
-const ENDING: Kind = ("a lead-in of FFFF, a loop 0000", |n| (with_last(n, 0xffff, 0), n - 1));
-const STARTING: Kind = ("a lead-in of 0000, a loop FFFF", |n| (with_last(n, 0, 0xffff), n - 1));
-const HALVES: Kind = ("half 0000, one 0002, half 0001, a loop 0000", halves);
-const TURNS: Kind = ("a loop of 0001 and 0002 by turns, the middle place 0000", |n| (turns(n), 0));
+const GAP: Kind = ("a loop of 7FFF, the middle place 4000", |n| (with_middle(n, 0x7fff, 0x4000), 0));
+const BLAZE: Kind = ("a loop of 4000, the middle place 7FFF", |n| (with_middle(n, 0x4000, 0x7fff), 0));
+const SPARK: Kind = ("a loop of 4000, the middle place 4001", |n| (with_middle(n, 0x4000, 0x4001), 0));
+const FADING: Kind = ("a lead-in of 4001, a loop 4000", |n| (with_last(n, 0x4001, 0x4000), n - 1));
+const ENDING: Kind = ("a lead-in of 7FFF, a loop 4000", |n| (with_last(n, 0x7fff, 0x4000), n - 1));
+const STARTING: Kind = ("a lead-in of 4000, a loop 7FFF", |n| (with_last(n, 0x4000, 0x7fff), n - 1));
+const HALVES: Kind = ("half 4000, one 4002, half 4001, a loop 4000", halves);
+const TURNS: Kind = ("a loop of 4001 and 4002 by turns, the middle place 4000", |n| (turns(n), 0));
 const MIXED: Kind = ("random places of three signals, the later half a loop", |n| (Random::new(n as u64).places(n), n / 2));
 
-const MOTLEY: Kind = ("ten values for four places each, the later five a loop, behind a lead-in of 0000", motley);
+const MOTLEY: Kind = ("ten values for four places each, the later five a loop, behind a lead-in of 4000", motley);
 
 const KINDS: [Kind; 10] = [GAP, BLAZE, SPARK, FADING, ENDING, STARTING, HALVES, TURNS, MIXED, MOTLEY];
 
@@ -35,18 +35,18 @@ fn with_last(n: usize, place: u16, last: u16) -> Vec<u16> {
 }
 
 fn turns(n: usize) -> Vec<u16> {
-    (0..n).map(|i| if i == n / 2 { 0 } else { 1 + i as u16 % 2 }).collect()
+    (0..n).map(|i| if i == n / 2 { 0x4000 } else { 0x4001 + i as u16 % 2 }).collect()
 }
 
 fn halves(n: usize) -> Course {
     let m = (n - 2) / 2;
-    ([vec![0; m], vec![2], vec![1; n - 2 - m], vec![0]].concat(), n - 1)
+    ([vec![0x4000; m], vec![0x4002], vec![0x4001; n - 2 - m], vec![0x4000]].concat(), n - 1)
 }
 
 fn motley(n: usize) -> Course {
-    let values = [0x8879, 0x6346, 0xd5e7, 0xf9f7, 0xa2a6, 0xcedd, 0x5b6b, 0xb6ea, 0x5c95, 0x6508];
+    let values = [0x8879, 0x6346, 0x55e7, 0x79f7, 0xa2a6, 0x4edd, 0x5b6b, 0xb6ea, 0x5c95, 0x6508];
     let last: Vec<u16> = values.into_iter().flat_map(|v| [v; 4]).collect();
-    ([vec![0; n - 40], last].concat(), n - 20)
+    ([vec![0x4000; n - 40], last].concat(), n - 20)
 }
 
 const CASE_J: &str = "0A 09 06 07 03 00 08 05 01 08 05 00";
@@ -127,4 +127,17 @@ pub fn search(count: usize, seed: u64, places: usize) {
 fn fixpoints(rule: &[u8]) -> usize {
     let entries = read(rule).expect("a rule");
     entries.iter().filter(|c| matches!(c, Command::Least(_) | Command::Greatest(_))).count()
+}
+
+#[cfg(test)]
+mod tests {
+    use super::*;
+
+    /// Else the table would have the times of refusals.
+    #[test]
+    fn courses_have_places_only() {
+        for (name, course) in KINDS {
+            assert!(course(64).0.into_iter().all(yuktrob_plain::scale::is_place), "{name}");
+        }
+    }
 }

@@ -1,6 +1,6 @@
 //! The decision's tables.
 
-use crate::shapes::{always, each, eventually, until, written};
+use crate::shapes::{always, each, eventually, infinitely_often, until, written};
 use crate::timing::{head, once, row, time, BOTH};
 use std::hint::black_box;
 use std::time::Duration;
@@ -48,13 +48,14 @@ fn plain(rule: &[u8], n: usize, m: usize, work: &mut [u8]) {
 fn typical(areas: &mut Areas) {
     head("Decision, typical rules, N = 256, M = 300", &BOTH);
     let (s0, s1): (&[u8], &[u8]) = (&[3, 0], &[3, 1]);
-    let infinitely_often = vec![10, 7, 9, 6, 3, 0, 8, 5, 0, 8, 5, 0];
-    let rules: [(&str, Vec<u8>); 5] = [
+    let rules: [(&str, Vec<u8>); 7] = [
         ("true", vec![1]),
         ("F s0", eventually(s0)),
-        ("G F s0", infinitely_often.clone()),
-        ("s0 U s1 and G F s0", [&[7][..], &until(s0, s1), &infinitely_often].concat()),
+        ("G F s0", infinitely_often(s0)),
+        ("s0 U s1 and G F s0", [&[7][..], &until(s0, s1), &infinitely_often(s0)].concat()),
         ("case H", vec![10, 7, 3, 0, 7, 8, 4, 0, 8, 8, 5, 0]),
+        ("G (not s0 or G not s14)", always(&[&[6, 4, 0][..], &always(&[4, 14])].concat())),
+        ("G F s14 and G F s15", [&[7][..], &infinitely_often(&[3, 14]), &infinitely_often(&[3, 15])].concat()),
     ];
     for (name, rule) in &rules {
         let (ours, theirs) = decision(areas, rule, 256, 300);
@@ -115,7 +116,7 @@ fn shapes(areas: &mut Areas) {
         ("F of 3 signals, all", each(3, 7, |j| eventually(&[3, j]))),
         ("F of 5 signals, all", each(5, 7, |j| eventually(&[3, j]))),
         ("F of 7 signals, all", each(7, 7, |j| eventually(&[3, j]))),
-        ("G F of 3 signals, all", each(3, 7, |j| vec![10, 7, 9, 6, 3, j, 8, 5, 0, 8, 5, 0])),
+        ("G F of 3 signals, all", each(3, 7, |j| infinitely_often(&[3, j]))),
         ("G of one of 12 signals", always(&each(13, 6, |j| signal_or(j, 12, vec![3, j])))),
         ("G of one of 11 signals next", always(&each(12, 6, |j| signal_or(j, 11, vec![8, 3, j])))),
         ("G of each of 4 signals or its absence next", always(&each(4, 7, |j| vec![6, 3, j, 8, 4, j]))),

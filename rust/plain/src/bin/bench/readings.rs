@@ -1,6 +1,6 @@
 //! The table of reading.
 
-use crate::shapes::each;
+use crate::shapes::{each, infinitely_often};
 use crate::timing::{head, row, time, BOTH};
 use std::hint::black_box;
 use yuktrob::Rule;
@@ -33,7 +33,7 @@ pub fn table() {
     head("Reading, 1,000 times", &BOTH);
     let rules: [(&str, Vec<u8>); 11] = [
         ("true", vec![1]),
-        ("G F s0", vec![10, 7, 9, 6, 3, 0, 8, 5, 0, 8, 5, 0]),
+        ("G F s0", infinitely_often(&[3, 0])),
         ("and of 6 signals, 11 commands", signals(6)),
         ("and of 12 signals, 23 commands", signals(12)),
         ("and of 24 signals, 47 commands", signals(24)),

@@ -1,11 +1,14 @@
 //! Rules of the usual shapes, in bytes.
 
-/// F, G, U, R in bytes, over what they are applied to.
+/// F, G, G F, U, R in bytes, over what they are applied to.
 pub fn eventually(f: &[u8]) -> Vec<u8> {
     [&[9, 6][..], f, &[8, 5, 0]].concat()
 }
 pub fn always(f: &[u8]) -> Vec<u8> {
     [&[10, 7][..], f, &[8, 5, 0]].concat()
+}
+pub fn infinitely_often(f: &[u8]) -> Vec<u8> {
+    always(&eventually(f))
 }
 pub fn until(f: &[u8], g: &[u8]) -> Vec<u8> {
     [&[9, 6][..], g, &[7], f, &[8, 5, 0]].concat()
