@@ -1,4 +1,5 @@
-/* Lists the entries of a rule, decides a few, and tries the course of one. Each answer is asked for a refusal before it is taken apart. */
+/* Lists the entries of a rule, decides a few, tries the course of each that has one, and a course that is refused. Each answer is asked for
+ * a refusal before it is taken apart. */
 #include "../include/yuktrob.h"
 #include <stdio.h>
 
@@ -34,11 +35,10 @@ static void print_course(uint64_t answer) {
     printf("\n");
 }
 
-/* Whether the rule is true on the course that the decision gave. */
-static void try_course(const uint8_t *rule, size_t rule_len, uint64_t decided) {
+/* Whether the rule is true on a course of n places. */
+static void try_course(const uint8_t *rule, size_t rule_len, const uint16_t *places, size_t n, size_t lead_len) {
     static uint64_t words[YUKTROB_WORDS_LEN(YUKTROB_COURSE_LEN(NODES, PROFILES))];
-    size_t lead_len = yuktrob_lead_len(decided), n = lead_len + yuktrob_loop_len(decided);
-    uint64_t answer = yuktrob_truth(rule, rule_len, course, n, lead_len, words, sizeof words / sizeof words[0]);
+    uint64_t answer = yuktrob_truth(rule, rule_len, places, n, lead_len, words, sizeof words / sizeof words[0]);
     if (yuktrob_refusal(answer)) {
         print_refusal(answer);
     } else {
@@ -52,8 +52,9 @@ static void decide(const uint8_t *rule, size_t rule_len) {
     if (yuktrob_refusal(answer)) {
         print_refusal(answer);
     } else if (yuktrob_is_met(answer)) {
+        size_t lead_len = yuktrob_lead_len(answer);
         print_course(answer);
-        try_course(rule, rule_len, answer);
+        try_course(rule, rule_len, course, lead_len + yuktrob_loop_len(answer), lead_len);
     } else {
         printf("NOT, K %u, P %u\n", yuktrob_nodes(answer), yuktrob_profiles(answer));
     }
@@ -65,6 +66,9 @@ int main(void) {
     const uint8_t unguarded[] = {0x09, 0x05, 0x00};
     const uint8_t next_outside[] = {0x08, 0x09, 0x05, 0x00};
     const uint8_t unfinished[] = {0x06, 0x01};
+    const uint8_t never_previous[] = {0x0A, 0x07, 0x04, 0x0E, 0x08, 0x05, 0x00}; /* always signal 14 absent */
+    const uint16_t handover[] = {YUKTROB_PREVIOUS_SCALE, YUKTROB_CURRENT_SCALE};
+    const uint16_t no_flag[] = {YUKTROB_CURRENT_SCALE, 0x0000};
     list(eventually, sizeof eventually);
     list(unguarded, sizeof unguarded);
     decide(eventually, sizeof eventually);
@@ -72,5 +76,8 @@ int main(void) {
     decide(unguarded, sizeof unguarded);
     decide(next_outside, sizeof next_outside);
     decide(unfinished, sizeof unfinished);
+    decide(never_previous, sizeof never_previous);
+    try_course(never_previous, sizeof never_previous, handover, 2, 1);
+    try_course(never_previous, sizeof never_previous, no_flag, 2, 1);
     return 0;
 }

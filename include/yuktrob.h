@@ -4,7 +4,7 @@
  *   reading    accepted: the number of entries; refused 1 to 9: its places
  *   entry      accepted: 8 bits each for the command, its argument and the entry after its last, the first lowest; all 0 if there is no
  *              such entry; refused 1 to 9: its places
- *   truth      told: 1 for true, 0 for false; refused 1 to 9: its places; refused 16 to 18: nothing
+ *   truth      told: 1 for true, 0 for false; refused 1 to 9: its places; refused 16 to 19: nothing
  *   decision   1 + 2 * sizes for MET, 2 * sizes for NOT, where sizes has 13 bits each for lead-in length, loop length, K and P, the
  *              first lowest; refused 1 to 9: its places; refused 11 to 15: nothing
  * The places of a refusal are 8 bits for the byte's place and, of 8 alone, 8 bits above them for where the variable's fixpoint begins.
@@ -23,6 +23,11 @@
 #define YUKTROB_MOST_NODES 1024
 #define YUKTROB_MOST_PROFILES 4096
 
+/* A place of a course has 16 bits, bit j for signal j. Signals 14 and 15 are the scale flags: a heading has the previous revision's scale,
+ * or the current one's. Each place has exactly one of these two bits, and any of the others. */
+#define YUKTROB_PREVIOUS_SCALE 0x4000u
+#define YUKTROB_CURRENT_SCALE 0x8000u
+
 /* How large the areas must be: the bytes of the work area and the places of the course buffer of a decision, the words of truth. */
 #define YUKTROB_WORK_LEN(nodes, profiles) ((size_t)8 * (nodes) + (size_t)192 * (profiles))
 #define YUKTROB_COURSE_LEN(nodes, profiles) ((size_t)(nodes) + (size_t)(profiles))
@@ -40,7 +45,8 @@ uint64_t yuktrob_read(const uint8_t *rule, size_t rule_len);
 uint64_t yuktrob_entry(const uint8_t *rule, size_t rule_len, size_t e);
 
 /* Is a rule true on a course, whose loop is what stands behind the lead-in? Told, word i has the bits of the entries that are true at place
- * i, and later words keep what they had; refused, no word is written. */
+ * i, and later words keep what they had; refused, no word is written. A course with any place that has both scale flags or neither is
+ * refused with 19, which is asked behind 17 and before 18. */
 uint64_t yuktrob_truth(const uint8_t *rule, size_t rule_len, const uint16_t *places, size_t places_len, size_t lead_len, uint64_t *words,
                        size_t words_len);
 

@@ -33,7 +33,7 @@ pub const fn course_len(nodes: usize, profiles: usize) -> usize {
 ///     Verdict::Met { lead_len, course, .. } => format!("lead-in {:04x?}, loop {:04x?}", &course[..lead_len], &course[lead_len..]),
 ///     Verdict::Not { .. } => "no course".to_string(),
 /// };
-/// assert_eq!(told, "lead-in [0004], loop [0000]");
+/// assert_eq!(told, "lead-in [4004], loop [4000]");
 /// # Ok::<(), yuktrob::Refusal>(())
 /// ```
 #[derive(Clone, Copy, Debug, PartialEq, Eq, Hash)]
@@ -48,7 +48,7 @@ pub enum Verdict<'c> {
         nodes: usize,
         /// The paper's P: its profiles.
         profiles: usize,
-        /// A shortest such course, in the buffer's first places: the lead-in, then the loop.
+        /// A shortest such course, in the buffer's first places: the lead-in, then the loop. Each place has one scale flag.
         course: &'c [u16],
     },
     /// No course meets the rule.

@@ -73,7 +73,7 @@ mod tests {
         let unguarded: [(&[u8], u64, u64); 3] = [(&[9, 5, 0], 2, 0), (&[8, 9, 5, 0], 3, 1), (&[10, 9, 6, 3, 0, 5, 1], 6, 0)];
         for (rule, place, fixpoint) in unguarded {
             let expected = Err(Refusal::new(8, place + 256 * fixpoint));
-            let answers = [read(rule), entry(rule, 0), truth(rule, &[0], 0, &mut [0]), decide(rule, 1, 1, &mut [0; 200], &mut [0; 2])];
+            let answers = [read(rule), entry(rule, 0), truth(rule, &[0x4000], 0, &mut [0]), decide(rule, 1, 1, &mut [0; 200], &mut [0; 2])];
             assert_eq!(answers, [expected; 4], "{rule:02x?}");
         }
     }

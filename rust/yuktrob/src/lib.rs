@@ -12,11 +12,14 @@
 //! let rule = Rule::read(&[0x09, 0x06, 0x03, 0x00, 0x08, 0x05, 0x00])?;
 //! let mut areas = Areas::new(256, 300);
 //! let Verdict::Met { lead_len, course, .. } = rule.decide(&mut areas)? else { panic!("some course meets it") };
-//! assert_eq!((lead_len, course), (1, &[0x0001, 0x0000][..]));
+//! assert_eq!((lead_len, course), (1, &[0x4001, 0x4000][..]));
 //! let mut words = [0; 2];
 //! assert!(rule.truth(course, lead_len, &mut words)?);
 //! # Ok::<(), yuktrob::Refusal>(())
 //! ```
+//!
+//! A place of a course has 16 bits, bit j for signal j. Signals 14 and 15 are the scale flags, [`PREVIOUS_SCALE`] and [`CURRENT_SCALE`]; each
+//! place has exactly one of them.
 //!
 //! [`truth`] and [`decide`] take the rule's bytes and areas that the caller lends, as the functions of `include/yuktrob.h` do.
 
@@ -32,4 +35,4 @@ mod truth;
 pub use decision::{course_len, decide, work_len, Areas, Verdict, MOST_NODES, MOST_PROFILES};
 pub use refusal::Refusal;
 pub use rule::{Command, Entry, Rule};
-pub use truth::{truth, words_len, MOST_PLACES};
+pub use truth::{truth, words_len, CURRENT_SCALE, MOST_PLACES, PREVIOUS_SCALE};

@@ -64,6 +64,7 @@ impl Refusal {
             16 => "the lead-in is not shorter than the course; an empty course",
             17 => "more than 8,192 places",
             18 => "fewer words than places",
+            19 => "a place with both scale flags or neither; it must have either signal 14 or signal 15",
             _ => "a refusal that has no words here",
         }
     }

@@ -149,8 +149,8 @@ impl Rule {
     /// ```
     /// let eventually = yuktrob::Rule::read(&[0x09, 0x06, 0x03, 0x00, 0x08, 0x05, 0x00])?;
     /// let mut words = [0; 3];
-    /// assert_eq!(eventually.truth(&[0, 0, 1], 2, &mut words), Ok(true));
-    /// assert_eq!(eventually.truth(&[0, 0, 0], 2, &mut words), Ok(false));
+    /// assert_eq!(eventually.truth(&[0x4000, 0x4000, 0x4001], 2, &mut words), Ok(true));
+    /// assert_eq!(eventually.truth(&[0x4000, 0x4000, 0x4000], 2, &mut words), Ok(false));
     /// # Ok::<(), yuktrob::Refusal>(())
     /// ```
     pub fn truth(&self, places: &[u16], lead_len: usize, words: &mut [u64]) -> Result<bool, Refusal> {

@@ -1,5 +1,5 @@
-//! The outcomes that document 01 gives, through the wrappers: cases A to L and the truth examples; and the refusals of reading with their
-//! places.
+//! The outcomes that document 01 gives, through the wrappers: cases A to L and the truth examples, each place with a scale flag as document
+//! 02 asks; what the flags refuse; and the refusals of reading with their places.
 
 use yuktrob::{decide, truth, Areas, Refusal, Rule, Verdict};
 
@@ -7,40 +7,88 @@ fn met(lead_len: usize, loop_len: usize, nodes: usize, profiles: usize, course: 
     Verdict::Met { lead_len, loop_len, nodes, profiles, course }
 }
 
-#[test]
-fn cases() {
-    let not = |nodes, profiles| Verdict::Not { nodes, profiles };
-    let table: [(&[u8], Verdict); 11] = [
-        (&[1], met(1, 1, 2, 1, &[0, 0])),
-        (&[2], not(1, 0)),
-        (&[10, 7, 3, 0, 8, 5, 0], met(1, 1, 2, 1, &[1, 1])),
-        (&[9, 7, 3, 0, 8, 5, 0], not(2, 1)),
-        (&[9, 6, 3, 0, 8, 5, 0], met(1, 1, 3, 3, &[1, 0])),
-        (&[10, 7, 9, 6, 3, 0, 8, 5, 0, 8, 5, 0], met(1, 1, 3, 5, &[1, 1])),
-        (&[7, 9, 6, 3, 0, 8, 5, 0, 10, 7, 4, 0, 8, 5, 0], not(2, 1)),
-        (&[10, 7, 3, 0, 7, 8, 4, 0, 8, 8, 5, 0], met(1, 2, 3, 5, &[1, 0, 1])),
-        (&[10, 7, 9, 8, 8, 5, 0, 8, 5, 0], not(3, 6)),
-        (&[10, 9, 6, 7, 3, 0, 8, 5, 1, 8, 5, 0], met(1, 1, 3, 6, &[1, 1])),
-        (&[9, 10, 6, 7, 3, 0, 8, 5, 1, 8, 5, 0], met(1, 1, 3, 6, &[0, 0])),
-    ];
+fn not(nodes: usize, profiles: usize) -> Verdict<'static> {
+    Verdict::Not { nodes, profiles }
+}
+
+/// Rules with their verdicts.
+fn check(table: &[(&[u8], Verdict)]) {
     let mut areas = Areas::new(256, 300);
     for (bytes, expected) in table {
         let rule = Rule::read(bytes).expect("a rule");
-        assert_eq!(rule.decide(&mut areas), Ok(expected), "{bytes:02x?}");
+        assert_eq!(rule.decide(&mut areas), Ok(*expected), "{bytes:02x?}");
     }
+}
+
+#[test]
+fn cases() {
+    check(&[
+        (&[1], met(1, 1, 2, 1, &[0x4000, 0x4000])),
+        (&[2], not(1, 0)),
+        (&[10, 7, 3, 0, 8, 5, 0], met(1, 1, 2, 1, &[0x4001, 0x4001])),
+        (&[9, 7, 3, 0, 8, 5, 0], not(2, 1)),
+        (&[9, 6, 3, 0, 8, 5, 0], met(1, 1, 3, 3, &[0x4001, 0x4000])),
+        (&[10, 7, 9, 6, 3, 0, 8, 5, 0, 8, 5, 0], met(1, 1, 3, 5, &[0x4001, 0x4001])),
+        (&[7, 9, 6, 3, 0, 8, 5, 0, 10, 7, 4, 0, 8, 5, 0], not(2, 1)),
+        (&[10, 7, 3, 0, 7, 8, 4, 0, 8, 8, 5, 0], met(1, 2, 3, 5, &[0x4001, 0x4000, 0x4001])),
+        (&[10, 7, 9, 8, 8, 5, 0, 8, 5, 0], not(3, 6)),
+        (&[10, 9, 6, 7, 3, 0, 8, 5, 1, 8, 5, 0], met(1, 1, 3, 6, &[0x4001, 0x4001])),
+        (&[9, 10, 6, 7, 3, 0, 8, 5, 1, 8, 5, 0], met(1, 1, 3, 6, &[0x4000, 0x4000])),
+    ]);
+}
+
+#[test]
+fn scale_flags_in_rules() {
+    check(&[
+        (&[3, 14], met(1, 1, 2, 1, &[0x4000, 0x4000])),
+        (&[3, 15], met(1, 1, 2, 1, &[0x8000, 0x4000])),
+        (&[4, 14], met(1, 1, 2, 1, &[0x8000, 0x4000])),
+        (&[4, 15], met(1, 1, 2, 1, &[0x4000, 0x4000])),
+        (&[7, 3, 14, 4, 15], met(1, 1, 2, 1, &[0x4000, 0x4000])),
+        (&[7, 4, 14, 3, 15], met(1, 1, 2, 1, &[0x8000, 0x4000])),
+        (&[7, 3, 14, 3, 15], not(1, 0)),
+        (&[7, 4, 14, 4, 15], not(1, 0)),
+        // a change is announced at once, and behind it no heading ever has the previous scale
+        (&[7, 3, 0, 10, 7, 6, 4, 0, 10, 7, 4, 14, 8, 5, 0, 8, 5, 0], met(1, 1, 2, 2, &[0x8001, 0x8000])),
+        // the same, and sooner or later one has not the current scale
+        (&[7, 3, 0, 7, 10, 7, 6, 4, 0, 10, 7, 4, 14, 8, 5, 0, 8, 5, 0, 9, 6, 4, 15, 8, 5, 0], not(2, 2)),
+    ]);
+}
+
+#[test]
+fn a_place_with_both_scale_flags_or_neither_is_refused() {
+    let mut words = [99; 3];
+    for wrong in [0x0000, 0x3fff, 0xc000, 0xffff] {
+        for i in 0..3 {
+            let mut places = [0x4000, 0x8000, 0x7fff];
+            places[i] = wrong;
+            assert_eq!(truth(&[1], &places, 1, &mut words).map_err(|why| why.number), Err(19), "{places:04x?}");
+        }
+    }
+    assert_eq!(words, [99; 3]);
+}
+
+#[test]
+fn refusals_of_a_course_in_order() {
+    let refused = |places: &[u16], lead_len, words: &mut [u64]| truth(&[1], places, lead_len, words).map_err(|why| why.number);
+    assert_eq!(refused(&[0], 1, &mut []), Err(16));
+    assert_eq!(refused(&[0; 8193], 0, &mut []), Err(17));
+    assert_eq!(refused(&[0; 8192], 0, &mut []), Err(19));
+    assert_eq!(refused(&[0x4000; 8192], 0, &mut [0; 8191]), Err(18));
+    assert_eq!(refused(&[0x4000; 8192], 0, &mut [0; 8192]), Ok(true));
 }
 
 #[test]
 fn truth_examples() {
     let eventually = [9, 6, 3, 0, 8, 5, 0];
     let mut words = [99; 4];
-    assert_eq!(truth(&eventually, &[0, 1], 1, &mut words), Ok(true));
+    assert_eq!(truth(&eventually, &[0x4000, 0x4001], 1, &mut words), Ok(true));
     assert_eq!(words, [27, 31, 99, 99]);
-    assert_eq!(truth(&eventually, &[0], 0, &mut words), Ok(false));
+    assert_eq!(truth(&eventually, &[0x4000], 0, &mut words), Ok(false));
     assert_eq!(words, [0, 31, 99, 99]);
-    assert_eq!(truth(&eventually, &[0, 0, 1], 2, &mut words), Ok(true));
+    assert_eq!(truth(&eventually, &[0x4000, 0x4000, 0x4001], 2, &mut words), Ok(true));
     assert_eq!(words, [27, 27, 31, 99]);
-    assert_eq!(truth(&[9, 7, 3, 0, 8, 5, 0], &[1], 0, &mut words), Ok(false));
+    assert_eq!(truth(&[9, 7, 3, 0, 8, 5, 0], &[0x4001], 0, &mut words), Ok(false));
     assert_eq!(words, [4, 27, 31, 99]);
 }
 

@@ -1,6 +1,6 @@
 //! Every line of the ```rules blocks of docs/FORMULAS.md, run; and its words for each refusal, held beside the crate's.
 
-use yuktrob::{course_len, decide, truth, work_len, Refusal, Verdict};
+use yuktrob::{course_len, decide, truth, work_len, Refusal, Verdict, PREVIOUS_SCALE};
 
 fn document() -> String {
     std::fs::read_to_string(concat!(env!("CARGO_MANIFEST_DIR"), "/../../docs/FORMULAS.md")).expect("docs/FORMULAS.md")
@@ -20,10 +20,10 @@ fn refused(why: Refusal) -> String {
     format!("REFUSED {}{place}{fixpoint}", why.number)
 }
 
-/// `LEAD (LOOP)`, or a number of places that are all 0.
+/// `LEAD (LOOP)`, or a number of places that are all 4000.
 fn course(text: &str) -> (Vec<u16>, usize) {
     if let Some(n) = text.strip_suffix(" places") {
-        return (vec![0; n.parse().expect("a number of places")], 0);
+        return (vec![PREVIOUS_SCALE; n.parse().expect("a number of places")], 0);
     }
     let (lead, around) = text.strip_suffix(')').and_then(|c| c.split_once('(')).expect("a loop in brackets");
     let lead = places(lead);
@@ -103,9 +103,10 @@ fn refusal(number: u8) -> Refusal {
         13 => decide(&[1], 1, 1, &mut work, &mut buffer[..1]).unwrap_err(),
         14 => decide(&[1], 1, 300, &mut work, &mut buffer).unwrap_err(),
         15 => decide(&often, 256, 4, &mut work, &mut buffer).unwrap_err(),
-        16 => truth(&[1], &[0, 0], 2, &mut [0; 2]).unwrap_err(),
-        17 => truth(&[1], &[0; 8193], 0, &mut [0; 8193]).unwrap_err(),
-        18 => truth(&[1], &[0, 0], 1, &mut [0]).unwrap_err(),
+        16 => truth(&[1], &[PREVIOUS_SCALE; 2], 2, &mut [0; 2]).unwrap_err(),
+        17 => truth(&[1], &[PREVIOUS_SCALE; 8193], 0, &mut [0; 8193]).unwrap_err(),
+        18 => truth(&[1], &[PREVIOUS_SCALE; 2], 1, &mut [0]).unwrap_err(),
+        19 => truth(&[1], &[0], 0, &mut [0]).unwrap_err(),
         _ => panic!("the document has a refusal {number} that no input is known for"),
     }
 }
@@ -118,7 +119,7 @@ fn every_refusal_has_the_words_of_the_document() {
         Some((number.parse::<u8>().ok()?, words.to_string()))
     };
     let rows: Vec<(u8, String)> = document.lines().skip_while(|line| *line != "## Refusals").filter_map(row).collect();
-    assert_eq!(rows.len(), 17);
+    assert_eq!(rows.len(), 18);
     for (number, words) in rows {
         let why = refusal(number);
         let place = why.place.map_or(String::new(), |place| format!(" at byte {place}"));
