@@ -46,6 +46,10 @@ module _ {A : Type 0} (q : A → Bool) where
   all-at (x ∷ xs) d h zero l = and-left (q x) (all q xs) h
   all-at (x ∷ xs) d h (suc i) l = all-at xs d (and-right (q x) (all q xs) h) i (omega arith)
 
+  pub all-in : (xs : List A) (d : A) → ((i : ℕ) → i < length xs → T (q (getD xs i d))) → T (all q xs)
+  all-in [] d h = tt
+  all-in (x ∷ xs) d h = and-both (q x) (all q xs) (h 0 (omega arith)) (all-in xs d (λ i l. h (suc i) (omega arith)))
+
   pub filter-of : (xs : List A) {a : A} → List·Memᴰ a (filter q xs) → List·Memᴰ a xs × T (q a)
   filter-of [] m = absurd (List·Memᴰ·not-nil m)
   filter-of (x ∷ xs) {a} m =

@@ -1,6 +1,6 @@
 -- What the verdict says of the formula is so: MET comes with a lasso over the alphabet that meets it, NOT is given only where no such lasso
--- meets it, and where nothing is refused the verdict is MET exactly if some such lasso meets the formula. From the laws of the verdict and the two halves of the
--- core theorem. Assumes nothing.
+-- meets it, and where nothing is refused the verdict is MET exactly if some such lasso meets the formula. From the laws of the verdict and
+-- the two halves of the core theorem. Assumes nothing.
 use mathlib.Core.Path.{_≡_, refl, subst, subst⁻¹}
 use mathlib.Core.Logic.{_↔_}
 use mathlib.Core.Bool.{true}
@@ -128,5 +128,6 @@ verdict-exact N M workspace buffer bytes f e fits =
     (verdict-answered N M workspace buffer bytes))) fits)
   where
     exact : {o : Verdict} → Concluded (table f) o → IsMet o ↔ ((c : Lasso) × (over-alphabet c ≡ true) × (meets c f ≡ true))
-    exact (Concluded.met {stem} {letters = letters} w) = (λ h. (lasso letters stem, witness-such bytes f e w, witness-holds bytes f e w), λ h. tt)
+    exact (Concluded.met {stem} {letters = letters} w) =
+        (λ h. (lasso letters stem, witness-such bytes f e w, witness-holds bytes f e w), λ h. tt)
     exact (Concluded.unmet n) = (λ h. absurd h, λ h. no-lasso bytes f e n (h .0) (h .1) (h .2))

@@ -1,8 +1,8 @@
 -- What is asked of the decision, each demand as one theorem about the verdict, for any bytes, N, M and sizes of the two areas. Unless it is
--- a refusal, the verdict is NOT exactly if no lasso over the alphabet, however long, meets the formula that the bytes are (`not-exactly`). Nothing of 1 to 13
--- refuses exactly if the bytes are a formula and the capacities and the areas are as asked (`granted-exactly`). It is 14 exactly if then K
--- is above N (`refused-14-exactly`), and 15 exactly if then K is at most N and P above M (`refused-15-exactly`). Where none of these
--- refuses and some such lasso meets the formula, the verdict is MET with a short witness (`met-short`). Assumes nothing.
+-- a refusal, the verdict is NOT exactly if no lasso over the alphabet, however long, meets the formula that the bytes are (`not-exactly`).
+-- Nothing of 1 to 13 refuses exactly if the bytes are a formula and the capacities and the areas are as asked (`granted-exactly`). It is 14
+-- exactly if then K is above N (`refused-14-exactly`), and 15 exactly if then K is at most N and P above M (`refused-15-exactly`). Where
+-- none of these refuses and some such lasso meets the formula, the verdict is MET with a short witness (`met-short`). Assumes nothing.
 use mathlib.Core.Path.{_≡_, refl, subst, subst⁻¹}
 use mathlib.Core.Logic.{_↔_}
 use mathlib.Core.Bool.{true}
@@ -50,8 +50,8 @@ pub record Granted (N M workspace buffer : ℕ) (bytes : List ℕ) (f : Formula)
 abbrev pub NoLasso : Formula → Type 0
 NoLasso f = (c : Lasso) → over-alphabet c ≡ true → meets c f ≡ true → ⊥
 
--- MET, with K and P, a lasso over the alphabet that meets the formula, and the witness that it is: `Witness` has that its stem is shorter than K, its cycle
--- at most P, and that no accepting cycle has fewer transitions.
+-- MET, with K and P, a lasso over the alphabet that meets the formula, and the witness that it is: `Witness` has that its stem is shorter
+-- than K, its cycle at most P, and that no accepting cycle has fewer transitions.
 pub record Short (f : Formula) (o : Verdict) : Type 0 where
   pub stem : ℕ
   pub cycle : ℕ

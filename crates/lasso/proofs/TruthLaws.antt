@@ -1,12 +1,21 @@
--- The questions that truth asks after reading (MEANING 2.5), by what they mean, in their order. Assumes nothing.
+-- The questions that truth asks after reading (MEANING 2.5), by what they mean, in their order; and what 19 asks, letter by letter. Assumes
+-- nothing.
 use mathlib.Core.Path.{_≡_, refl}
+use mathlib.Core.Logic.{_↔_}
 use Prim.Native.Nat.{ℕ, _≤_, _<_}
 use lib.Dec.{T}
-use lib.ListN.{length}
+use lib.ListN.{length, getD}
 use Rattle.base.proofs.AskLaws.{Asked, asked as asked-of, asked-le, asked-lt}
+use Rattle.base.proofs.MemberLaws.{all-at, all-in}
+use Rattle.letters.specs.Alphabet.{in-alphabet}
 use Rattle.formula.specs.Formula.{Formula}
 use Rattle.lasso.specs.Lasso.{Lasso, over-alphabet, labelling, meets}
 use Rattle.lasso.specs.Truth.{Truth, asked}
+
+-- a lasso is over the alphabet exactly if the letter at each position is in it
+pub over-exactly : (c : Lasso) → T (over-alphabet c) ↔ ((i : ℕ) → i < length (c .letters) → T (in-alphabet (getD (c .letters) i 0)))
+unfolding over-alphabet
+over-exactly c = (all-at in-alphabet (c .letters) 0, all-in in-alphabet (c .letters) 0)
 
 -- 16, 17, 19 and 18, and then what comes after
 abbrev pub From16 : Lasso → (room : ℕ) → (Truth → Type 0) → Truth → Type 0

@@ -1,7 +1,7 @@
 -- What it says that a word is in the alphabet (MEANING 2.1): it has one of the two scale flags (`some-scale`) and not both (`one-scale`),
 -- and a word with one of them and without the other is in it (`alphabet-in`). Code looks at the two highest bits of a word of sixteen as a
 -- number: it is 1 or 2 exactly in the alphabet (`alphabet-top`), and 3 exactly where the word has both flags (`both-top`). Assumes nothing.
-use mathlib.Core.Path.{_≡_, refl, sym, ap, _∙_}
+use mathlib.Core.Path.{_≡_, refl, _∙_}
 use mathlib.Core.Logic.{_⊎_, inl, inr}
 use mathlib.Core.Bool.{Bool, true, false, not, _&&_, _||_}
 use Prim.Native.Nat.{ℕ, zero, suc, _/_, _<_}

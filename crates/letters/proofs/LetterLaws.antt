@@ -5,7 +5,7 @@
 -- more, or the same (`letter-exactly`). Assumes nothing.
 use mathlib.Core.Path.{_≡_, refl, sym, ap, subst, subst⁻¹, _∙_}
 use mathlib.Core.Logic.{_↔_, _⊎_, inl, inr, ⊎-elim}
-use mathlib.Core.Bool.{Bool, true, false, not, cond, _&&_, _||_, Bool·not-not}
+use mathlib.Core.Bool.{Bool, false, not, cond, _&&_, _||_, Bool·not-not}
 use Prim.Native.Nat.{ℕ, _^_, _<_}
 use native.Mathlib.Omega.{arith}
 use native.Mathlib.Decide.{decLt, ℕ-discrete}
@@ -14,7 +14,7 @@ use lib.Bits.{bitAnd, bitOr, or-lt}
 use borrow.Author.Tests.{eq-eqb}
 use Rattle.base.specs.Lists.{any, range}
 use Rattle.base.specs.Bits.{bit}
-use Rattle.base.proofs.BoolLaws.{by-test, to-T, of-T, and-left, and-right, and-both, or-cases, or-left, or-right}
+use Rattle.base.proofs.BoolLaws.{by-test, to-T, and-left, and-right, and-both, or-cases, or-left, or-right}
 use Rattle.base.proofs.TestLaws.{not-of-T, same-truth}
 use Rattle.base.proofs.BitLaws.{bit-and, bit-or, bit-same, bit-other}
 use Rattle.base.proofs.ShiftLaws.{bit-high}

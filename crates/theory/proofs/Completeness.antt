@@ -1,8 +1,8 @@
 -- A lasso over the alphabet that meets the formula gives an accepting cycle. A strategy for the formula picks a transition at each
 -- position of the lasso, from the root on: the nodes stay inside its region, so the lasso's letter, which is in the alphabet, allows the
--- transition, which therefore exists. There are finitely many pairs of a node and a position, so one comes again: a cycle of transitions. Its traces are moves of the strategy; a lap
--- back to its beginning with the priority of a least fixpoint would be a path on which that fixpoint comes back to itself, and the
--- strategy has none. Assumes nothing.
+-- transition, which therefore exists. There are finitely many pairs of a node and a position, so one comes again: a cycle of transitions.
+-- Its traces are moves of the strategy; a lap back to its beginning with the priority of a least fixpoint would be a path on which that
+-- fixpoint comes back to itself, and the strategy has none. Assumes nothing.
 use mathlib.Core.Path.{_≡_, refl, sym, ap, _∙_, subst, subst⁻¹}
 use mathlib.Core.Bool.{Bool, true, false, cond, false≢true}
 use mathlib.Core.Logic.{inl, inr, ⊎-elim}
@@ -419,8 +419,8 @@ module _ (t : Table) (law : Lawful t) (c : Lasso-positions) where
           },
         )
 
-  pub cycle-found : ((p : ℕ) → p < c .count → T (in-alphabet (c .letter p))) → (a : Part t 0) → 0 < c .count → holds t c a (λ m p. false) 0 ≡ true
-      → (v : Subset) × (ss : List Transition) × AcceptingCycle t v ss
+  pub cycle-found : ((p : ℕ) → p < c .count → T (in-alphabet (c .letter p))) → (a : Part t 0) → 0 < c .count
+      → holds t c a (λ m p. false) 0 ≡ true → (v : Subset) × (ss : List Transition) × AcceptingCycle t v ss
   cycle-found such a some h =
       let v = win t c a (λ m p. false) (λ y q e. absurd (false≢true e)) in
       found such (v .plan) some (v .root 0 some h)

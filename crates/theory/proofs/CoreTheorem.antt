@@ -12,12 +12,11 @@ use lib.Dec.{T, ltb}
 use borrow.Author.Tests.{ltb-true, lt-ltb}
 use lib.ListN.{length, getD, length-map}
 use Rattle.base.proofs.BoolLaws.{of-T, to-T, and-left, and-right}
-use Rattle.base.proofs.MemberLaws.{all-at}
-use Rattle.letters.specs.Alphabet.{in-alphabet}
 use Rattle.formula.specs.Formula.{Formula}
 use Rattle.formula.specs.Table.{Operator, Table, table}
 use Rattle.formula.specs.Occurrence.{Ranged, Guarded}
 use Rattle.lasso.specs.Lasso.{Lasso, over-alphabet, meets, holds as lasso-holds}
+use Rattle.lasso.proofs.TruthLaws.{over-exactly}
 use Rattle.tableau.specs.Saturation.{Subset, has, nothing}
 use Rattle.tableau.specs.Transition.{Transition}
 use Rattle.tableau.specs.Nodes.{root}
@@ -95,11 +94,11 @@ module _ (f : Formula) (guarded : Guarded [] f) (ranged : Ranged f) where
   -- Theorem: a lasso over the alphabet, of any length, that meets the formula gives an accepting reachable cycle.
   pub meets-cycle : (c : Lasso) → over-alphabet c ≡ true → meets c f ≡ true
       → (v : Subset) × (cycle : List Transition) × AcceptingCycle t v cycle
-  unfolding over-alphabet
   meets-cycle c such e =
       let (h, z) = meets-of c f e in
-      let letters = all-at in-alphabet (c .letters) 0 (to-T (over-alphabet c) such) in
-      cycle-found t law (orbit c h) letters (whole-part f guarded ranged) (omega arith) (whole-means f guarded ranged c h (λ m p. false) ∙ z)
+      let letters = over-exactly c .0 (to-T (over-alphabet c) such) in
+      cycle-found t law (orbit c h) letters (whole-part f guarded ranged) (omega arith)
+      (whole-means f guarded ranged c h (λ m p. false) ∙ z)
 
   -- The core theorem.
   pub satisfiable : ((c : Lasso) × (over-alphabet c ≡ true) × (meets c f ≡ true))

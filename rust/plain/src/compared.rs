@@ -343,8 +343,8 @@ fn meets(rule: &[u8], course: &[u16], settled: &Settled) -> bool {
     matches!(told, Truth::Told(true, _)) && decision::has_run(&entries, course, lead_len)
 }
 
-/// The decision: the answer, the work area, and the course buffer. Another course of the same two lengths is as right if it meets the rule by
-/// steps of its graph.
+/// The decision: the answer, the work area, and the course buffer. Another course of the same two lengths is as right if it meets the rule
+/// by steps of its graph.
 pub fn decision(random: &mut Random, rule: &[u8], areas: &mut Areas, decisions: &mut Decisions) -> Result<(), String> {
     let lent = lent(random);
     let (work, buffer) = (&mut areas.work[..lent.work], &mut areas.course[..lent.course]);

@@ -54,7 +54,8 @@ pub fn lost_to_flags(entries: &[Command], room: usize) -> Vec<u16> {
     nodes.iter().flat_map(|&node| graph.asked_by(node)).filter(lost).map(|x| x.present).collect()
 }
 
-/// Whether a rule's graph has a run from the root with the places of a course, which comes back at its end to the node where the loop begins.
+/// Whether a rule's graph has a run from the root with the places of a course, which comes back at its end to the node where the loop
+/// begins.
 pub fn has_run(entries: &[Command], course: &[u16], lead_len: usize) -> bool {
     let graph = Graph::new(entries);
     let after = |nodes: HashSet<u64>, &place: &u16| -> HashSet<u64> {

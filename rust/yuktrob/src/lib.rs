@@ -18,8 +18,8 @@
 //! # Ok::<(), yuktrob::Refusal>(())
 //! ```
 //!
-//! A place of a course has 16 bits, bit j for signal j. Signals 14 and 15 are the scale flags, [`PREVIOUS_SCALE`] and [`CURRENT_SCALE`]; each
-//! place has exactly one of them.
+//! A place of a course has 16 bits, bit j for signal j. Signals 14 and 15 are the scale flags, [`PREVIOUS_SCALE`] and [`CURRENT_SCALE`];
+//! each place has exactly one of them.
 //!
 //! [`truth`] and [`decide`] take the rule's bytes and areas that the caller lends, as the functions of `include/yuktrob.h` do.
 

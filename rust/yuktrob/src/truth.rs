@@ -5,17 +5,17 @@ pub const MOST_PLACES: usize = 8192;
 
 /// The bit of signal 14 in a place: headings have the previous revision's scale. A place has either this flag or [`CURRENT_SCALE`].
 ///
-/// A rule for the handover: once signal 0 has announced the change, no heading has the previous scale any more.
+/// A rule for the handover: once signal 1 has announced the change, no heading has the previous scale any more.
 ///
 /// ```
 /// use yuktrob::{Areas, Rule, Verdict, CURRENT_SCALE, PREVIOUS_SCALE};
-/// // always: signal 0 absent, or from here on always signal 14 absent
-/// let handover = Rule::read(&[0x0a, 0x07, 0x06, 0x04, 0x00, 0x0a, 0x07, 0x04, 0x0e, 0x08, 0x05, 0x00, 0x08, 0x05, 0x00])?;
+/// // always: signal 1 absent, or from here on always signal 14 absent
+/// let handover = Rule::read(&[0x0a, 0x07, 0x06, 0x04, 0x01, 0x0a, 0x07, 0x04, 0x0e, 0x08, 0x05, 0x00, 0x08, 0x05, 0x00])?;
 /// let mut areas = Areas::new(256, 300);
 /// let Verdict::Met { lead_len, course, .. } = handover.decide(&mut areas)? else { panic!("some course meets it") };
 /// assert_eq!((lead_len, course), (1, &[PREVIOUS_SCALE, PREVIOUS_SCALE][..]));
 ///
-/// let announced = 0x0001;
+/// let announced = 0x0002;
 /// let mut words = [0; 3];
 /// let kept = [PREVIOUS_SCALE, CURRENT_SCALE | announced, CURRENT_SCALE];
 /// assert!(handover.truth(&kept, 2, &mut words)?);

@@ -49,9 +49,9 @@ fn scale_flags_in_rules() {
         (&[7, 3, 14, 3, 15], not(1, 0)),
         (&[7, 4, 14, 4, 15], not(1, 0)),
         // a change is announced at once, and behind it no heading ever has the previous scale
-        (&[7, 3, 0, 10, 7, 6, 4, 0, 10, 7, 4, 14, 8, 5, 0, 8, 5, 0], met(1, 1, 2, 2, &[0x8001, 0x8000])),
+        (&[7, 3, 1, 10, 7, 6, 4, 1, 10, 7, 4, 14, 8, 5, 0, 8, 5, 0], met(1, 1, 2, 2, &[0x8002, 0x8000])),
         // the same, and sooner or later one has not the current scale
-        (&[7, 3, 0, 7, 10, 7, 6, 4, 0, 10, 7, 4, 14, 8, 5, 0, 8, 5, 0, 9, 6, 4, 15, 8, 5, 0], not(2, 2)),
+        (&[7, 3, 1, 7, 10, 7, 6, 4, 1, 10, 7, 4, 14, 8, 5, 0, 8, 5, 0, 9, 6, 4, 15, 8, 5, 0], not(2, 2)),
     ]);
 }
 

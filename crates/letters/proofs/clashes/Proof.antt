@@ -1,5 +1,4 @@
 -- `letters::clashes` looks for a bit that is set in both words, neither of which has one from 16 on, and for both flags in one of them.
-use mathlib.Core.Path.{ap, _∙_}
 use native.Mathlib.Omega.{arith}
 use borrow.Author.Needs.{needs}
 use Rattle.letters.proofs.LetterLaws.{clash-and}
@@ -13,7 +12,9 @@ both-scales-requires-2 : tie.Need-both-scales-requires-2
 both-scales-requires-2 c κs = search needs
 
 returns : tie.Need-returns
-returns c = rw (c .before .both-scales .ensures, c .both-scales2 .ensures) (clash-and (c .before .before .before .args .required) (omega arith))
+returns c =
+    rw (c .before .both-scales .ensures, c .both-scales2 .ensures)
+    (clash-and (c .before .before .before .args .required) (omega arith))
 
 pub clashes-spec : {M : Type 1} → statement M
 clashes-spec = tie.close (tie.spec both-scales-requires both-scales-requires-2 returns)
