@@ -1,4 +1,4 @@
--- Which letters there are (document 01: values of places): MEANING 2.1. Assumes nothing.
+-- The alphabet: which letters there are (the papers: which places). MEANING 2.1. Assumes nothing.
 use mathlib.Core.Bool.{Bool, not, _&&_}
 use Prim.Native.Nat.{ℕ}
 use Rattle.base.specs.Lists.{same-bit}

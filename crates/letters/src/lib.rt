@@ -1,4 +1,4 @@
-// The letters that there are, and what a transition requires of one. Bits 14 and 15 of a word are the scale flags.
+// The letters that there are, and what a transition requires of one.
 ghost use mathlib.Core.Path.{_≡_};
 ghost use Prim.Native.Nat.{_<_};
 ghost use Rattle.base.specs.Lists.{all};
@@ -6,17 +6,23 @@ ghost use Rattle.base.specs.Bits.{bit};
 ghost use Rattle.letters.specs.Alphabet.{both-scales, in-alphabet};
 ghost use Rattle.letters.specs.Requirements.{clash, letter-of};
 
+// The scale flags: the signals of a heading in the previous revision's scale and of one in the current revision's. They are the two highest
+// bits of a word.
+const PREVIOUS_SCALE: usize = 14;
+
+const CURRENT_SCALE: usize = 15;
+
 // What a saturated set requires of a letter: in each word bit j is for signal j, to be present in it and to be absent.
 pub struct Requirement {
     pub present: u16,
     pub absent: u16,
 }
 
-// Whether a word is in the alphabet: of its two flags, which are its highest bits, it has one.
+// Whether a word is in the alphabet: of the two flags it has one.
 fn in_alphabet(word: u16) -> bool
     ensures { λ r. ⌜ r ≡ in-alphabet word ⌝ }
 {
-    let flags = word >> 14;
+    let flags = word >> PREVIOUS_SCALE;
     (flags == 1) | (flags == 2)
 }
 
@@ -37,7 +43,7 @@ pub fn all_in_alphabet(words: &[u16]) -> bool
 fn both_scales(word: u16) -> bool
     ensures { λ r. ⌜ r ≡ both-scales word ⌝ }
 {
-    word >> 14 == 3
+    word >> PREVIOUS_SCALE == 3
 }
 
 // Whether no letter can be as required.
@@ -60,8 +66,8 @@ fn has(word: u16, signal: usize) -> bool
 pub fn letter_of(required: Requirement) -> u16
     ensures { λ r. ⌜ r ≡ letter-of required ⌝ }
 {
-    if has(required.present, 15) | has(required.absent, 14) {
-        return required.present | (1u16 << 15);
+    if has(required.present, CURRENT_SCALE) | has(required.absent, PREVIOUS_SCALE) {
+        return required.present | (1u16 << CURRENT_SCALE);
     }
-    required.present | (1u16 << 14)
+    required.present | (1u16 << PREVIOUS_SCALE)
 }
