@@ -15,6 +15,7 @@ use Rattle.formula.proofs.Limits.{parse-limited}
 use Rattle.lasso.specs.Lasso.{Lasso, over-alphabet, meets}
 use Rattle.tableau.specs.Saturation.{Subset}
 use Rattle.tableau.specs.Transition.{Transition}
+use Rattle.theory.proofs.Soundness.{lasso-of}
 use Rattle.theory.proofs.CoreTheorem.{cycle-over-alphabet, cycle-meets, meets-cycle}
 use Rattle.decision.specs.Verdict.{Verdict, verdict}
 use Rattle.profile.specs.Cycle.{AcceptingCycle}
@@ -57,15 +58,18 @@ fitting : {N M workspace buffer : ℕ} {t : Table} {o : Verdict} → Decided-cas
     → Concluded t o
 fitting d f = passed (passed (past-13 d (f .lends)) (f .nodes-fit)) (f .profiles-fit)
 
-module _ (bytes : List ℕ) (f : Formula) (reads : parse bytes ≡ Reading.accepted f) where
-  pub witness-such : {stem cycle : ℕ} {letters : List ℕ} → Witness (table f) stem cycle letters → over-alphabet (lasso letters stem) ≡ true
-  witness-such w =
-      subst⁻¹ (λ (c : Lasso). over-alphabet c ≡ true) (λ i. lasso (w .letters-are i) (w .stem-is i))
-      (cycle-over-alphabet f (parse-guarded bytes f reads) (parse-limited bytes f reads .signals) (w .leads) (w .accepted))
+-- a witness's lasso is that of its transitions
+witness-is : {t : Table} {stem cycle : ℕ} {letters : List ℕ} (w : Witness t stem cycle letters)
+    → lasso letters stem ≡ lasso-of (w .there) (w .around)
+witness-is w i = lasso (w .letters-are i) (w .stem-is i)
 
+pub witness-such : {t : Table} {stem cycle : ℕ} {letters : List ℕ} → Witness t stem cycle letters → over-alphabet (lasso letters stem) ≡ true
+witness-such {t} w = subst⁻¹ (λ (c : Lasso). over-alphabet c ≡ true) (witness-is w) (cycle-over-alphabet t (w .leads) (w .accepted))
+
+module _ (bytes : List ℕ) (f : Formula) (reads : parse bytes ≡ Reading.accepted f) where
   pub witness-holds : {stem cycle : ℕ} {letters : List ℕ} → Witness (table f) stem cycle letters → meets (lasso letters stem) f ≡ true
   witness-holds w =
-      subst⁻¹ (λ (c : Lasso). meets c f ≡ true) (λ i. lasso (w .letters-are i) (w .stem-is i))
+      subst⁻¹ (λ (c : Lasso). meets c f ≡ true) (witness-is w)
       (cycle-meets f (parse-guarded bytes f reads) (parse-limited bytes f reads .signals) (w .leads) (w .accepted))
 
   pub no-lasso : ((v : Subset) (ss : List Transition) → AcceptingCycle (table f) v ss → ⊥)
@@ -129,5 +133,5 @@ verdict-exact N M workspace buffer bytes f e fits =
   where
     exact : {o : Verdict} → Concluded (table f) o → IsMet o ↔ ((c : Lasso) × (over-alphabet c ≡ true) × (meets c f ≡ true))
     exact (Concluded.met {stem} {letters = letters} w) =
-        (λ h. (lasso letters stem, witness-such bytes f e w, witness-holds bytes f e w), λ h. tt)
+        (λ h. (lasso letters stem, witness-such w, witness-holds bytes f e w), λ h. tt)
     exact (Concluded.unmet n) = (λ h. absurd h, λ h. no-lasso bytes f e n (h .0) (h .1) (h .2))

@@ -140,7 +140,7 @@ module _ (N M workspace buffer : ℕ) (bytes : List ℕ) where
     where
       exactly : (f : Formula) → parse bytes ≡ Reading.accepted f → {o : Verdict} → Concluded (table f) o → IsNot o ↔ NoLasso f
       exactly f e (Concluded.met {stem} {letters = letters} w) =
-          (λ h. absurd h, λ n. n (lasso letters stem) (witness-such bytes f e w) (witness-holds bytes f e w))
+          (λ h. absurd h, λ n. n (lasso letters stem) (witness-such w) (witness-holds bytes f e w))
       exactly f e (Concluded.unmet n) = (λ h. no-lasso bytes f e n, λ h. tt)
 
   -- Theorem: the verdict is 14 exactly if nothing of 1 to 13 refuses and K is above N.
@@ -175,7 +175,7 @@ module _ (N M workspace buffer : ℕ) (bytes : List ℕ) where
             cycle = cycle;
             letters = letters;
             answer = refl;
-            such = witness-such bytes f (g .reads) w;
+            such = witness-such w;
             holds = witness-holds bytes f (g .reads) w;
             witness = w;
           }

@@ -30,13 +30,6 @@ pub enum Truth {
     Unread(Refusal),
 }
 
-// A letter as a word.
-fn wide16(x: u16) -> u64
-    ensures { λ r. ⌜ r ≡ x ⌝ }
-{
-    x as u64
-}
-
 // What an operator says of a position, from the letter and the word there and the successor's word.
 fn holds_at(op: Operator, letter: u16, here: u64, there: u64) -> bool
     requires { ⌜ Fits 48 (decoded op) ⌝ }
@@ -45,7 +38,7 @@ fn holds_at(op: Operator, letter: u16, here: u64, there: u64) -> bool
     match op {
         Operator::Constant(on) => on,
         Operator::Signal { present, signal } => {
-            let on = base::has(wide16(letter), base::wide(signal));
+            let on = letters::has(letter, base::wide(signal));
             if present { on } else { !on }
         }
         Operator::Variable(binder) => base::has(here, binder.0),
@@ -571,8 +564,8 @@ fn judge(t: Table, letters: &[u16], stem: usize, words: &mut [u64]) -> Truth
     if 8192 < letters.len() {
         return Truth::Refused(17);
     }
-    let such = letters::all_in_alphabet(letters);
-    if !such {
+    let over_alphabet = letters::all_in_alphabet(letters);
+    if !over_alphabet {
         return Truth::Refused(19);
     }
     if words.len() < letters.len() {

@@ -1,14 +1,14 @@
--- What a requirement asks of a letter, and what the letter taken for it has (MEANING 3.4, 3.5), as laws. `Fits` is the question: the letter
--- has what is to be present, and nothing of what is to be absent. A requirement clashes for one of three reasons (`clash-of`, `clash-in`),
--- and exactly if no letter of the alphabet fits it (`clash-exactly`): for a clash leaves no letter (`clash-fits-none`), and without one the
--- letter that is taken is in the alphabet (`letter-in`) and fits (`letter-fits`). That letter has what is to be present and one flag
--- more, or the same (`letter-exactly`). Assumes nothing.
+-- What a requirement asks of a letter, and what the letter taken for it has (MEANING 3.4, 3.5), as laws. A letter satisfies a requirement
+-- (`Satisfies`) if it has what is to be present, and nothing of what is to be absent. A requirement clashes for one of three reasons
+-- (`clash-of`, `clash-in`), and exactly if no letter of the alphabet satisfies it (`clash-exactly`): a clash leaves no letter
+-- (`clash-leaves-none`), and without one the letter that is taken is in the alphabet (`letter-in`) and satisfies it (`letter-satisfies`).
+-- That letter has what is to be present, the flag that is due, and nothing else (`letter-exactly`). Assumes nothing.
 use mathlib.Core.Path.{_≡_, refl, sym, ap, subst, subst⁻¹, _∙_}
 use mathlib.Core.Logic.{_↔_, _⊎_, inl, inr, ⊎-elim}
-use mathlib.Core.Bool.{Bool, false, not, cond, _&&_, _||_, Bool·not-not}
+use mathlib.Core.Bool.{Bool, true, false, not, cond, _&&_, _||_, Bool·not-not}
 use Prim.Native.Nat.{ℕ, _^_, _<_}
 use native.Mathlib.Omega.{arith}
-use native.Mathlib.Decide.{decLt, ℕ-discrete}
+use native.Mathlib.Decide.{decLt}
 use lib.Dec.{T, eqb, eqb→eq, T-not, not-T}
 use lib.Bits.{bitAnd, bitOr, or-lt}
 use borrow.Author.Tests.{eq-eqb}
@@ -16,7 +16,7 @@ use Rattle.base.specs.Lists.{any, range}
 use Rattle.base.specs.Bits.{bit}
 use Rattle.base.proofs.BoolLaws.{by-test, to-T, and-left, and-right, and-both, or-cases, or-left, or-right}
 use Rattle.base.proofs.TestLaws.{not-of-T, same-truth}
-use Rattle.base.proofs.BitLaws.{bit-and, bit-or, bit-same, bit-other}
+use Rattle.base.proofs.BitLaws.{bit-and, set-on}
 use Rattle.base.proofs.ShiftLaws.{bit-high}
 use Rattle.base.proofs.AppendLaws.{range-of}
 use Rattle.base.proofs.WordLaws.{no-bit, same-bits}
@@ -26,8 +26,8 @@ use Rattle.letters.specs.Requirements.{clash, scale-for, letter-of}
 use Rattle.letters.specs.declared.Requirement.{Requirement}
 use Rattle.letters.proofs.AlphabetLaws.{some-scale, one-scale, alphabet-in}
 
--- a letter is as required
-pub record Fits (r : Requirement) (a : ℕ) : Type 0 where
+-- a letter satisfies a requirement
+pub record Satisfies (r : Requirement) (a : ℕ) : Type 0 where
   pub has : (j : ℕ) → j < 16 → T (bit (r .present) j) → T (bit a j)
   pub lacks : (j : ℕ) → j < 16 → T (bit (r .absent) j) → T (bit a j) → ⊥
 
@@ -111,12 +111,12 @@ module _ (r : Requirement) where
     unfolding clash
     clash-and = ap (λ (b : Bool). b || scales) (ap not none-in-both ∙ Bool·not-not shared)
 
-  -- no letter fits where there is a clash
-  pub clash-fits-none : {a : ℕ} → T (in-alphabet a) → Fits r a → Clash r → ⊥
-  clash-fits-none h f (both-ways j l p a) = f .lacks j l a (f .has j l p)
-  clash-fits-none {a} h f (both-present p c) =
+  -- no letter satisfies a requirement that clashes
+  pub clash-leaves-none : {a : ℕ} → T (in-alphabet a) → Satisfies r a → Clash r → ⊥
+  clash-leaves-none h f (both-ways j l p a) = f .lacks j l a (f .has j l p)
+  clash-leaves-none {a} h f (both-present p c) =
       one-scale a h (f .has previous-scale (omega arith) p) (f .has current-scale (omega arith) c)
-  clash-fits-none {a} h f (both-absent p c) =
+  clash-leaves-none {a} h f (both-absent p c) =
       ⊎-elim (f .lacks previous-scale (omega arith) p) (f .lacks current-scale (omega arith) c) (some-scale a h)
 
   due : Due r (scale-for r)
@@ -132,25 +132,25 @@ module _ (r : Requirement) where
   unfolding letter-of
   letter-due b q = ap (λ (d : Bool). bitOr (r .present) (2 ^ cond d current-scale previous-scale)) (sym q)
 
-  letter-bit : (j : ℕ) → bit (letter-of r) j ≡ (bit (r .present) j || bit (2 ^ scale-for r) j)
+  letter-bit : (j : ℕ) → bit (letter-of r) j ≡ cond (eqb j (scale-for r)) true (bit (r .present) j)
   unfolding letter-of
-  letter-bit = bit-or (r .present) (2 ^ scale-for r)
+  letter-bit = set-on (r .present) (scale-for r)
 
   -- Theorem: the letter has what is to be present, and the flag that is due.
   pub letter-exactly : (j : ℕ) → T (bit (letter-of r) j) ↔ (T (bit (r .present) j) ⊎ (j ≡ scale-for r))
-  letter-exactly j = (
-    λ t. ⊎-elim inl (λ (h : T (bit (2 ^ scale-for r) j)). inr (flag h (ℕ-discrete j (scale-for r))))
-        (or-cases (bit (r .present) j) (bit (2 ^ scale-for r) j) (subst T (letter-bit j) t)),
-    λ d. subst⁻¹ T (letter-bit j)
-        (⊎-elim (or-left (bit (r .present) j) (bit (2 ^ scale-for r) j))
-        (λ (e : j ≡ scale-for r). or-right (bit (r .present) j) (bit (2 ^ scale-for r) j)
-        (subst⁻¹ (λ (k : ℕ). T (bit (2 ^ scale-for r) k)) e (to-T _ (bit-same (scale-for r)))))
-        d),
-  )
+  letter-exactly j = (λ t. either (subst T (letter-bit j) t), λ d. subst⁻¹ T (letter-bit j) (set d))
     where
-      flag : T (bit (2 ^ scale-for r) j) → Dec (j ≡ scale-for r) → j ≡ scale-for r
-      flag h (yes e) = e
-      flag h (no n) = absurd (subst T (bit-other (scale-for r) j n) h)
+      either : T (cond (eqb j (scale-for r)) true (bit (r .present) j)) → T (bit (r .present) j) ⊎ (j ≡ scale-for r)
+      either =
+          by-test (eqb j (scale-for r)) (λ b. T (cond b true (bit (r .present) j)) → T (bit (r .present) j) ⊎ (j ≡ scale-for r))
+          (λ h t. inr (eqb→eq j (scale-for r) h))
+          (λ n t. inl t)
+
+      set : T (bit (r .present) j) ⊎ (j ≡ scale-for r) → T (cond (eqb j (scale-for r)) true (bit (r .present) j))
+      set =
+          by-test (eqb j (scale-for r)) (λ b. T (bit (r .present) j) ⊎ (j ≡ scale-for r) → T (cond b true (bit (r .present) j)))
+          (λ h d. tt)
+          (λ n. ⊎-elim (λ t. t) (λ (e : j ≡ scale-for r). absurd (n (to-T (eqb j (scale-for r)) (eq-eqb j (scale-for r) e)))))
 
   -- a word of sixteen bits gives a letter of sixteen bits
   pub letter-small : r .present < 65536 → letter-of r < 65536
@@ -177,8 +177,8 @@ module _ (r : Requirement) where
     other-free (previous n m) c (inl p) = n p
     other-free (previous n m) c (inr e) = omega arith
 
-    pub letter-fits : Fits r (letter-of r)
-    letter-fits =
+    pub letter-satisfies : Satisfies r (letter-of r)
+    letter-satisfies =
         record {
           has = λ j h p. letter-exactly j .1 (inl p);
           lacks = λ j h a t.
@@ -196,11 +196,11 @@ module _ (r : Requirement) where
         alphabet-in (letter-of r) (some-flag due (letter-exactly (scale-for r) .1 (inr refl)))
         (λ p c. other-free due (letter-exactly previous-scale .0 p) (letter-exactly current-scale .0 c))
 
-  -- Theorem: there is no clash exactly if some letter of the alphabet fits.
-  pub clash-exactly : T (not (clash r)) ↔ ((a : ℕ) × T (in-alphabet a) × Fits r a)
+  -- Theorem: there is no clash exactly if some letter of the alphabet satisfies the requirement.
+  pub clash-exactly : T (not (clash r)) ↔ ((a : ℕ) × T (in-alphabet a) × Satisfies r a)
   clash-exactly = (
-    λ t. let none : Clash r → ⊥ = λ c. T-not (clash r) t (clash-in c) in (letter-of r, letter-in none, letter-fits none),
-    λ p. not-T (clash r) (λ t. clash-fits-none (p .1) (p .2) (clash-of t)),
+    λ t. let none : Clash r → ⊥ = λ c. T-not (clash r) t (clash-in c) in (letter-of r, letter-in none, letter-satisfies none),
+    λ p. not-T (clash r) (λ t. clash-leaves-none (p .1) (p .2) (clash-of t)),
   )
 
 -- where nothing is required the letter has the previous scale's flag and no more

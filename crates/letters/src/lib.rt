@@ -55,7 +55,8 @@ pub fn clashes(required: Requirement) -> bool
     !apart | scales
 }
 
-fn has(word: u16, signal: usize) -> bool
+// Whether a signal is present in a letter, or in a word of a requirement.
+pub fn has(word: u16, signal: usize) -> bool
     requires { ⌜ signal < 16 ⌝ }
     ensures { λ r. ⌜ r ≡ bit word signal ⌝ }
 {

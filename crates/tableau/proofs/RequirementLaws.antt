@@ -1,5 +1,5 @@
 -- What the two words of a requirement say (MEANING 3.4), as laws. Bit j of a word is set exactly if an operator asks for signal j so
--- (`required-of`, `required-in`), and no bit from 16 on is (`required-small`). So a letter fits if each signal allows it (`fits-by`). With
+-- (`required-of`, `required-in`), and no bit from 16 on is (`required-small`). So a letter satisfies both if each signal allows it (`satisfied-by`). With
 -- the sixteen signals that there are the words clash exactly if the lists of signals do, by a number that is in both or by both scale
 -- flags in one (`clash-lists`, `possible-lists`). Assumes nothing.
 use mathlib.Core.Path.{_≡_, refl, sym, ap, subst, subst⁻¹}
@@ -17,7 +17,7 @@ use Rattle.base.proofs.WordLaws.{values-bit, values-past, values-lt}
 use Rattle.base.proofs.MemberLaws.{flat-map-of, flat-map-in, any-of, any-in, member-of, member-in, range-in}
 use Rattle.letters.specs.Alphabet.{previous-scale, current-scale, both-scales}
 use Rattle.letters.specs.Requirements.{clash}
-use Rattle.letters.proofs.LetterLaws.{Fits, nothing-required}
+use Rattle.letters.proofs.LetterLaws.{Satisfies, nothing-required}
 use Rattle.formula.specs.Formula.{Leaf}
 use Rattle.formula.specs.Table.{Operator}
 use Rattle.tableau.specs.Transition.{requires, is-false, required-word, requirement, possible}
@@ -78,10 +78,10 @@ required-none = refl
 
 -- the two words of operators
 module _ (os : List Operator) where
-  -- a letter that each signal of the operators allows fits them
-  pub fits-by : (a : ℕ) → ((j : ℕ) → List·Memᴰ (Operator.leaf (Leaf.signal true j)) os → T (bit a j))
-      → ((j : ℕ) → List·Memᴰ (Operator.leaf (Leaf.signal false j)) os → T (bit a j) → ⊥) → Fits (requirement os) a
-  fits-by a f g = record { has = λ j h t. f j (required-of true os j t); lacks = λ j h t. g j (required-of false os j t) }
+  -- a letter that each signal of the operators allows satisfies the requirement
+  pub satisfied-by : (a : ℕ) → ((j : ℕ) → List·Memᴰ (Operator.leaf (Leaf.signal true j)) os → T (bit a j))
+      → ((j : ℕ) → List·Memᴰ (Operator.leaf (Leaf.signal false j)) os → T (bit a j) → ⊥) → Satisfies (requirement os) a
+  satisfied-by a f g = record { has = λ j h t. f j (required-of true os j t); lacks = λ j h t. g j (required-of false os j t) }
 
   -- a number that both lists have
   abbrev pub in-both-lists : Bool

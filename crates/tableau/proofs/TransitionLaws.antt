@@ -24,7 +24,7 @@ use Rattle.base.proofs.MemberLaws.{flat-map-of, flat-map-in, any-of, any-in, ra
 use Rattle.base.proofs.Inside.{inside-length}
 use Rattle.letters.specs.Alphabet.{in-alphabet}
 use Rattle.letters.specs.Requirements.{clash, letter-of}
-use Rattle.letters.proofs.LetterLaws.{Fits, Clash, clash-of, clash-in, clash-fits-none, letter-small, letter-fits, letter-in}
+use Rattle.letters.proofs.LetterLaws.{Satisfies, Clash, clash-of, clash-in, clash-leaves-none, letter-small, letter-satisfies, letter-in}
 use Rattle.formula.specs.Formula.{Leaf}
 use Rattle.formula.specs.Table.{Operator, Table, operator}
 use Rattle.tableau.specs.Saturation.{Subset, has, nothing, add, saturate}
@@ -33,7 +33,7 @@ use Rattle.tableau.specs.Transition.{choice-of, choices, within, Transit
 use Rattle.tableau.specs.Nodes.{operands}
 use Rattle.tableau.proofs.SaturationLaws.{inside-has, has-lt, nothing-has, add-inside, add-has, add-of, Closed-under, saturate-holds}
 use Rattle.tableau.proofs.SaturationLaws.{saturate-length, saturate-closed}
-use Rattle.tableau.proofs.RequirementLaws.{required-small, required-in, fits-by}
+use Rattle.tableau.proofs.RequirementLaws.{required-small, required-in, satisfied-by}
 
 -- what an operator asks of a letter by itself
 abbrev pub asks : Operator → (letter : ℕ) → Bool
@@ -62,11 +62,11 @@ possible-allows os h (Operator.leaf (Leaf.constant false)) m small =
     T-not (any is-false os) (and-left (not (any is-false os)) _ h) (any-in is-false m tt)
 possible-allows os h (Operator.leaf (Leaf.signal true j)) m small =
     let l = small true j refl in
-    letter-fits (requirement os) (possible-clashless os h) .has j l (required-in true os m l)
+    letter-satisfies (requirement os) (possible-clashless os h) .has j l (required-in true os m l)
 possible-allows os h (Operator.leaf (Leaf.signal false j)) m small =
     let l = small false j refl in
     not-T (bit (letter-of (requirement os)) j)
-    (letter-fits (requirement os) (possible-clashless os h) .lacks j l (required-in false os m l))
+    (letter-satisfies (requirement os) (possible-clashless os h) .lacks j l (required-in false os m l))
 possible-allows os h (Operator.variable n) m small = tt
 possible-allows os h (Operator.pair e l r) m small = tt
 possible-allows os h (Operator.next g) m small = tt
@@ -86,11 +86,11 @@ unfolding possible
 possible-of os a such f =
     and-both (not (any is-false os)) _
     (not-T (any is-false os) (λ h. let (o, m, k) = any-of is-false os h in never-asked o a k (f o m)))
-    (not-T (clash (requirement os)) (λ h. clash-fits-none (requirement os) such fits (clash-of (requirement os) h)))
+    (not-T (clash (requirement os)) (λ h. clash-leaves-none (requirement os) such satisfied (clash-of (requirement os) h)))
   where
-    fits : Fits (requirement os) a
-    fits =
-        fits-by os a (λ j m. f (Operator.leaf (Leaf.signal true j)) m)
+    satisfied : Satisfies (requirement os) a
+    satisfied =
+        satisfied-by os a (λ j m. f (Operator.leaf (Leaf.signal true j)) m)
         (λ j m. T-not (bit a j) (f (Operator.leaf (Leaf.signal false j)) m))
 
 -- the operators of a set are those of its subformulas

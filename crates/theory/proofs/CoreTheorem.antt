@@ -46,6 +46,15 @@ meets-in : (c : Lasso) (f : Formula) → c .stem < length (c .letters) → getD 
 unfolding meets
 meets-in c f h e = ap (λ (b : Bool). b && getD (lasso-holds c f []) 0 false) (lt-ltb (c .stem) (length (c .letters)) h) ∙ e
 
+-- Theorem: the letters of any walk to a cycle of any table, then those of the cycle, are a lasso over the alphabet.
+pub cycle-over-alphabet : (t : Table) {v : Subset} {stem cycle : List Transition} → Along t (root t) stem v → AcceptingCycle t v cycle
+    → over-alphabet (lasso-of stem cycle) ≡ true
+unfolding over-alphabet
+cycle-over-alphabet t {stem = stem} {cycle} a x =
+    let q = run-split t (x .run) in
+    subst⁻¹ (λ (ss : List Transition). over-alphabet (lasso-of stem ss) ≡ true) (q .is)
+    (of-T (over-alphabet (lasso-of stem (q .s ∷ q .ss))) (walk-letters t (walk-join t (along-walk t a) (q .walk))))
+
 module _ (f : Formula) (guarded : Guarded [] f) (ranged : Ranged f) where
   abbrev t : Table
   t = table f
@@ -55,15 +64,6 @@ module _ (f : Formula) (guarded : Guarded [] f) (ranged : Ranged f) where
 
   has-first : T (has (root t) 0)
   has-first = set-has (nothing t) 0 (omega (arith, table-some f guarded ranged, length-map t (λ (o : Operator). false)))
-
-  -- Theorem: an accepting reachable cycle gives a lasso over the alphabet:
-  pub cycle-over-alphabet : {v : Subset} {stem cycle : List Transition} → Along t (root t) stem v → AcceptingCycle t v cycle
-      → over-alphabet (lasso-of stem cycle) ≡ true
-  unfolding over-alphabet
-  cycle-over-alphabet {stem = stem} {cycle} a x =
-      let q = run-split t (x .run) in
-      subst⁻¹ (λ (ss : List Transition). over-alphabet (lasso-of stem ss) ≡ true) (q .is)
-      (of-T (over-alphabet (lasso-of stem (q .s ∷ q .ss))) (walk-letters t (walk-join t (along-walk t a) (q .walk))))
 
   -- Theorem: an accepting reachable cycle gives a lasso that meets the formula: the letters of any walk to it, then its own.
   pub cycle-meets : {v : Subset} {stem cycle : List Transition} → Along t (root t) stem v → AcceptingCycle t v cycle
@@ -108,5 +108,5 @@ module _ (f : Formula) (guarded : Guarded [] f) (ranged : Ranged f) where
     λ p.
         let (v, cycle, x) = p in
         let (stem, a) = x .reachable in
-        (lasso-of stem cycle, cycle-over-alphabet a x, cycle-meets a x),
+        (lasso-of stem cycle, cycle-over-alphabet t a x, cycle-meets a x),
   )

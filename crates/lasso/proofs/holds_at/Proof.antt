@@ -10,16 +10,13 @@ enum-known-op c = search needs
 enum-known-op-2 : tie.Need-enum-known-op-2
 enum-known-op-2 c = search needs
 
-wide16-requires : tie.Need-wide16-requires
-wide16-requires c κs = search needs
-
 wide-requires : tie.Need-wide-requires
 wide-requires c κs = search needs
 
 has-requires : tie.Need-has-requires
 has-requires c κs =
-    let start = c .before .before .before .before .before in
-    let op = c .before .before .before .op2 in
+    let start = c .before .before .before .before in
+    let op = c .before .before .op2 in
     omega (arith, c .wide .ensures, rw (op .given .1) at (start .pre))
 
 enum-known-op-3 : tie.Need-enum-known-op-3
@@ -65,10 +62,10 @@ returns : tie.Need-returns
 returns c = search needs
 
 returns-2 : tie.Need-returns-2
-returns-2 c = rw (c .before .before .before .before .before .op2 .given .1, c .if1 .taken) (cc)
+returns-2 c = rw (c .before .before .before .before .op2 .given .1, c .if1 .taken) (cc)
 
 returns-3 : tie.Need-returns-3
-returns-3 c = rw (c .before .before .before .before .before .op2 .given .1, c .if1 .left) (cc)
+returns-3 c = rw (c .before .before .before .before .op2 .given .1, c .if1 .left) (cc)
 
 returns-4 : tie.Need-returns-4
 returns-4 c = rw (c .before .before .op3 .given .1) (c .has2 .ensures)
@@ -91,7 +88,6 @@ holds-at-spec =
     (tie.spec
     enum-known-op
     enum-known-op-2
-    wide16-requires
     wide-requires
     has-requires
     enum-known-op-3

@@ -1,7 +1,7 @@
 -- `letters::all_in_alphabet` asks about one word after another. The loop's invariant: what those passed have come to, with those left,
 -- decides.
 use mathlib.Core.Path.{_≡_, refl, sym, ap, _∙_}
-use mathlib.Core.Bool.{Bool, true, false, _&&_}
+use mathlib.Core.Bool.{Bool, _&&_, and-true, and-assoc}
 use mathlib.Core.List.{List}
 use Prim.Native.Nat.{ℕ, suc, _+_, _-_, _≤_, _<_}
 use native.Mathlib.Omega.{arith}
@@ -24,7 +24,7 @@ one-more {words} {b} {i} inv h d q =
     record {
       passed = omega arith;
       decides =
-          and-of b d (all in-alphabet (drop (i + 1) words))
+          and-assoc b d (all in-alphabet (drop (i + 1) words))
           ∙ (λ k. b && (q k && all in-alphabet (drop (add-one k) words)))
           ∙ ap (λ (l : List ℕ). b && all in-alphabet l) (sym (drop-cons words i 0 h))
           ∙ inv .decides;
@@ -33,20 +33,12 @@ one-more {words} {b} {i} inv h d q =
     add-one : i + 1 ≡ suc i
     add-one = omega arith
 
-    and-of : (a b c : Bool) → ((a && b) && c) ≡ (a && (b && c))
-    and-of true b c = refl
-    and-of false b c = refl
-
 -- none is left
 none-left : {words : List ℕ} {b : Bool} {i : ℕ} → Left-from words b i → length words ≤ i → b ≡ all in-alphabet words
 none-left {words} {b} {i} inv h =
-    sym (and-none b) ∙ ap (λ (l : List ℕ). b && all in-alphabet l) (sym (drop-length words))
+    sym (and-true b) ∙ ap (λ (l : List ℕ). b && all in-alphabet l) (sym (drop-length words))
     ∙ ap (λ (n : ℕ). b && all in-alphabet (drop n words)) {x = length words} {y = i} (omega (arith, inv .passed))
     ∙ inv .decides
-  where
-    and-none : (b : Bool) → (b && true) ≡ b
-    and-none true = refl
-    and-none false = refl
 
 abbrev Inv-loop : tie.InvT-loop
 Inv-loop words all₀ i₀ all i = Left-from words all i
