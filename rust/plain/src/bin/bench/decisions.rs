@@ -101,18 +101,21 @@ fn heaviest(areas: &mut Areas, timed: &[Timed]) {
     row("all 10,000", timed.iter().map(|t| t.ours).sum(), timed.iter().map(|t| t.theirs).sum());
 }
 
-/// The worst ratios found among 18,000 random rules that are G of a conjunction of ors, of signals and nexts, and of further signals.
-const FOUND: [&str; 3] = [
+/// The worst ratios found among 18,000 random rules that are G of a conjunction of ors, of signals and nexts, and of further signals; the
+/// last two among 2,000 of such ors without further signals.
+const FOUND: [&str; 5] = [
     "0a0707060300080408070603010804010706030208040a0706030308040307060304070304080404070607030504020804050706070306030808040607030a030d080500",
     "0a0707060703000403080400070603010804010706070302040c08040207060303080403070603040804040706030507030008040507060306080303030c080500",
     "0a07070603000804050706030108040b070603020804020706030308040b070603040804060706030508030f0706030608040b07040907030f07030c030b080500",
+    "0a0707070707070706040008040206070303080301070401040106080302080302060704020403040106080301080300060303030306080402070403080402080500",
+    "0a070707070707070608040107030008030106040008030006080301080401060804000400060301040006080301080300060804000301080500",
 ];
 
 fn shapes(areas: &mut Areas) {
     head("Decision, N = 1,024, M = 4,096: rules of one shape", &BOTH);
     let signal_or = |j: u8, limit: u8, part: Vec<u8>| if j < limit { part } else { vec![2] };
     let later = |steps: usize| [&[6, 3, 0][..], &vec![8; steps], &[4, 0]].concat();
-    let rules: [(&str, Vec<u8>); 13] = [
+    let rules: [(&str, Vec<u8>); 15] = [
         ("F of 3 signals, all", each(3, 7, |j| eventually(&[3, j]))),
         ("F of 5 signals, all", each(5, 7, |j| eventually(&[3, j]))),
         ("F of 7 signals, all", each(7, 7, |j| eventually(&[3, j]))),
@@ -126,6 +129,8 @@ fn shapes(areas: &mut Areas) {
         ("G of 7 ors with nexts and of signals, found: K 97, P 360", written(FOUND[0])),
         ("G of 7 ors with nexts and of signals, found: K 49, P 198", written(FOUND[1])),
         ("G of 7 ors with nexts and of signals, found: K 129, P 1056", written(FOUND[2])),
+        ("G of 7 ors of signals and nexts, found: K 17, P 0", written(FOUND[3])),
+        ("G of 7 ors of signals and nexts, found: K 41, P 0", written(FOUND[4])),
     ];
     for (name, rule) in &rules {
         let (ours, theirs) = decision(areas, rule, MOST_NODES, MOST_PROFILES);
