@@ -63,7 +63,8 @@ witness-is : {t : Table} {stem cycle : ℕ} {letters : List ℕ} (w : Witness t 
     → lasso letters stem ≡ lasso-of (w .there) (w .around)
 witness-is w i = lasso (w .letters-are i) (w .stem-is i)
 
-pub witness-such : {t : Table} {stem cycle : ℕ} {letters : List ℕ} → Witness t stem cycle letters → over-alphabet (lasso letters stem) ≡ true
+pub witness-such : {t : Table} {stem cycle : ℕ} {letters : List ℕ} → Witness t stem cycle letters
+    → over-alphabet (lasso letters stem) ≡ true
 witness-such {t} w = subst⁻¹ (λ (c : Lasso). over-alphabet c ≡ true) (witness-is w) (cycle-over-alphabet t (w .leads) (w .accepted))
 
 module _ (bytes : List ℕ) (f : Formula) (reads : parse bytes ≡ Reading.accepted f) where

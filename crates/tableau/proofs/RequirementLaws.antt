@@ -1,7 +1,7 @@
 -- What the two words of a requirement say (MEANING 3.4), as laws. Bit j of a word is set exactly if an operator asks for signal j so
--- (`required-of`, `required-in`), and no bit from 16 on is (`required-small`). So a letter satisfies both if each signal allows it (`satisfied-by`). With
--- the sixteen signals that there are the words clash exactly if the lists of signals do, by a number that is in both or by both scale
--- flags in one (`clash-lists`, `possible-lists`). Assumes nothing.
+-- (`required-of`, `required-in`), and no bit from 16 on is (`required-small`). So a letter satisfies both if each signal allows it
+-- (`satisfied-by`). With the sixteen signals that there are the words clash exactly if the lists of signals do, by a number that is in both
+-- or by both scale flags in one (`clash-lists`, `possible-lists`). Assumes nothing.
 use mathlib.Core.Path.{_≡_, refl, sym, ap, subst, subst⁻¹}
 use mathlib.Core.Bool.{Bool, true, false, not, _&&_, _||_}
 use mathlib.Core.List.{List, [], List·Memᴰ, List·Memᴰ·head, List·Memᴰ·not-nil, List·Memᴰ·eq-of-singleton, Memᴰ·cast}
