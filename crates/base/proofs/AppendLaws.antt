@@ -1,13 +1,13 @@
--- The shared functions on lists that are put together: gathering and testing go part by part, a run of numbers can be cut anywhere, and
+-- The shared functions on lists that are put together: gathering, keeping and testing go part by part, a run of numbers can be cut anywhere, and
 -- gathering goes through maps. Assumes nothing.
 use mathlib.Core.Path.{_≡_, refl, sym, ap, _∙_}
 use mathlib.Core.Logic.{inl, inr}
-use mathlib.Core.Bool.{Bool, true, false, _||_}
+use mathlib.Core.Bool.{Bool, true, false, cond, _||_}
 use mathlib.Core.List.{List, [], _∷_, _++_, map, map-append, append-assoc, List·Memᴰ, List·Memᴰ·not-nil, List·Memᴰ·cases-cons}
 use Prim.Native.Nat.{ℕ, zero, suc, _+_, _<_}
 use native.Mathlib.Nat.{zero-add, suc-add, add-suc, add-zero}
 use native.Mathlib.Omega.{arith}
-use Rattle.base.specs.Lists.{range, flat-map, any}
+use Rattle.base.specs.Lists.{range, flat-map, any, filter}
 
 pub any-append : {A : Type 0} (q : A → Bool) (xs ys : List A) → any q (xs ++ ys) ≡ (any q xs || any q ys)
 any-append q [] ys = refl
@@ -16,6 +16,15 @@ any-append q (x ∷ xs) ys = ap (λ (b : Bool). q x || b) (any-append q xs ys) �
     assoc : (a b c : Bool) → (a || (b || c)) ≡ ((a || b) || c)
     assoc true b c = refl
     assoc false b c = refl
+
+pub filter-append : {A : Type 0} (q : A → Bool) (xs ys : List A) → filter q (xs ++ ys) ≡ filter q xs ++ filter q ys
+filter-append q [] ys = refl
+filter-append {A} q (x ∷ xs) ys = by (filter-append q xs ys) (q x)
+  where
+    by : filter q (xs ++ ys) ≡ filter q xs ++ filter q ys → (b : Bool)
+        → cond b (x ∷ filter q (xs ++ ys)) (filter q (xs ++ ys)) ≡ cond b (x ∷ filter q xs) (filter q xs) ++ filter q ys
+    by e true = ap (λ (l : List A). x ∷ l) e
+    by e false = e
 
 pub flat-map-append : {A B : Type 0} (f : A → List B) (xs ys : List A) → flat-map f (xs ++ ys) ≡ flat-map f xs ++ flat-map f ys
 flat-map-append f [] ys = refl

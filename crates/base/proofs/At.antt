@@ -11,7 +11,7 @@ use lib.Dec.{T}
 use lib.ListN.{length, getD, drop}
 use Rattle.base.specs.Lists.{first}
 pub use Rattle.base.specs.Lists.{At, here, there}
-use Rattle.base.proofs.BoolLaws.{of-T}
+use Rattle.base.proofs.BoolLaws.{by-test, of-T}
 use Rattle.base.proofs.TestLaws.{not-of-T}
 
 module _ {A : Type 0} where
@@ -90,3 +90,12 @@ module _ {A : Type 0} (q : A → Bool) where
   first-nowhere (x ∷ xs) f =
       ap (λ (b : Bool). cond b (Option.some x) (first q xs)) (not-of-T (q x) (f 0 x here))
       ∙ first-nowhere xs (λ j y a. f (suc j) y (there a))
+
+  -- and where there is one, it stands somewhere
+  pub first-stands : (xs : List A) {x : A} → first q xs ≡ Option.some x → (i : ℕ) × At xs i x × T (q x)
+  first-stands [] e = absurd (let z : _≡_ {A = ℕ} 0 1 = cc in omega arith)
+  first-stands (y ∷ ys) {x} e =
+      by-test (q y) (λ b. cond b (Option.some y) (first q ys) ≡ Option.some x → (i : ℕ) × At (y ∷ ys) i x × T (q x))
+      (λ h r. let i : y ≡ x = cc in (0, subst (λ (z : A). At (y ∷ ys) 0 z) i here, subst (λ (z : A). T (q z)) i h))
+      (λ h r. let (i, a, g) = first-stands ys r in (suc i, there a, g))
+      e

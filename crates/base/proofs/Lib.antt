@@ -8,9 +8,11 @@ pub mod Inside
 pub mod MemberLaws
 pub mod CondLaws
 pub mod SearchLaws
+pub mod WithinLaws
 pub mod SearchOrder
 pub mod SpreadLaws
 pub mod MatchLaws
+pub mod LayerLaws
 pub mod NumberLaws
 pub mod FirstLaws
 pub mod TestLaws

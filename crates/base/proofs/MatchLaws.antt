@@ -118,20 +118,20 @@ module _ {L K M J : Type 0} (letter : L → M) (own : Numbered M J → List M) (
         )
       ]
 
-  -- a way's letters are the labels along the parents, where `of` gives the item of each number
-  module _ {xs : List (Numbered M J)} {ys : List (Item L K)} (m : Matches xs ys) (of : ℕ → Numbered M J)
-      (stands : (i : ℕ) → i < length xs → At xs i (of i))
+  -- a way's letters are the labels along the parents, where `of` gives the item of each number below n
+  module _ {xs : List (Numbered M J)} {ys : List (Item L K)} (m : Matches xs ys) (of : ℕ → Numbered M J) {n : ℕ} (few : n ≤ length xs)
+      (stands : (i : ℕ) → i < n → At xs i (of i))
     where
       -- each item follows its counterpart
-      counterpart : {i : ℕ} {y : Item L K} → At ys i y → Follows ys (of i) y × (of i .parent ≤ i)
-      counterpart {i} {y} a =
+      counterpart : {i : ℕ} {y : Item L K} → At ys i y → i < n → Follows ys (of i) y × (of i .parent ≤ i)
+      counterpart {i} {y} a h =
           let (x, b, f, l) = matches-at m a in
-          subst (λ (z : Numbered M J). Follows ys z y × (z .parent ≤ i)) (at-one b (stands i (at-lt b))) (f, l)
+          subst (λ (z : Numbered M J). Follows ys z y × (z .parent ≤ i)) (at-one b (stands i h)) (f, l)
 
-      pub matches-linked : Linked of (length xs)
+      pub matches-linked : Linked of n
       matches-linked i h =
           let (y, a) = at-some ys i (omega (arith, matches-length m)) in
-          counterpart a .1
+          counterpart a h .1
 
       -- given what holds up to each earlier item
       up-to : (i : ℕ) → ((j : ℕ) (z : Item L K) → At ys j z → j < i → labels-to own of (suc j) ≡ letters z) → {k : ℕ} {ls : List M}
@@ -139,16 +139,17 @@ module _ {L K M J : Type 0} (letter : L → M) (own : Numbered M J → List M) (
       up-to i f start h = refl
       up-to i f (item {i = j} {y = z} a) h = f j z a (omega arith)
 
-      labels-below : (bound i : ℕ) (y : Item L K) → At ys i y → i < bound → labels-to own of (suc i) ≡ letters y
-      labels-below zero i y a h = absurd (omega arith)
-      labels-below (suc bound) i y a h =
-          let (f, l) = counterpart a in
-          labels-next own of matches-linked i (omega (arith, at-lt a, matches-length m))
-          ∙ ap (λ (ls : List M). ls ++ own (of i)) (up-to i (λ j z b k. labels-below bound j z b (omega arith)) (f .parent) l)
+      labels-below : (bound i : ℕ) (y : Item L K) → At ys i y → i < bound → i < n → labels-to own of (suc i) ≡ letters y
+      labels-below zero i y a h k = absurd (omega arith)
+      labels-below (suc bound) i y a h k =
+          let (f, l) = counterpart a k in
+          labels-next own of matches-linked i k
+          ∙ ap (λ (ls : List M). ls ++ own (of i))
+          (up-to i (λ j z b r. labels-below bound j z b (omega arith) (omega arith)) (f .parent) l)
           ∙ sym (f .way)
 
-      pub labels-letters : {i : ℕ} {y : Item L K} → At ys i y → labels-to own of (suc i) ≡ letters y
-      labels-letters {i} {y} a = labels-below (suc i) i y a (omega arith)
+      pub labels-letters : {i : ℕ} {y : Item L K} → At ys i y → i < n → labels-to own of (suc i) ≡ letters y
+      labels-letters {i} {y} a h = labels-below (suc i) i y a (omega arith) h
 
   module _ (same : K → K → Bool) (edges : K → List (Edge L K)) (sound : (a b : K) → T (same a b) → a ≡ b)
       (reflexive : (a : K) → T (same a a))

@@ -70,6 +70,23 @@ module _ {A : Type 0} (q : A → Bool) where
       (λ k. List·Memᴰ·tail (filter-in m h))
       (λ k. filter-in m h)
 
+  pub filter-few : (xs : List A) → length (filter q xs) ≤ length xs
+  filter-few [] = omega arith
+  filter-few (x ∷ xs) =
+      by-test (q x) (λ b. length (cond b (x ∷ filter q xs) (filter q xs)) ≤ length (x ∷ xs))
+      (λ h. omega (arith, filter-few xs)) (λ h. omega (arith, filter-few xs))
+
+  -- a wider test leaves no fewer
+  pub filter-fewer : (r : A → Bool) (xs : List A) → ((x : A) → T (q x) → T (r x)) → length (filter q xs) ≤ length (filter r xs)
+  filter-fewer r [] f = omega arith
+  filter-fewer r (x ∷ xs) f =
+      let rest = filter-fewer r xs f in
+      by-test (r x) (λ c. length (filter q (x ∷ xs)) ≤ length (cond c (x ∷ filter r xs) (filter r xs)))
+      (λ k. by-test (q x) (λ b. length (cond b (x ∷ filter q xs) (filter q xs)) ≤ suc (length (filter r xs)))
+      (λ h. omega (arith, rest)) (λ h. omega (arith, rest)))
+      (λ k. by-test (q x) (λ b. length (cond b (x ∷ filter q xs) (filter q xs)) ≤ length (filter r xs))
+      (λ h. absurd (k (f x h))) (λ h. rest))
+
   pub filter-part : (xs : List A) → Sublistᴰ (filter q xs) xs
   filter-part [] = Sublistᴰ·slnil
   filter-part (x ∷ xs) =

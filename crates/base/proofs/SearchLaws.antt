@@ -1,6 +1,6 @@
--- What the breadth-first search finds, without fuel: no vertex twice, only what ways from the starts lead to, and no way longer than
--- the number of items found. All are invariants of a turn of the search, and `ends` is the one induction over its turns: the search
--- ends in a state that has the invariant, and where it found no more than its fuel, with an empty queue. Assumes nothing.
+-- What the breadth-first search finds, without fuel: no vertex twice, and only what ways from the starts lead to. Both are invariants of a
+-- turn of the search, and `ends` is the one induction over its turns: the search ends in a state that has the invariant, and where it found
+-- no more than its fuel, with an empty queue. Assumes nothing.
 use mathlib.Core.Path.{_≡_, refl, sym, ap, subst, subst⁻¹, _∙_}
 use mathlib.Core.Logic.{_⊎_, inl, inr}
 use mathlib.Core.Bool.{Bool, cond}
@@ -131,7 +131,7 @@ module _ {L K : Type 0} (same : K → K → Bool) (edges : K → List (Edge L K)
       m
 
   -- a new item is one edge on from the item that the turn took
-  new-onward : (x : Item L K) (done queue : List (Item L K)) {y : Item L K} → List·Memᴰ y (new-items x done queue)
+  pub new-onward : (x : Item L K) (done queue : List (Item L K)) {y : Item L K} → List·Memᴰ y (new-items x done queue)
       → (e : Edge L K) × List·Memᴰ e (edges (x .at)) × (onward same edges x e ≡ y)
   new-onward x done queue m = Memᴰ·of-map (onward same edges x) (edges (x .at)) (fresh-given (done ++ (x ∷ queue)) (onwards x) m)
 
@@ -206,54 +206,3 @@ module _ {L K : Type 0} (same : K → K → Bool) (edges : K → List (Edge L K)
         → length (search-from same edges fuel starts) ≤ length us
     search-few fuel starts us f =
         pigeons (search-from same edges fuel starts) (search-distinct fuel starts) us (λ x m. f x (search-found fuel starts m))
-
--- The lengths of the ways: each is that of a start, c, or one more than that of an item found before it.
-module _ {L K : Type 0} (c : ℕ) where
-  abbrev Based : List (Item L K) → Item L K → Type 0
-  Based xs x = (length (x .way) ≡ c) ⊎ ((y : Item L K) × List·Memᴰ y xs × (length (x .way) ≡ suc (length (y .way))))
-
-  data Grounded : List (Item L K) → Type 0 where
-    none : Grounded []
-    more : {xs : List (Item L K)} (x : Item L K) → Grounded xs → Based xs x → Grounded (xs ++ (x ∷ []))
-
-  based-more : (xs ys : List (Item L K)) (x : Item L K) → Based xs x → Based (xs ++ ys) x
-  based-more xs ys x b = elim b [ inl e ↦ inl e | inr p ↦ inr (p .0, Memᴰ·append-left ys (p .1), p .2) ]
-
-  grounded-append : (xs ys : List (Item L K)) → Grounded xs → ((y : Item L K) → List·Memᴰ y ys → Based xs y) → Grounded (xs ++ ys)
-  grounded-append xs [] g f = subst⁻¹ Grounded (append-nil xs) g
-  grounded-append xs (y ∷ ys) g f =
-      subst Grounded (append-assoc xs (y ∷ []) ys)
-      (grounded-append (xs ++ (y ∷ [])) ys (more y g (f y (List·Memᴰ·head refl)))
-      (λ z m. based-more xs (y ∷ []) z (f z (List·Memᴰ·tail m))))
-
-  grounded-short : (xs : List (Item L K)) → Grounded xs → (x : Item L K) → List·Memᴰ x xs → length (x .way) < c + length xs
-  grounded-short xs none x m = absurd (List·Memᴰ·not-nil m)
-  grounded-short zs (more {xs} z g b) x m =
-      let n = length-append xs (z ∷ []) in
-      elim (List·Memᴰ·append-cases xs {t = z ∷ []} m) [
-        | inl p ↦ omega (arith, grounded-short xs g x p)
-        | inr q ↦
-            let e : length (x .way) ≡ length (z .way) = ap (λ (i : Item L K). length (i .way)) (List·Memᴰ·eq-of-singleton q) in
-            elim b [ inl s ↦ omega arith | inr p ↦ omega (arith, grounded-short xs g (p .0) (p .1), p .2) ]
-      ]
-
-module _ {L K : Type 0} (same : K → K → Bool) (edges : K → List (Edge L K)) where
-  -- no way is longer than the number of items, where the starts' ways have length c: shorter than that number and c together
-  pub search-short : (c fuel : ℕ) (starts : List (Item L K)) → ((y : Item L K) → List·Memᴰ y starts → length (y .way) ≡ c)
-      → {x : Item L K} → List·Memᴰ x (search-from same edges fuel starts)
-      → length (x .way) < c + length (search-from same edges fuel starts)
-  search-short c fuel starts f {x} =
-      grounded-short c (search-from same edges fuel starts)
-      (walk-keeps same edges (Grounded c)
-      (λ z done queue g.
-      grounded-append c (done ++ (z ∷ queue)) (new-items same edges z done queue) g
-      (λ y m.
-      let (e, r, q) = new-onward same edges z done queue m in
-      inr (
-        z,
-        Memᴰ·append-right done (List·Memᴰ·head refl),
-        ap (λ (i : Item L K). length (i .way)) (sym q) ∙ omega (arith, length-append (z .way) (e .label ∷ [])),
-      )))
-      fuel [] (fresh same edges [] starts)
-      (grounded-append c [] (fresh same edges [] starts) none (λ y m. inl (f y (fresh-given same edges [] starts m)))))
-      x

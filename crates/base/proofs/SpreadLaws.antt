@@ -1,17 +1,17 @@
 -- The search over one list, turn by turn: what is added one after the other is added at once (`adds-append`), a list only grows at its end
--- (`adds-begins`, `spread-begins`), and an item of it stood there before or was added (`adds-at`). `After-turns` is what a loop
--- keeps: the list after i turns. A turn goes on from one item (`turns-next`); where no item is left, the list is what the search finds
--- (`turns-done`), and before that it is how that begins (`turns-begin`), so a loop may stop where there is no more room. The labels along
--- the parents are those up to the parent, and the item's own (`labels-next`). Assumes nothing.
+-- (`adds-begins`, `spread-begins`), and an item of it stood there before or was added (`adds-at`). With n for fuel the search does n turns:
+-- so many turns and then so many more are all of them (`spread-add`), and an item that is added names one of the items that these turns went
+-- on from as its parent (`spread-at`). `After-turns` is what a loop keeps that goes on from one item after another (`turns-next`); where no
+-- item is left, the list is what the search finds (`turns-done`), and before that it is how that begins (`turns-begin`), so a loop may stop
+-- where there is no more room. The labels along the parents are those up to the parent, and the item's own (`labels-next`). Assumes nothing.
 use mathlib.Core.Path.{_≡_, refl, sym, ap, _∙_}
 use mathlib.Core.Logic.{_⊎_, inl, inr}
 use mathlib.Core.Bool.{Bool, true, false, cond}
 use mathlib.Core.List.{List, [], _∷_, _++_, append-nil, append-assoc, List·Memᴰ, List·Memᴰ·head, List·Memᴰ·tail}
 use Prim.Native.Nat.{ℕ, zero, suc, _+_, _-_, _≤_, _<_}
 use native.Mathlib.Nat.{zero-add}
-use native.Mathlib.Numerals.{add-one}
 use native.Mathlib.Omega.{arith}
-use lib.ListN.{length, drop, length-append, drop-of-length-le}
+use lib.ListN.{length, drop, length-append, length-drop, drop-of-length-le}
 use Rattle.base.specs.Spread.{Numbered, seen, add, adds, spread, spread-on, labels-up, labels-to, Linked}
 use Rattle.base.proofs.At.{At, at-split, at-drop}
 
@@ -85,36 +85,87 @@ module _ {L K : Type 0} (same : K → K → Bool) where
         let (rest, e) = at-drop a in
         ap (spread-on same onward (spread same onward fuel (suc p)) p xs) e
 
-    -- after i turns of a loop that began with the list `starts` its list is xs: the rest of the search leads to all that is found
-    pub record After-turns (starts : List (Numbered L K)) (i : ℕ) (xs : List (Numbered L K)) : Type 0 where
-      pub rest : (fuel : ℕ) → spread same onward (i + fuel) 0 starts ≡ spread same onward fuel i xs
+    -- i turns, and then j more from where these end
+    pub spread-add : (i j p : ℕ) (xs : List (Numbered L K))
+        → spread same onward (i + j) p xs ≡ spread same onward j (p + i) (spread same onward i p xs)
+    spread-add zero j p xs =
+        ap (λ (k : ℕ). spread same onward k p xs) (zero-add j)
+        ∙ ap (λ (k : ℕ). spread same onward j k xs) {x = p} {y = p + 0} (omega arith)
+    spread-add (suc i) j p xs =
+        ap (λ (k : ℕ). spread same onward k p xs) {x = suc i + j} {y = suc (i + j)} (omega arith)
+        ∙ go (spread-add i j (suc p)) (drop p xs) refl
+      where
+        go : ((ys : List (Numbered L K)) → spread same onward (i + j) (suc p) ys ≡ spread same onward j (suc p + i)
+            (spread same onward i (suc p) ys)) → (r : List (Numbered L K)) → drop p xs ≡ r
+            → spread-on same onward (spread same onward (i + j) (suc p)) p xs r
+            ≡ spread same onward j (p + suc i) (spread-on same onward (spread same onward i (suc p)) p xs r)
+        go f [] e = sym (spread-done j (p + suc i) xs (omega (arith, length-drop p xs, ap length e)))
+        go f (x ∷ r) e =
+            f (adds same xs (onward p x))
+            ∙ ap (λ (k : ℕ). spread same onward j k (spread same onward i (suc p) (adds same xs (onward p x))))
+            {x = suc p + i} {y = p + suc i} (omega arith)
 
-    pub turns-start : (starts : List (Numbered L K)) → After-turns starts 0 starts
-    turns-start starts = record { rest = λ fuel. ap (λ (k : ℕ). spread same onward k 0 starts) (zero-add fuel) }
+    -- what a number of turns adds goes on from the items that they took
+    pub spread-at : ((p : ℕ) (x y : Numbered L K) → List·Memᴰ y (onward p x) → y .parent ≡ suc p) → (k p : ℕ) (xs : List (Numbered L K))
+        {i : ℕ} {y : Numbered L K} → At (spread same onward k p xs) i y → At xs i y ⊎ ((p < y .parent) × (y .parent ≤ p + k))
+    spread-at by zero p xs a = inl a
+    spread-at by (suc k) p xs {i} {y} a = go (λ ys b. spread-at by k (suc p) ys b) (drop p xs) a
+      where
+        go : ((ys : List (Numbered L K)) → At (spread same onward k (suc p) ys) i y
+            → At ys i y ⊎ ((suc p < y .parent) × (y .parent ≤ suc p + k)))
+            → (r : List (Numbered L K)) → At (spread-on same onward (spread same onward k (suc p)) p xs r) i y
+            → At xs i y ⊎ ((p < y .parent) × (y .parent ≤ p + suc k))
+        go f [] a = inl a
+        go f (x ∷ r) a =
+            elim (f (adds same xs (onward p x)) a) [
+              | inl b ↦
+                  elim (adds-at xs (onward p x) b)
+                  [ inl c ↦ inl c | inr m ↦ let e = by p x y m in inr (omega arith, omega arith) ]
+              | inr h ↦ inr (omega (arith, h .0), omega (arith, h .1))
+            ]
 
-    module _ {starts xs : List (Numbered L K)} {i : ℕ} (s : After-turns starts i xs) where
-      from-here : (fuel : ℕ) → i ≤ fuel → spread same onward fuel 0 starts ≡ spread same onward (fuel - i) i xs
+    -- xs is the list of a loop that began at item `from` of the list `starts` and has come to item i
+    pub record After-turns (from : ℕ) (starts : List (Numbered L K)) (i : ℕ) (xs : List (Numbered L K)) : Type 0 where
+      pub begun : from ≤ i
+      pub list-is : spread same onward (i - from) from starts ≡ xs
+
+    pub turns-start : (from : ℕ) (starts : List (Numbered L K)) → After-turns from starts from starts
+    turns-start from starts = record {
+      begun = omega arith;
+      list-is = ap (λ (k : ℕ). spread same onward k from starts) {x = from - from} {y = 0} (omega arith);
+    }
+
+    module _ {from i : ℕ} {starts xs : List (Numbered L K)} (s : After-turns from starts i xs) where
+      from-here : (fuel : ℕ) → i ≤ from + fuel → spread same onward fuel from starts ≡ spread same onward (from + fuel - i) i xs
       from-here fuel h =
-          ap (λ (k : ℕ). spread same onward k 0 starts) {x = fuel} {y = i + (fuel - i)} (omega arith) ∙ s .rest (fuel - i)
+          let n : from ≤ i = s .begun in
+          ap (λ (k : ℕ). spread same onward k from starts) {x = fuel} {y = (i - from) + (from + fuel - i)} (omega arith)
+          ∙ spread-add (i - from) (from + fuel - i) from starts
+          ∙ ap (λ (k : ℕ). spread same onward (from + fuel - i) k (spread same onward (i - from) from starts))
+          {x = from + (i - from)} {y = i} (omega arith)
+          ∙ ap (spread same onward (from + fuel - i) i) (s .list-is)
 
-      pub turns-next : {x : Numbered L K} → At xs i x → After-turns starts (i + 1) (adds same xs (onward i x))
-      turns-next {x} a = record {
-        rest = λ fuel.
-            ap (λ (k : ℕ). spread same onward k 0 starts) {x = i + 1 + fuel} {y = i + suc fuel} (omega arith)
-            ∙ s .rest (suc fuel)
-            ∙ spread-step fuel i xs a
-            ∙ ap (λ (k : ℕ). spread same onward fuel k (adds same xs (onward i x))) (sym (add-one i));
-      }
+      pub turns-next : {x : Numbered L K} → At xs i x → After-turns from starts (i + 1) (adds same xs (onward i x))
+      turns-next {x} a =
+          let n : from ≤ i = s .begun in
+          let more = i + 1 - from in
+          record {
+            begun = omega arith;
+            list-is =
+                from-here more (omega arith)
+                ∙ ap (λ (k : ℕ). spread same onward k i xs) {x = from + more - i} {y = 1} (omega arith)
+                ∙ spread-step 0 i xs a;
+          }
 
-      pub turns-done : (fuel : ℕ) → i ≤ fuel → length xs ≤ i → spread same onward fuel 0 starts ≡ xs
-      turns-done fuel h l = from-here fuel h ∙ spread-done (fuel - i) i xs l
+      pub turns-done : (fuel : ℕ) → i ≤ from + fuel → length xs ≤ i → spread same onward fuel from starts ≡ xs
+      turns-done fuel h l = from-here fuel h ∙ spread-done (from + fuel - i) i xs l
 
-      pub turns-begin : (fuel : ℕ) → i ≤ fuel → (more : List (Numbered L K)) × (spread same onward fuel 0 starts ≡ xs ++ more)
+      pub turns-begin : (fuel : ℕ) → i ≤ from + fuel → (more : List (Numbered L K)) × (spread same onward fuel from starts ≡ xs ++ more)
       turns-begin fuel h =
-          let (more, e) = spread-begins (fuel - i) i xs in
+          let (more, e) = spread-begins (from + fuel - i) i xs in
           (more, from-here fuel h ∙ e)
 
-      pub turns-length : (fuel : ℕ) → i ≤ fuel → length xs ≤ length (spread same onward fuel 0 starts)
+      pub turns-length : (fuel : ℕ) → i ≤ from + fuel → length xs ≤ length (spread same onward fuel from starts)
       turns-length fuel h = let (more, e) = turns-begin fuel h in begins-length xs more e
 
 -- the labels along the parents

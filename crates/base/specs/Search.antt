@@ -3,7 +3,9 @@
 use mathlib.Core.Bool.{Bool, cond}
 use mathlib.Core.List.{List, [], _∷_, _++_, map}
 use Prim.Native.Nat.{ℕ, zero, suc}
-use Rattle.base.specs.Lists.{any}
+use lib.Dec.{leb}
+use lib.ListN.{length}
+use Rattle.base.specs.Lists.{any, filter}
 
 -- an edge out of a vertex: its label, and the vertex that it leads to
 pub record Edge (L K : Type 0) : Type 0 where
@@ -42,3 +44,7 @@ module _ {L K : Type 0} (same : K → K → Bool) (edges : K → List (Edge L K)
   -- all that is found from the given items with that fuel, in order of first visit
   abbrev pub search-from : ℕ → List (Item L K) → List (Item L K)
   search-from fuel starts = walk fuel [] (fresh [] starts)
+
+-- the items whose ways have at most l labels
+abbrev pub within : {L K : Type 0} → (l : ℕ) → List (Item L K) → List (Item L K)
+within l xs = filter (λ x. leb (length (x .way)) l) xs

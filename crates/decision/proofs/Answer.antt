@@ -19,9 +19,9 @@ use Rattle.theory.proofs.Soundness.{lasso-of}
 use Rattle.theory.proofs.CoreTheorem.{cycle-over-alphabet, cycle-meets, meets-cycle}
 use Rattle.decision.specs.Verdict.{Verdict, verdict}
 use Rattle.profile.specs.Cycle.{AcceptingCycle}
-use Rattle.decision.specs.Contract.{node-count, profile-count, Witness, Met, Unmet}
+use Rattle.decision.specs.Contract.{node-count, Witness, Met, Unmet}
 use Rattle.decision.specs.Lends.{Lends}
-use Rattle.decision.proofs.VerdictLaws.{Concluded, From11, Decided-cases, Verdict-cases, verdict-answered}
+use Rattle.decision.proofs.VerdictLaws.{Profiles-fit, Concluded, From11, Decided-cases, Verdict-cases, verdict-answered}
 
 abbrev pub lasso : List ℕ → ℕ → Lasso
 lasso letters stem = record { letters = letters; stem = stem }
@@ -29,14 +29,14 @@ lasso letters stem = record { letters = letters; stem = stem }
 abbrev pub Says : (bytes : List ℕ) → Verdict → Type 0
 Says bytes (Verdict.unread why) = parse bytes ≡ Reading.refused why
 Says bytes (Verdict.refused code) = Unit {0}
-Says bytes (Verdict.satisfiable stem cycle K P letters) = Met bytes stem cycle K P letters
+Says bytes (Verdict.satisfiable stem cycle K c letters) = Met bytes stem cycle K c letters
 Says bytes (Verdict.unsatisfiable K P) = Unmet bytes K P
 
 -- the verdict is MET
 abbrev pub IsMet : Verdict → Type 0
 IsMet (Verdict.unread why) = ⊥
 IsMet (Verdict.refused code) = ⊥
-IsMet (Verdict.satisfiable stem cycle K P letters) = Unit {0}
+IsMet (Verdict.satisfiable stem cycle K c letters) = Unit {0}
 IsMet (Verdict.unsatisfiable K P) = ⊥
 
 pub read-of : {N M workspace buffer : ℕ} {f : Formula} {o : Verdict} → Verdict-cases N M workspace buffer (Reading.accepted f) o
@@ -47,7 +47,7 @@ read-of (Verdict-cases.read d) = d
 pub record Unrefused (N M workspace buffer : ℕ) (t : Table) : Type 0 where
   pub lends : Lends N M workspace buffer
   pub nodes-fit : node-count t ≤ N
-  pub profiles-fit : profile-count t ≤ M
+  pub profiles-fit : Profiles-fit t M
 
 -- past the questions 11 to 13
 pub past-13 : {N M workspace buffer : ℕ} {After : Verdict → Type 0} {o : Verdict} → From11 N M workspace buffer After o
@@ -116,9 +116,9 @@ answered-says bytes e (Verdict-cases.read {f} d) = decided-says bytes f e d
 pub verdict-says : (N M workspace buffer : ℕ) (bytes : List ℕ) → Says bytes (verdict N M workspace buffer bytes)
 verdict-says N M workspace buffer bytes = answered-says bytes refl (verdict-answered N M workspace buffer bytes)
 
-pub verdict-met : (N M workspace buffer : ℕ) (bytes : List ℕ) (stem cycle K P : ℕ) (letters : List ℕ)
-    → verdict N M workspace buffer bytes ≡ Verdict.satisfiable stem cycle K P letters → Met bytes stem cycle K P letters
-verdict-met N M workspace buffer bytes stem cycle K P letters e = subst (Says bytes) e (verdict-says N M workspace buffer bytes)
+pub verdict-met : (N M workspace buffer : ℕ) (bytes : List ℕ) (stem cycle K c : ℕ) (letters : List ℕ)
+    → verdict N M workspace buffer bytes ≡ Verdict.satisfiable stem cycle K c letters → Met bytes stem cycle K c letters
+verdict-met N M workspace buffer bytes stem cycle K c letters e = subst (Says bytes) e (verdict-says N M workspace buffer bytes)
 
 pub verdict-unmet : (N M workspace buffer : ℕ) (bytes : List ℕ) (K P : ℕ) → verdict N M workspace buffer bytes ≡ Verdict.unsatisfiable K
     P → Unmet bytes K P

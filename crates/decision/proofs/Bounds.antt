@@ -1,5 +1,5 @@
--- How large the numbers of a verdict are. Where one is given N bounds K and M bounds P, a witness has fewer than K positions
--- before its cycle and at most P in it, and its letters have sixteen bits; a refusal's number is at most 15, and the places of a refusal
+-- How large the numbers of a verdict are. Where one is given N bounds K and M bounds the profiles that it counts, a witness has fewer than K
+-- positions before its cycle and at most as many in it as these profiles are, and its letters have sixteen bits; a refusal's number is at most 15, and the places of a refusal
 -- of reading at most 97. Assumes nothing.
 use mathlib.Core.Path.{_≡_, refl, sym, subst⁻¹, _∙_}
 use mathlib.Core.Logic.{inl, inr}
@@ -22,11 +22,11 @@ use Rattle.tableau.proofs.TransitionLaws.{letter-bound}
 use Rattle.profile.specs.Profiles.{Profile}
 use Rattle.profile.specs.Cycle.{Run}
 use Rattle.decision.specs.Verdict.{Verdict, verdict}
-use Rattle.decision.specs.Contract.{says, node-count, profile-count, Witness, Decided}
+use Rattle.decision.specs.Contract.{says, node-count, Witness, Decided}
 use Rattle.decision.specs.declared.Verdict as code
 use Rattle.decision.specs.declared.Verdict.the-variants.{Satisfiable, Unsatisfiable, Refused, Unread}
 use Rattle.decision.specs.Lends.{Capacity}
-use Rattle.decision.proofs.VerdictLaws.{Concluded, Verdict-cases, verdict-answered}
+use Rattle.decision.proofs.VerdictLaws.{Profiles-fit, Concluded, witness-shortest, fit-met, fit-unmet, Verdict-cases, verdict-answered}
 
 pub record Answer-sized (N M stem cycle K P : ℕ) : Type 0 where
   pub capacity : Capacity N M
@@ -47,18 +47,25 @@ module _ {N M : ℕ} where
       → (o : Verdict) → Asked Question (Verdict.refused code) After o → Bounded N M (says o)
   asked-bounded h s = every-outcome (λ o. Bounded N M (says o)) h s
 
-  concluded-bounded : (t : Table) → Capacity N M → node-count t ≤ N → profile-count t ≤ M → (o : Verdict) → Concluded t o
+  concluded-bounded : (t : Table) → Capacity N M → node-count t ≤ N → Profiles-fit t M → (o : Verdict) → Concluded t o
       → Bounded N M (says o)
   concluded-bounded t c n p o (Concluded.met w) =
+      let few = fit-met p (witness-shortest w) in
       record {
         capacity = c;
         stem-few = omega (arith, w .stem-short);
-        cycle-few = omega (arith, w .cycle-short);
+        cycle-few = omega (arith, w .cycle-short, few);
         nodes-few = n;
-        profiles-few = p;
+        profiles-few = few;
       }
   concluded-bounded t c n p o (Concluded.unmet u) =
-      record { capacity = c; stem-few = omega (arith, c .some-nodes); cycle-few = omega arith; nodes-few = n; profiles-few = p }
+      record {
+        capacity = c;
+        stem-few = omega (arith, c .some-nodes);
+        cycle-few = omega arith;
+        nodes-few = n;
+        profiles-few = fit-unmet p u;
+      }
 
   answered-bounded : {workspace buffer : ℕ} (bytes : List ℕ) {r : Reading Formula} → parse bytes ≡ r → (o : Verdict)
       → Verdict-cases N M workspace buffer r o

@@ -21,11 +21,11 @@ starred =
     ∷ is (0x09 ∷ 0x07 ∷ 0x03 ∷ 0x00 ∷ 0x08 ∷ 0x05 ∷ 0x00 ∷ []) (Verdict.unsatisfiable 2 1)
     ∷ is (0x09 ∷ 0x06 ∷ 0x03 ∷ 0x00 ∷ 0x08 ∷ 0x05 ∷ 0x00 ∷ []) (Verdict.satisfiable 1 1 3 3 (0x4001 ∷ 0x4000 ∷ []))
     ∷ is (0x0A ∷ 0x07 ∷ 0x09 ∷ 0x06 ∷ 0x03 ∷ 0x00 ∷ 0x08 ∷ 0x05 ∷ 0x00 ∷ 0x08 ∷ 0x05 ∷ 0x00 ∷ [])
-    (Verdict.satisfiable 1 1 3 5 (0x4001 ∷ 0x4001 ∷ []))
+    (Verdict.satisfiable 1 1 3 4 (0x4001 ∷ 0x4001 ∷ []))
     ∷ is (0x07 ∷ 0x09 ∷ 0x06 ∷ 0x03 ∷ 0x00 ∷ 0x08 ∷ 0x05 ∷ 0x00 ∷ 0x0A ∷ 0x07 ∷ 0x04 ∷ 0x00 ∷ 0x08 ∷ 0x05 ∷ 0x00 ∷ [])
     (Verdict.unsatisfiable 2 1)
     ∷ is (0x0A ∷ 0x07 ∷ 0x03 ∷ 0x00 ∷ 0x07 ∷ 0x08 ∷ 0x04 ∷ 0x00 ∷ 0x08 ∷ 0x08 ∷ 0x05 ∷ 0x00 ∷ [])
-    (Verdict.satisfiable 1 2 3 5 (0x4001 ∷ 0x4000 ∷ 0x4001 ∷ []))
+    (Verdict.satisfiable 1 2 3 4 (0x4001 ∷ 0x4000 ∷ 0x4001 ∷ []))
     ∷ is (0x0A ∷ 0x07 ∷ 0x09 ∷ 0x08 ∷ 0x08 ∷ 0x05 ∷ 0x00 ∷ 0x08 ∷ 0x05 ∷ 0x00 ∷ []) (Verdict.unsatisfiable 3 6)
     ∷ is (0x09 ∷ 0x05 ∷ 0x00 ∷ []) (Verdict.unread (unguarded 0 2))
     ∷ is (0x08 ∷ 0x09 ∷ 0x05 ∷ 0x00 ∷ []) (Verdict.unread (unguarded 1 3))
@@ -41,11 +41,11 @@ starred-cases = refl
 abbrev pub unstarred : List Case
 unstarred =
     is (0x0A ∷ 0x09 ∷ 0x06 ∷ 0x07 ∷ 0x03 ∷ 0x00 ∷ 0x08 ∷ 0x05 ∷ 0x01 ∷ 0x08 ∷ 0x05 ∷ 0x00 ∷ [])
-    (Verdict.satisfiable 1 1 3 6 (0x4001 ∷ 0x4001 ∷ []))
+    (Verdict.satisfiable 1 1 3 4 (0x4001 ∷ 0x4001 ∷ []))
     ∷ is (0x09 ∷ 0x0A ∷ 0x06 ∷ 0x07 ∷ 0x03 ∷ 0x00 ∷ 0x08 ∷ 0x05 ∷ 0x01 ∷ 0x08 ∷ 0x05 ∷ 0x00 ∷ [])
-    (Verdict.satisfiable 1 1 3 6 (0x4000 ∷ 0x4000 ∷ []))
+    (Verdict.satisfiable 1 1 3 4 (0x4000 ∷ 0x4000 ∷ []))
     ∷ is (0x0A ∷ 0x07 ∷ 0x08 ∷ 0x09 ∷ 0x08 ∷ 0x03 ∷ 0x00 ∷ 0x08 ∷ 0x05 ∷ 0x00 ∷ [])
-    (Verdict.satisfiable 2 1 3 4 (0x4000 ∷ 0x4000 ∷ 0x4001 ∷ []))
+    (Verdict.satisfiable 2 1 3 2 (0x4000 ∷ 0x4000 ∷ 0x4001 ∷ []))
     ∷ []
 
 pub unstarred-cases : map (λ (c : Case). verdict 256 300 59648 556 (c .bytes)) unstarred ≡ map (λ (c : Case). c .outcome) unstarred
@@ -73,9 +73,36 @@ scaled-cases = refl
 abbrev F : List ℕ
 F = 0x0A ∷ 0x07 ∷ 0x09 ∷ 0x06 ∷ 0x03 ∷ 0x00 ∷ 0x08 ∷ 0x05 ∷ 0x00 ∷ 0x08 ∷ 0x05 ∷ 0x00 ∷ []
 
--- A with N = 1; F with M = 4, with M = 5, and with N = 2 and M = 1
-pub sizes :
-    verdict 1 300 59648 556 (0x01 ∷ []) ∷ verdict 256 4 59648 556 F ∷ verdict 256 5 59648 556 F ∷ verdict 2 1 59648 556 F ∷ []
-    ≡ Verdict.refused 14 ∷ Verdict.refused 15 ∷ Verdict.satisfiable 1 1 3 5 (0x4001 ∷ 0x4001 ∷ []) ∷ Verdict.refused 14 ∷ []
+abbrev H : List ℕ
+H = 0x0A ∷ 0x07 ∷ 0x03 ∷ 0x00 ∷ 0x07 ∷ 0x08 ∷ 0x04 ∷ 0x00 ∷ 0x08 ∷ 0x08 ∷ 0x05 ∷ 0x00 ∷ []
+
+abbrev I : List ℕ
+I = 0x0A ∷ 0x07 ∷ 0x09 ∷ 0x08 ∷ 0x08 ∷ 0x05 ∷ 0x00 ∷ 0x08 ∷ 0x05 ∷ 0x00 ∷ []
+
+-- A formula's bytes with capacities, in areas for N = 256 and M = 300.
+pub record Sized : Type 0 where
+  pub nodes : ℕ
+  pub profiles : ℕ
+  pub bytes : List ℕ
+  pub outcome : Verdict
+
+abbrev with-room : ℕ → ℕ → List ℕ → Verdict → Sized
+with-room N M b o = record { nodes = N; profiles = M; bytes = b; outcome = o }
+
+-- A with N = 1. F, whose cycle has one transition, and H, whose cycle has two, with as many profiles as it takes and one fewer; I, for which
+-- there is none, likewise; F with N = 2 and M = 1.
+abbrev pub sized : List Sized
+sized =
+    with-room 1 300 (0x01 ∷ []) (Verdict.refused 14)
+    ∷ with-room 256 3 F (Verdict.refused 15)
+    ∷ with-room 256 4 F (Verdict.satisfiable 1 1 3 4 (0x4001 ∷ 0x4001 ∷ []))
+    ∷ with-room 256 3 H (Verdict.refused 15)
+    ∷ with-room 256 4 H (Verdict.satisfiable 1 2 3 4 (0x4001 ∷ 0x4000 ∷ 0x4001 ∷ []))
+    ∷ with-room 256 5 I (Verdict.refused 15)
+    ∷ with-room 256 6 I (Verdict.unsatisfiable 3 6)
+    ∷ with-room 2 1 F (Verdict.refused 14)
+    ∷ []
+
+pub sized-cases : map (λ (c : Sized). verdict (c .nodes) (c .profiles) 59648 556 (c .bytes)) sized ≡ map (λ (c : Sized). c .outcome) sized
 unfolding verdict
-sizes = refl
+sized-cases = refl

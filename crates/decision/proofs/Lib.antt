@@ -3,7 +3,6 @@ pub mod WitnessLaws
 pub mod LendsLaws
 pub mod VerdictLaws
 pub mod Answer
-pub mod AcceptingLaws
 pub mod ConcludeLaws
 pub mod SettleLaws
 pub mod SearchedLaws

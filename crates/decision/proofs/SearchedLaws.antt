@@ -1,6 +1,5 @@
 -- The nodes and then the profiles in the workspace: what the two searches promise, put together. The nodes stand at the beginning of the
--- workspace and the store of profiles behind them; both searches leave all behind the store. The counts are K and P, or one more than
--- there is room for. Assumes nothing.
+-- workspace and the store of profiles behind them; both searches leave all behind the store. Assumes nothing.
 use mathlib.Core.Path.{_≡_, sym, ap, subst, _∙_}
 use mathlib.Core.List.{List, [], _++_, map, List·Memᴰ}
 use Prim.Native.Nat.{ℕ, _+_, _*_, _-_, _≤_, _<_}
@@ -11,11 +10,10 @@ use Rattle.base.specs.Lists.{flat-map}
 use Rattle.base.specs.Bits.{word}
 use Rattle.base.specs.Search.{Item}
 use Rattle.base.proofs.At.{at-lt, at-of}
-use Rattle.base.proofs.SpreadLaws.{spread-length}
 use Rattle.formula.specs.Table.{Table}
 use Rattle.tableau.specs.Saturation.{Subset}
 use Rattle.tableau.specs.Transition.{Transition, transitions}
-use Rattle.tableau.specs.Nodes.{operands, nodes}
+use Rattle.tableau.specs.Nodes.{nodes}
 use Rattle.tableau.specs.Inner.{table-of}
 use Rattle.tableau.specs.Area.{bytes8, Nodes-held, reachable, Subsets-sized}
 use Rattle.tableau.specs.Origins.{Origins}
@@ -23,40 +21,25 @@ use Rattle.tableau.proofs.NodeLaws.{nodes-first}
 use Rattle.tableau.proofs.LoopLaws.{table-length}
 use Rattle.tableau.proofs.AreaLaws.{stored-length}
 use Rattle.tableau.proofs.NodeReads.{reachable-sized, Words-kept, nodes-kept}
-use Rattle.profile_tables.specs.Runs.{same-profile, longer, profiles-from, number-of, singles, profiles}
+use Rattle.profile_tables.specs.Runs.{number-of, singles, accepting}
 use Rattle.profile_tables.proofs.NodeNumbers.{leads-in}
 use Rattle.traces.specs.Inner.{Rows-limited, Ranks-of}
 use Rattle.traces.specs.declared.Ranks.{Ranks}
-use Rattle.profile_search.specs.Stored.{stored, Store-fits, Grown}
+use Rattle.profile_search.specs.Stored.{record-start, Store-fits, Bytes-between}
 use Rattle.profile_search.specs.Singles.{Search-input, node-in, nodes-in}
 use Rattle.profile_search.specs.declared.Store.{Store}
-use Rattle.profile_search.proofs.GrowLaws.{grown-longer, grown-on}
+use Rattle.cycle_search.specs.Layers.{Comes-to}
+use Rattle.cycle_search.specs.declared.Sought.{Sought}
 use Rattle.decision.specs.Verdict.{workspace-size}
 use Rattle.decision.specs.Lends.{Lends}
 use Rattle.profile_search.proofs.SingleLaws.{nodes-in-are, node-in-are, node-sets}
 use Rattle.witness.specs.Letters.{over}
-use Rattle.decision.specs.Contract.{node-count, profile-count}
-use Rattle.decision.specs.Searched.{Decoded, Store-placed, Profiled, Answers, concluded, Within, Searched}
+use Rattle.decision.specs.Contract.{node-count}
+use Rattle.decision.specs.Searched.{Decoded, Store-placed, Profiled, Ready, Told, Within, Searched}
 use Rattle.decision.specs.declared.Verdict as code
 use Rattle.decision.specs.declared.Verdict.the-variants.{Refused}
-use Rattle.decision.proofs.ConcludeLaws.{decoded-agrees}
-use Rattle.decision.proofs.SettleLaws.{searched-14, searched-15, searched-on}
-
--- The profiles of one transition, and then all.
-module _ (t : Table) (vs : List Subset) {s : Store} {a b : List ℕ} {one : ℕ} (g : Grown s 0 a one b (singles t vs)) where
-  pub profiles-full : s .capacity < one → (fuel : ℕ) → Grown s 0 a one b (profiles fuel t vs)
-  unfolding profiles profiles-from
-  profiles-full h fuel =
-      grown-longer g h (spread-length same-profile (longer (length (operands t)) (singles t vs)) fuel 0 (singles t vs))
-
-  pub profiles-all : {r : ℕ} {d : List ℕ} → one ≤ s .capacity → s .n ≡ length (operands t)
-      → ((fuel : ℕ) → s .capacity < fuel → Grown s one b r d (profiles-from fuel (s .n) (stored s b one)))
-      → (fuel : ℕ) → s .capacity < fuel → Grown s 0 a r d (profiles fuel t vs)
-  unfolding profiles
-  profiles-all {r} {d} h e f fuel l =
-      let same : profiles-from fuel (s .n) (stored s b one) ≡ profiles fuel t vs =
-      ap (λ (n : ℕ). profiles-from fuel n (stored s b one)) e ∙ ap (profiles-from fuel (length (operands t))) (g .records h) in
-      subst (Grown s 0 a r d) same (grown-on g (f fuel l))
+use Rattle.decision.proofs.ConcludeLaws.{told-ready, told-searched}
+use Rattle.decision.proofs.SettleLaws.{searched-14}
 
 -- What changes only before byte n.
 within-of : {n : ℕ} {a b : List ℕ} → length b ≡ length a → ((i : ℕ) → n ≤ i → getD b i 0 ≡ getD a i 0) → Within n a b
@@ -184,58 +167,37 @@ module _ {rows : List ℕ} {count N M buffer : ℕ} {a area origins : List ℕ} 
         closed = closed;
       }
 
-  module _ {all : ℕ} {after : List ℕ}
-      (g : (fuel : ℕ) → s .capacity < fuel → Grown s 0 area all after (profiles fuel table′ (nodes-in count area known))) where
-    -- fuel enough for both searches
-    abbrev fuel : ℕ
-    fuel = M + profile-count table′ + 1
-
-    grown : Grown s 0 area all after (profiles fuel table′ (reachable table′))
-    grown =
-        subst (λ (l : List Subset). Grown s 0 area all after (profiles fuel table′ l))
-        nodes-are (g fuel (omega (arith, b .store-is .capacity-is)))
-
-    profiles-length : length (profiles fuel table′ (reachable table′)) ≡ profile-count table′
-    profiles-length = decoded-agrees (b .decoded) fuel (omega arith) .count
+  -- what the search for an accepting cycle comes to
+  module _ {found : Sought} {after : List ℕ} (c : Comes-to (accepting table′) s (singles table′ (nodes-in count area known)) after found)
+      (e : Bytes-between (s .base) (record-start s (s .capacity)) area after) where
+    -- Theorem: it is over the table's nodes, and the notes are those of all of them;
+    pub search-profiled : Profiled rows count origins after s known found
+    search-profiled =
+        record {
+          decoded = b .decoded;
+          notes-are = b .notes-are;
+          notes-room = omega (arith, b .notes-room, b .fits);
+          fits = in-store after (e .same-length ∙ same-length);
+          operands-are = b .store-is .nexts-are ∙ b .ranks .nexts-are;
+          nodes-are = known-is;
+          comes-to = subst (λ (l : List Subset). Comes-to (accepting table′) s (singles table′ l) after found) nodes-are c;
+        }
 
     all-within : Within (workspace-size N M) a after
     all-within =
-        within-of (grown .elsewhere .same-length ∙ same-length)
+        within-of (e .same-length ∙ same-length)
         (λ i h.
-        grown .elsewhere .beyond i (omega (arith, b .store-is .base-is, ap (λ (k : ℕ). 192 * k) (b .store-is .capacity-is)))
+        e .beyond i (omega (arith, b .store-is .base-is, ap (λ (k : ℕ). 192 * k) (b .store-is .capacity-is)))
         ∙ area-beyond (b .decoded) (b .lends) (b .holds) i (omega arith))
 
-    -- Theorem: without room for all profiles the answer is 15.
-    pub profiles-15 : M < all → (letters : List ℕ) → Searched table′ N M a after letters letters (Refused 15)
-    profiles-15 h letters =
-        searched-15 N M table′ letters (omega (arith, known-is, b .fits))
-        (omega (arith, grown .count-is, profiles-length, b .store-is .capacity-is)) all-within
+    nodes-fit : node-count table′ ≤ N
+    nodes-fit = omega (arith, known-is, b .fits)
 
-    module _ (h : all ≤ M) where
-      all-is : all ≡ profile-count table′
-      all-is = omega (arith, grown .count-is, profiles-length, b .store-is .capacity-is)
+    -- what the answer asks is there, and the answer to it is the answer.
+    pub answer-ready : Ready origins s after buffer found
+    answer-ready =
+        told-ready search-profiled N M nodes-fit (b .store-is .capacity-is) all-within (b .lends .buffer-fits)
 
-      -- Theorem: with room, all profiles stand in the workspace, and the notes are those of all nodes,
-      pub all-profiled : Profiled rows count origins after s known all
-      all-profiled =
-          record {
-            decoded = b .decoded;
-            notes-are = b .notes-are;
-            notes-room = omega (arith, b .notes-room, b .fits);
-            fits = in-store after (grown .elsewhere .same-length ∙ same-length);
-            operands-are = b .store-is .nexts-are ∙ b .ranks .nexts-are;
-            few = omega (arith, b .store-is .capacity-is);
-            nodes-are = known-is;
-            profiles-are = all-is;
-            fuel = fuel;
-            enough = omega (arith, all-is);
-            stored-are = grown .records (omega (arith, b .store-is .capacity-is));
-          }
-
-      pub buffer-room : known + all ≤ buffer
-      buffer-room = omega (arith, b .fits, b .lends .buffer-fits)
-
-      -- and the answer over them is the answer.
-      pub answer-on : {before after′ : List ℕ} {v : code.Verdict} → Answers (concluded table′) before after′ v
-          → Searched table′ N M a after before after′ v
-      answer-on v = searched-on N M table′ (omega (arith, known-is, b .fits)) (omega (arith, all-is)) v all-within
+    pub answer-on : {before after′ : List ℕ} {v : code.Verdict} → Told origins s after known found before after′ v
+        → Searched table′ N M a after before after′ v
+    answer-on v = told-searched search-profiled N M nodes-fit (b .store-is .capacity-is) all-within v

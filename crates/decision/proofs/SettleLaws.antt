@@ -6,7 +6,6 @@ use mathlib.Core.List.{List, _++_}
 use Prim.Native.Nat.{ℕ, _≤_, _<_}
 use native.Mathlib.Omega.{arith}
 use lib.ListN.{length, drop}
-use Rattle.base.specs.Lists.{first}
 use Rattle.base.specs.Search.{Item}
 use Rattle.base.proofs.AskLaws.{first-refusal, passed, every-outcome}
 use Rattle.formula.specs.Formula.{Formula}
@@ -21,10 +20,11 @@ use Rattle.tableau.specs.Inner.{table-of}
 use Rattle.tableau.specs.Area.{zeros}
 use Rattle.traces.proofs.LimitLaws.{held-limited}
 use Rattle.profile.specs.Profiles as literal
-use Rattle.decision.specs.Verdict.{Verdict, conclude, decide, workspace-size, witness-size, ask-capacities, after-reading, verdict}
+use Rattle.decision.specs.Verdict.{Verdict, counted, conclude, decide, workspace-size, witness-size, ask-capacities, after-reading}
+use Rattle.decision.specs.Verdict.{verdict}
 use Rattle.decision.specs.Lends.{Capacity, Lends}
-use Rattle.decision.specs.Contract.{says, node-count, profile-count, Buffered, zeroed, cleared, Decided}
-use Rattle.decision.specs.Searched.{Decoded, leaves, Answers, Within, Searched, Settled, concluded}
+use Rattle.decision.specs.Contract.{says, node-count, Buffered, zeroed, cleared, Decided}
+use Rattle.decision.specs.Searched.{Decoded, leaves, Answers, Within, Searched, Settled, found-in, needed, concluded}
 use Rattle.decision.specs.declared.Verdict as code
 use Rattle.decision.specs.declared.Verdict.the-variants.{Refused, Unread}
 use Rattle.decision.proofs.VerdictLaws.{From11, From14, capacities-asked, decide-asked}
@@ -32,24 +32,23 @@ use Rattle.decision.proofs.Answer.{past-13, verdict-met, verdict-unmet}
 
 -- The questions 14 and 15.
 module _ (N M : ℕ) (t : Table) where
-  from-14 : From14 N M t (λ o. o ≡ concluded t) (decide N M t)
-  from-14 = decide-asked N M t refl
+  from-14 : From14 N t (needed t ≤ M) (λ o. o ≡ concluded t) (decide N M t)
+  from-14 = decide-asked N M t (λ h. h) (λ h. h) refl
 
   -- every answer past 13 leaves zeros
   abbrev Clears : List ℕ → Verdict → Type 0
   Clears w o = cleared N M o w ≡ zeroed N M w
 
   concluded-clears : (w : List ℕ) (x : Option (Item Transition literal.Profile))
-      → Clears w (conclude (nodes t) (literal.profiles t (nodes t)) x)
+      → Clears w (conclude (nodes t) (counted x (literal.profiles t (nodes t))) x)
   concluded-clears w none = refl
   concluded-clears w (some x) = refl
 
   decided-clears : (w : List ℕ) → Clears w (decide N M t)
   decided-clears w =
-      let found = first (literal.accepting t) (literal.profiles t (nodes t)) in
       every-outcome (Clears w) refl
       (λ _. every-outcome (Clears w) refl
-      (λ _ o e. subst⁻¹ (Clears w) e (concluded-clears w found))) (decide N M t) from-14
+      (λ _ o e. subst⁻¹ (Clears w) e (concluded-clears w (found-in t)))) (decide N M t) from-14
 
   answers-refused : (c : ℕ) {l : List ℕ} → decide N M t ≡ Verdict.refused c → Answers (decide N M t) l l (Refused c)
   answers-refused c {l} e = subst⁻¹ (λ (v : Verdict). Answers v l l (Refused c)) e (record { answered = refl; buffered = refl })
@@ -58,11 +57,11 @@ module _ (N M : ℕ) (t : Table) where
       → Searched t N M area area′ l l (Refused 14)
   searched-14 l h w = record { answers = answers-refused 14 (first-refusal from-14 (λ k. omega arith)); within = w }
 
-  pub searched-15 : {area area′ : List ℕ} (l : List ℕ) → node-count t ≤ N → M < profile-count t → Within (workspace-size N M) area area′
+  pub searched-15 : {area area′ : List ℕ} (l : List ℕ) → node-count t ≤ N → M < needed t → Within (workspace-size N M) area area′
       → Searched t N M area area′ l l (Refused 15)
   searched-15 l k h w = record { answers = answers-refused 15 (first-refusal (passed from-14 k) (λ j. omega arith)); within = w }
 
-  pub searched-on : {area area′ before after : List ℕ} {r : code.Verdict} → node-count t ≤ N → profile-count t ≤ M
+  pub searched-on : {area area′ before after : List ℕ} {r : code.Verdict} → node-count t ≤ N → needed t ≤ M
       → Answers (concluded t) before after r
       → Within (workspace-size N M) area area′ → Searched t N M area area′ before after r
   searched-on {before = before} {after} {r} k h a w =
@@ -121,10 +120,10 @@ module _ (bytes : List ℕ) (N M : ℕ) (workspace buffer : List ℕ) where
   buffered buffer′ (Verdict.unread why) e l = l
   buffered buffer′ (Verdict.refused c) e l = l
   buffered buffer′ (Verdict.unsatisfiable K P) e l = (verdict-unmet N M (length workspace) (length buffer) bytes K P e, l)
-  buffered buffer′ (Verdict.satisfiable stem cycle K P ls) e l =
+  buffered buffer′ (Verdict.satisfiable stem cycle K c ls) e l =
       record {
         letters = ls;
-        met = verdict-met N M (length workspace) (length buffer) bytes stem cycle K P ls e;
+        met = verdict-met N M (length workspace) (length buffer) bytes stem cycle K c ls e;
         filled = l;
       }
 

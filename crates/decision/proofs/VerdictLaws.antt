@@ -1,15 +1,16 @@
 -- The verdict is that of MEANING 5: each refusal exactly where its question is the first that is answered by no, else MET with a
--- witness, or NOT where there is no accepting cycle, with K and P. `Verdict-cases` is the list of questions as a relation, without search
--- and fuel. The verdict's definition meets it (`verdict-answered`), and it leaves nothing open but the witness's letters
--- (`answered-settled`). Assumes nothing.
-use mathlib.Core.Path.{_≡_, refl, sym, ap, _∙_}
+-- witness, K and c of its cycle's length, or NOT where there is no accepting cycle, with K and P. `Verdict-cases` is the list of questions as
+-- a relation, without search and fuel; `Profiles-fit` is question 15 so. The verdict's definition meets it (`verdict-answered`), and it
+-- leaves nothing open but the witness's letters (`answered-settled`). Assumes nothing.
+use mathlib.Core.Path.{_≡_, refl, sym, ap, subst, _∙_}
 use mathlib.Core.Option.{Option, none, some}
 use mathlib.Core.List.{List, []}
 use Prim.Native.Nat.{ℕ, _≤_}
 use native.Mathlib.Omega.{arith}
+use lib.Dec.{leb, leb→le, le→leb}
 use lib.ListN.{length}
-use Rattle.base.specs.Lists.{first}
 use Rattle.base.specs.Search.{Item}
+use Rattle.base.proofs.WithinLaws.{within-few}
 use Rattle.base.proofs.AskLaws.{Asked, asked, asked-le, first-refusal, passed}
 use Rattle.formula.specs.Formula.{Formula}
 use Rattle.formula.specs.Table.{Table, table}
@@ -18,23 +19,63 @@ use Rattle.formula.specs.declared.Refusal.{Refusal}
 use Rattle.tableau.specs.Saturation.{Subset}
 use Rattle.tableau.specs.Transition.{Transition}
 use Rattle.tableau.specs.Nodes.{nodes}
-use Rattle.profile.specs.Profiles.{Profile, profiles, accepting}
+use Rattle.profile.specs.Profiles.{Profile, profiles}
 use Rattle.profile.proofs.RootLaws.{root-apart}
-use Rattle.decision.specs.Verdict.{Verdict, conclude, decide, within-capacity, workspace-size, witness-size}
+use Rattle.decision.specs.Verdict.{Verdict, counted, conclude, decide, within-capacity, workspace-size, witness-size}
 use Rattle.decision.specs.Verdict.{ask-capacities, after-reading, verdict}
 use Rattle.decision.specs.Lends.{Capacity}
 use Rattle.profile.specs.Cycle.{AcceptingCycle}
-use Rattle.decision.specs.Contract.{node-count, profile-count, Witness}
-use Rattle.decision.specs.Searched.{concluded}
+use Rattle.decision.specs.Contract.{node-count, profile-count, profile-count-within, Witness}
+use Rattle.decision.specs.Searched.{found-in, needed, concluded}
 use Rattle.decision.proofs.LendsLaws.{capacity-of, capacity-in}
 use Rattle.decision.proofs.WitnessLaws.{no-cycle, first-witness}
+
+-- l is the length of a shortest accepting cycle.
+pub record Shortest (t : Table) (l : ℕ) : Type 0 where
+  pub node : Subset
+  pub around : List Transition
+  pub accepted : AcceptingCycle t node around
+  pub length-is : length around ≡ l
+  pub fewest : (v : Subset) (ss : List Transition) → AcceptingCycle t v ss → l ≤ length ss
+
+-- Question 15 of MEANING 5.2: there is room for all profiles, or for those of runs no longer than a shortest accepting cycle.
+pub data Profiles-fit (t : Table) (M : ℕ) : Type 0 where
+  all : profile-count t ≤ M → Profiles-fit t M
+  early : (l : ℕ) → Shortest t l → profile-count-within t l ≤ M → Profiles-fit t M
+
+-- no accepting cycle at all
+abbrev NoCycle : Table → Type 0
+NoCycle t = (v : Subset) (ss : List Transition) → AcceptingCycle t v ss → ⊥
 
 -- MEANING 5.3
 pub data Concluded (t : Table) : Verdict → Type 0 where
   met : {stem cycle : ℕ} {letters : List ℕ} → Witness t stem cycle letters
-      → Concluded t (Verdict.satisfiable stem cycle (node-count t) (profile-count t) letters)
-  unmet : ((v : Subset) (ss : List Transition) → AcceptingCycle t v ss → ⊥)
-      → Concluded t (Verdict.unsatisfiable (node-count t) (profile-count t))
+      → Concluded t (Verdict.satisfiable stem cycle (node-count t) (profile-count-within t cycle) letters)
+  unmet : NoCycle t → Concluded t (Verdict.unsatisfiable (node-count t) (profile-count t))
+
+-- the cycle of a witness is a shortest one, and all shortest ones have one length
+pub witness-shortest : {t : Table} {stem cycle : ℕ} {letters : List ℕ} → Witness t stem cycle letters → Shortest t cycle
+witness-shortest w =
+    record { node = w .node; around = w .around; accepted = w .accepted; length-is = sym (w .cycle-is); fewest = w .cycle-fewest }
+
+pub one-shortest : {t : Table} {l m : ℕ} → Shortest t l → Shortest t m → l ≡ m
+one-shortest s r =
+    omega (
+      arith,
+      s .fewest (r .node) (r .around) (r .accepted),
+      r .fewest (s .node) (s .around) (s .accepted),
+      s .length-is,
+      r .length-is,
+    )
+
+-- the room that question 15 grants is enough for what MET counts, and for what NOT counts
+pub fit-met : {t : Table} {M l : ℕ} → Profiles-fit t M → Shortest t l → profile-count-within t l ≤ M
+fit-met {t} {l = l} (Profiles-fit.all h) s = omega (arith, within-few l (profiles t (nodes t)))
+fit-met {t} {M} {l} (Profiles-fit.early m r h) s = subst (λ (k : ℕ). profile-count-within t k ≤ M) (one-shortest r s) h
+
+pub fit-unmet : {t : Table} {M : ℕ} → Profiles-fit t M → NoCycle t → profile-count t ≤ M
+fit-unmet (Profiles-fit.all h) n = h
+fit-unmet (Profiles-fit.early l s h) n = absurd (n (s .node) (s .around) (s .accepted))
 
 -- the questions 11 to 13 in their order, and then what comes after
 abbrev pub From11 : (N M workspace buffer : ℕ) → (Verdict → Type 0) → Verdict → Type 0
@@ -44,16 +85,16 @@ From11 N M workspace buffer After =
     (Asked (witness-size N M ≤ buffer) (Verdict.refused 13)
     After))
 
--- the questions 14 and 15, and then what comes after
-abbrev pub From14 : (N M : ℕ) → Table → (Verdict → Type 0) → Verdict → Type 0
-From14 N M t After =
+-- the questions 14 and 15, the latter as a statement, and then what comes after
+abbrev pub From14 : (N : ℕ) → Table → (fit : Type 0) → (Verdict → Type 0) → Verdict → Type 0
+From14 N t fit After =
     Asked (node-count t ≤ N) (Verdict.refused 14)
-    (Asked (profile-count t ≤ M) (Verdict.refused 15)
+    (Asked fit (Verdict.refused 15)
     After)
 
 -- all of them
 abbrev pub Decided-cases : (N M workspace buffer : ℕ) → Table → Verdict → Type 0
-Decided-cases N M workspace buffer t = From11 N M workspace buffer (From14 N M t (Concluded t))
+Decided-cases N M workspace buffer t = From11 N M workspace buffer (From14 N t (Profiles-fit t M) (Concluded t))
 
 -- a refusal of reading is passed on
 pub data Verdict-cases (N M workspace buffer : ℕ) : Reading Formula → Verdict → Type 0 where
@@ -71,25 +112,51 @@ capacities-asked N M workspace buffer t a =
     (asked-le (witness-size N M) buffer (decide N M t)
     a))
 
-pub decide-asked : (N M : ℕ) (t : Table) {After : Verdict → Type 0} → After (concluded t) → From14 N M t After (decide N M t)
+pub decide-asked : (N M : ℕ) (t : Table) {fit : Type 0} {After : Verdict → Type 0} → (needed t ≤ M → fit) → (fit → needed t ≤ M)
+    → After (concluded t) → From14 N t fit After (decide N M t)
 unfolding decide
-decide-asked N M t a =
+decide-asked N M t f g a =
     asked-le (node-count t) N _
-    (asked-le (profile-count t) M (concluded t)
+    (asked (concluded t) (leb (needed t) M) (λ h. f (leb→le (needed t) M h)) (λ q. le→leb (needed t) M (g q))
     a)
 
-concludes : (f : Formula) (o : Option (Item Transition Profile)) → first (accepting (table f)) (profiles (table f) (nodes (table f))) ≡ o
-    → Concluded (table f) (conclude (nodes (table f)) (profiles (table f) (nodes (table f))) o)
-concludes f none e = unmet (no-cycle (table f) (root-apart f) e)
-concludes f (some x) e = met (first-witness (table f) (root-apart f) e)
+-- all of them, with the profiles that the definition counts
+pub asked-all : (N M workspace buffer : ℕ) (t : Table)
+    → From11 N M workspace buffer (From14 N t (needed t ≤ M) (λ o. o ≡ concluded t)) (ask-capacities N M workspace buffer t)
+asked-all N M workspace buffer t = capacities-asked N M workspace buffer t (decide-asked N M t (λ h. h) (λ h. h) refl)
+
+-- by whether an accepting profile was found
+module _ (f : Formula) where
+  abbrev t : Table
+  t = table f
+
+  abbrev listed : List (Item Transition Profile)
+  listed = profiles t (nodes t)
+
+  concludes : (o : Option (Item Transition Profile)) → found-in t ≡ o → Concluded t (conclude (nodes t) (counted o listed) o)
+  concludes none e = unmet (no-cycle t (root-apart f) e)
+  concludes (some x) e = met (first-witness t (root-apart f) e)
+
+  fits-of : (M : ℕ) (o : Option (Item Transition Profile)) → found-in t ≡ o → length (counted o listed) ≤ M → Profiles-fit t M
+  fits-of M none e h = Profiles-fit.all h
+  fits-of M (some x) e h = Profiles-fit.early (length (x .way)) (witness-shortest (first-witness t (root-apart f) e)) h
+
+  fits-in : (M : ℕ) (o : Option (Item Transition Profile)) → found-in t ≡ o → Profiles-fit t M → length (counted o listed) ≤ M
+  fits-in M none e q = fit-unmet q (no-cycle t (root-apart f) e)
+  fits-in M (some x) e q = fit-met q (witness-shortest (first-witness t (root-apart f) e))
+
+-- Theorem: what the definition concludes is MET with a witness, or NOT where there is no accepting cycle.
+pub concluded-cases : (f : Formula) → Concluded (table f) (concluded (table f))
+concluded-cases f = concludes f (found-in (table f)) refl
 
 read-answered : (N M workspace buffer : ℕ) (r : Reading Formula)
     → Verdict-cases N M workspace buffer r (after-reading N M workspace buffer r)
 unfolding table decide
 read-answered N M workspace buffer (Reading.refused why) = unread
 read-answered N M workspace buffer (Reading.accepted f) =
-    let t = table f in
-    read (capacities-asked N M workspace buffer t (decide-asked N M t (concludes f (first (accepting t) (profiles t (nodes t))) refl)))
+    read (capacities-asked N M workspace buffer (table f)
+    (decide-asked N M (table f) (fits-of f M (found-in (table f)) refl) (fits-in f M (found-in (table f)) refl)
+    (concluded-cases f)))
 
 -- Theorem: the verdict answers the questions.
 pub verdict-answered : (N M workspace buffer : ℕ) (bytes : List ℕ)
@@ -101,7 +168,7 @@ verdict-answered N M workspace buffer bytes = read-answered N M workspace buffer
 abbrev pub settled : Verdict → Verdict
 settled (Verdict.unread why) = Verdict.unread why
 settled (Verdict.refused code) = Verdict.refused code
-settled (Verdict.satisfiable stem cycle K P letters) = Verdict.satisfiable stem cycle K P []
+settled (Verdict.satisfiable stem cycle K c letters) = Verdict.satisfiable stem cycle K c []
 settled (Verdict.unsatisfiable K P) = Verdict.unsatisfiable K P
 
 abbrev Settles : (Verdict → Type 0) → Type 0
@@ -124,7 +191,7 @@ witness-settled w u =
 concluded-settled : (t : Table) → Settles (Concluded t)
 concluded-settled t o p (met w) (met u) =
     let (a, b) = witness-settled w u in
-    λ i. Verdict.satisfiable (a i) (b i) (node-count t) (profile-count t) []
+    λ i. Verdict.satisfiable (a i) (b i) (node-count t) (profile-count-within t (b i)) []
 concluded-settled t o p (met w) (unmet n) = absurd (n (w .node) (w .around) (w .accepted))
 concluded-settled t o p (unmet n) (met u) = absurd (n (u .node) (u .around) (u .accepted))
 concluded-settled t o p (unmet n) (unmet m) = refl

@@ -1,41 +1,34 @@
 -- What the functions promise that build the tableau, search the profiles and answer. A reader of the decision's contract need not read
 -- it. Assumes nothing.
 use mathlib.Core.Path.{_≡_}
-use mathlib.Core.Bool.{Bool, not, _&&_}
 use mathlib.Core.List.{List, _++_}
-use mathlib.Core.Option.{Option, none, some}
+use mathlib.Core.Option.{Option}
 use Prim.Native.Nat.{ℕ, _+_, _*_, _≤_}
-use lib.Dec.{eqb}
 use lib.ListN.{length, drop}
 use Rattle.base.specs.Lists.{first}
+use Rattle.base.specs.Search.{Item}
 use Rattle.formula.specs.Formula.{Formula}
 use Rattle.formula.specs.Table.{Table, table}
 use Rattle.formula.specs.Reading.{Reading, parse}
+use Rattle.tableau.specs.Transition.{Transition}
 use Rattle.tableau.specs.Nodes.{operands, nodes}
 use Rattle.tableau.specs.Inner.{table-of}
 use Rattle.tableau.specs.Area.{reachable}
 use Rattle.tableau.specs.Origins.{Origins}
 use Rattle.profile.specs.Profiles as literal
-use Rattle.profile_tables.specs.Triples.{rejecting}
-use Rattle.profile_tables.specs.Runs.{Found-profile, profiles}
+use Rattle.profile_tables.specs.Runs.{singles, accepting}
 use Rattle.traces.specs.Inner.{Rows-limited}
-use Rattle.profile_search.specs.Stored.{stored, Store-fits}
+use Rattle.profile_search.specs.Stored.{Store-fits}
 use Rattle.profile_search.specs.declared.Store.{Store}
-use Rattle.decision.specs.Verdict.{Verdict, conclude, decide, workspace-size, ask-capacities}
-use Rattle.decision.specs.Contract.{says, node-count, profile-count, cleared}
+use Rattle.cycle_search.specs.Layers.{Comes-to}
+use Rattle.cycle_search.specs.declared.Sought.{Sought}
+use Rattle.cycle_search.specs.declared.Sought.the-variants as sought
+use Rattle.witness.specs.Letters.{Witness-ready, Witness-written}
+use Rattle.witness.specs.declared.Lengths.{Lengths}
+use Rattle.decision.specs.Verdict.{Verdict, counted, conclude, decide, workspace-size, ask-capacities}
+use Rattle.decision.specs.Contract.{says, node-count, cleared}
 use Rattle.decision.specs.declared.Verdict as code
-use Rattle.decision.specs.declared.Cycle.{Cycle}
-use Rattle.decision.specs.declared.Cycle.the-variants as cycle
-
--- back to its first node, and not rejecting, where a test tells the least fixpoints
-unfoldable pub accepts : (ℕ → Bool) → ℕ → Found-profile → Bool
-unfolding rejecting
-accepts least n x = eqb (x .at .first) (x .at .last) && not (rejecting least n (x .at .triple-set))
-
--- the number of the profile of an accepting cycle, if there is one
-abbrev pub number-in : Cycle → Option ℕ
-number-in (cycle.Accepting p) = some p
-number-in cycle.None = none
+use Rattle.decision.specs.declared.Verdict.the-variants.{Satisfiable, Unsatisfiable, Refused}
 
 -- The rows hold the table of a formula that was read.
 pub record Decoded (rows : List ℕ) (count : ℕ) : Type 0 where
@@ -51,25 +44,34 @@ pub record Store-placed (N M n : ℕ) (s : Store) : Type 0 where
   pub capacity-is : s .capacity ≡ M
   pub nexts-are : s .n ≡ n
 
--- The area holds on the store the P profiles of the rows' table, and the notes are those of its K nodes.
-pub record Profiled (rows : List ℕ) (count : ℕ) (origins area : List ℕ) (s : Store) (K P : ℕ) : Type 0 where
+-- What the search for an accepting cycle came to, over the rows' table; the notes are those of its K nodes.
+pub record Profiled (rows : List ℕ) (count : ℕ) (origins area : List ℕ) (s : Store) (K : ℕ) (found : Sought) : Type 0 where
   pub decoded : Decoded rows count
   pub notes-are : Origins (table-of rows count) origins K
   pub notes-room : 2 * K ≤ length origins
   pub fits : Store-fits s (length area)
   pub operands-are : s .n ≡ length (operands (table-of rows count))
-  pub few : P ≤ s .capacity
   pub nodes-are : K ≡ node-count (table-of rows count)
-  pub profiles-are : P ≡ profile-count (table-of rows count)
-  pub fuel : ℕ
-  pub enough : P ≤ fuel
-  pub stored-are : stored s area P ≡ profiles fuel (table-of rows count) (reachable (table-of rows count))
+  pub comes-to : Comes-to (accepting (table-of rows count)) s (singles (table-of rows count) (reachable (table-of rows count))) area found
+
+-- What the answer asks: of an accepting profile what writing its witness asks.
+abbrev pub Ready : (origins : List ℕ) → Store → (area : List ℕ) → (len : ℕ) → Sought → Type 0
+Ready origins s area len (sought.Accepting p count) = Witness-ready origins s area p len
+Ready origins s area len (sought.Nowhere count) = Unit {0}
+Ready origins s area len sought.NoRoom = Unit {0}
+
+-- The answer with K nodes, and the witness buffer: for an accepting profile its witness is written.
+abbrev pub Told : (origins : List ℕ) → Store → (area : List ℕ) → (K : ℕ) → Sought → (before after : List ℕ) → code.Verdict → Type 0
+Told origins s area K (sought.Accepting p count) before after r =
+    (w : Lengths) × Witness-written origins s area p before after w × (r ≡ Satisfiable (w .stem) (w .cycle) K count)
+Told origins s area K (sought.Nowhere count) before after r = (after ≡ before) × (r ≡ Unsatisfiable K count)
+Told origins s area K sought.NoRoom before after r = (after ≡ before) × (r ≡ Refused 15)
 
 -- the witness buffer after a verdict: for MET its letters, then what was there
 abbrev pub leaves : Verdict → List ℕ → List ℕ
 leaves (Verdict.unread why) l = l
 leaves (Verdict.refused c) l = l
-leaves (Verdict.satisfiable stem cycle K P letters) l = letters ++ drop (stem + cycle) l
+leaves (Verdict.satisfiable stem cycle K c letters) l = letters ++ drop (stem + cycle) l
 leaves (Verdict.unsatisfiable K P) l = l
 
 -- The answer to a verdict, and what it leaves in the witness buffer.
@@ -77,9 +79,17 @@ pub record Answers (v : Verdict) (before after : List ℕ) (r : code.Verdict) : 
   pub answered : r ≡ says v
   pub buffered : after ≡ leaves v before
 
--- the definition's verdict once K and P fit
+-- the accepting profile that the definition finds, if any
+abbrev pub found-in : Table → Option (Item Transition literal.Profile)
+found-in t = first (literal.accepting t) (literal.profiles t (nodes t))
+
+-- how many profiles the definition counts
+abbrev pub needed : Table → ℕ
+needed t = length (counted (found-in t) (literal.profiles t (nodes t)))
+
+-- the definition's verdict once K and these fit
 abbrev pub concluded : Table → Verdict
-concluded t = conclude (nodes t) (literal.profiles t (nodes t)) (first (literal.accepting t) (literal.profiles t (nodes t)))
+concluded t = conclude (nodes t) (counted (found-in t) (literal.profiles t (nodes t))) (found-in t)
 
 -- The area changed at most in its first n bytes.
 pub record Within (n : ℕ) (before after : List ℕ) : Type 0 where

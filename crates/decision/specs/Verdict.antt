@@ -8,7 +8,7 @@ use lib.Dec.{leb}
 use lib.ListN.{length}
 use Rattle.base.specs.Ask.{ask}
 use Rattle.base.specs.Lists.{first}
-use Rattle.base.specs.Search.{Item}
+use Rattle.base.specs.Search.{Item, within}
 use Rattle.letters.specs.Requirements.{letter-of}
 use Rattle.formula.specs.Formula.{Formula}
 use Rattle.formula.specs.Table.{Table, table}
@@ -19,11 +19,11 @@ use Rattle.tableau.specs.Transition.{Transition, letter}
 use Rattle.tableau.specs.Nodes.{nodes}
 use Rattle.profile.specs.Profiles.{Profile, profiles, rejecting, accepting}
 
--- A refusal of reading; 11 to 15; MET with the lengths of stem and cycle, K, P and the letters; NOT with K and P.
+-- A refusal of reading; 11 to 15; MET with the lengths of stem and cycle, K, c of the cycle's length and the letters; NOT with K and P.
 pub data Verdict : Type 0 where
   unread : Refusal → Verdict
   refused : (code : ℕ) → Verdict
-  satisfiable : (stem cycle K P : ℕ) (letters : List ℕ) → Verdict
+  satisfiable : (stem cycle K c : ℕ) (letters : List ℕ) → Verdict
   unsatisfiable : (K P : ℕ) → Verdict
 
 -- the way by which the search came to a node: none is shorter
@@ -31,22 +31,30 @@ abbrev pub stem-to : Subset → List (Item Transition Subset) → List Transitio
 stem-to v [] = []
 stem-to v (n ∷ ns) = let r = stem-to v ns in cond (same-subset v (n .at)) (n .way) r
 
--- MEANING 5.3, given the accepting profile that was found, if any: its way is the cycle
-abbrev pub conclude : List (Item Transition Subset) → List (Item Transition Profile) → Option (Item Transition Profile) → Verdict
-conclude ns ps none = Verdict.unsatisfiable (length ns) (length ps)
-conclude ns ps (some x) =
-    let stem = stem-to (x .at .first) ns in
-    Verdict.satisfiable (length stem) (length (x .way)) (length ns) (length ps) (map letter (stem ++ x .way))
+-- The profiles that a verdict counts, and needs room for: all of them, or where an accepting one was found, those of runs that are no
+-- longer than the cycle; their number is then c of l (document 02), l being the cycle's length.
+abbrev pub counted : Option (Item Transition Profile) → List (Item Transition Profile) → List (Item Transition Profile)
+counted none ps = ps
+counted (some x) ps = within (length (x .way)) ps
 
--- The questions 14 and 15, and then the first accepting profile. Profiles come in order of their runs' lengths.
+-- MEANING 5.3, given these and the accepting profile that was found, if any: its way is the cycle
+abbrev pub conclude : List (Item Transition Subset) → List (Item Transition Profile) → Option (Item Transition Profile) → Verdict
+conclude ns qs none = Verdict.unsatisfiable (length ns) (length qs)
+conclude ns qs (some x) =
+    let stem = stem-to (x .at .first) ns in
+    Verdict.satisfiable (length stem) (length (x .way)) (length ns) (length qs) (map letter (stem ++ x .way))
+
+-- The questions 14 and 15, and then the first accepting profile. Profiles come in order of their runs' lengths, so its cycle is a shortest.
 unfoldable pub decide : (N M : ℕ) → Table → Verdict
 unfolding letter-of nodes profiles rejecting
 decide N M t =
     let ns = nodes t in
     let ps = profiles t ns in
+    let found = first (accepting t) ps in
+    let qs = counted found ps in
     ask (leb (length ns) N) (Verdict.refused 14)
-    (ask (leb (length ps) M) (Verdict.refused 15)
-    (conclude ns ps (first (accepting t) ps)))
+    (ask (leb (length qs) M) (Verdict.refused 15)
+    (conclude ns qs found))
 
 -- whether a number is in a range, its ends included
 abbrev pub between : ℕ → ℕ → ℕ → Bool

@@ -1,24 +1,17 @@
 // The decision: whether any lasso meets a formula, with a shortest witness.
+use cycle_search::Sought;
 use formula::Outcome;
 use formula::Refusal;
 use formula::Table;
 use profile_search::Store;
-use traces::Ranks;
 ghost use mathlib.Core.Path.{_≡_};
-ghost use Prim.Native.Nat.{ℕ, _+_, _*_, _≤_, _<_};
+ghost use Prim.Native.Nat.{_≤_};
 ghost use lib.ListN.{length};
-ghost use Rattle.base.specs.Bits.{bit};
-ghost use Rattle.base.specs.Lists.{range, first};
 ghost use Rattle.tableau.specs.Inner.{table-of};
-ghost use Rattle.profile_tables.specs.Runs.{profiles};
-ghost use Rattle.traces.specs.Inner.{fix-rank, Ranked};
-ghost use Rattle.profile_search.specs.Stored.{record-of, Store-fits, Grown};
-ghost use Rattle.profile_search.specs.Singles.{Search-input, nodes-in};
 ghost use Rattle.decision.specs.Verdict.{between, within-capacity, workspace-size, witness-size};
 ghost use Rattle.decision.specs.Lends.{Lends, ToLend};
 ghost use Rattle.decision.specs.Contract.{Decided};
-ghost use Rattle.decision.specs.Searched.{number-in, accepts, Decoded, Profiled, Answers, concluded, Searched, Settled};
-ghost use Rattle.decision.specs.Searched.{Store-placed};
+ghost use Rattle.decision.specs.Searched.{Decoded, Store-placed, Ready, Told, Searched, Settled};
 
 pub enum Verdict {
     Satisfiable {
@@ -84,94 +77,34 @@ pub fn witness_size(n: usize, m: usize) -> usize
     0
 }
 
-// The accepting cycle of the profile with this number, or none.
-enum Cycle {
-    Accepting(usize),
-    None,
-}
-
-// Whether profile p is that of an accepting cycle, where the mask has the least fixpoints.
-fn is_accepting(area: &[u8], store: Store, p: usize, mask: u8) -> bool
-    requires { ⌜ Store-fits store (length (now area)) ⌝ }
-    requires { ⌜ p < store .capacity ⌝ }
-    ensures { λ r. ⌜ r ≡ accepts (bit mask) (store .n) (record-of store (now (area .entry)) p) ⌝ }
-{
-    let e = profile_search::header_of(area, store, p);
-    if e.first.0 != e.last.0 {
-        return false;
-    }
-    !triples::is_rejecting(area, profile_search::record_start(store, p), mask, store.n)
-}
-
-// The first such profile.
-fn accepting(area: &[u8], store: Store, count: usize, mask: u8) -> Cycle
-    requires { ⌜ Store-fits store (length (now area)) ⌝ }
-    requires { ⌜ count ≤ store .capacity ⌝ }
-    ensures { λ r. ⌜ number-in r ≡ first (λ p. accepts (bit mask) (store .n) (record-of store (now (area .entry)) p)) (range 0 count) ⌝ }
-{
-    let mut p = 0;
-    while p < count {
-        if is_accepting(area, store, p, mask) {
-            return Cycle::Accepting(p);
-        }
-        p += 1;
-    }
-    Cycle::None
-}
-
-// The answer once all profiles are found: for the first accepting one the stem to its first node, then its letters.
+// The answer to what the search came to: with an accepting profile the stem to its first node is written, and then its letters.
 fn answered(
-    rows: &[u8; 144],
-    count: usize,
-    fix: &[u8; 48],
     origins: &[u16],
     area: &[u8],
     store: Store,
     nodes: usize,
-    profiles: usize,
+    found: Sought,
     letters: &mut [u16],
 ) -> Verdict
-    requires { ⌜ Profiled (now rows) count (now origins) (now area) store nodes profiles ⌝ }
-    requires { ⌜ Ranked (fix-rank (now rows)) count (now fix) ⌝ }
-    requires { ⌜ nodes + profiles ≤ length (now letters) ⌝ }
-    ensures { λ r. ⌜ Answers (concluded (table-of (now (rows .entry)) count)) (now (letters .entry)) (now (letters .exit)) r ⌝ }
+    requires { ⌜ Ready (now origins) store (now area) (length (now letters)) found ⌝ }
+    ensures { λ r. ⌜ Told (now (origins .entry)) store (now (area .entry)) nodes found (now (letters .entry)) (now (letters .exit)) r ⌝ }
 {
-    let mask = traces::least_mask(rows, count, fix);
-    match accepting(area, store, profiles, mask) {
-        Cycle::None => Verdict::Unsatisfiable {
+    match found {
+        Sought::NoRoom => Verdict::Refused(15),
+        Sought::Nowhere(profiles) => Verdict::Unsatisfiable {
             nodes: nodes,
             profiles: profiles,
         },
-        Cycle::Accepting(p) => {
-            let w = witness::write(origins, area, store, p, letters);
+        Sought::Accepting { profile, count } => {
+            let w = witness::write(origins, area, store, profile, letters);
             Verdict::Satisfiable {
                 stem: w.stem,
                 cycle: w.cycle,
                 nodes: nodes,
-                profiles: profiles,
+                profiles: count,
             }
         }
     }
-}
-
-// Writes all profiles of the nodes to the store, breadth first; how many, or capacity + 1.
-fn profiles_of(
-    rows: &[u8; 144],
-    count: usize,
-    r: Ranks,
-    store: Store,
-    area: &mut [u8],
-    nodes: usize,
-) -> usize
-    requires { ⌜ Search-input (now rows) count r store nodes (now area) ⌝ }
-    ensures { λ all. ⌜ ((fuel : ℕ) → store .capacity < fuel → Grown store 0 (now (area .entry)) all (now (area .exit))
-        (profiles fuel (table-of (now (rows .entry)) count) (nodes-in count (now (area .entry)) nodes))) ⌝ }
-{
-    let singles = profile_search::singles(rows, count, r, store, area, nodes);
-    if store.capacity < singles {
-        return singles;
-    }
-    profile_search::profiles(area, store, singles)
 }
 
 // The store behind the nodes, for profiles over n operands of next.
@@ -207,22 +140,8 @@ fn searched(
     }
     let r = traces::ranked(rows, count);
     let store = store_of(node_capacity, profile_capacity, r.nexts);
-    let profiles = profiles_of(rows, count, r, store, area, nodes);
-    if profile_capacity < profiles {
-        return Verdict::Refused(15);
-    }
-    let fix = r.fix;
-    answered(
-        rows,
-        count,
-        &fix,
-        &origins,
-        area,
-        store,
-        nodes,
-        profiles,
-        letters,
-    )
+    let found = cycle_search::search(rows, count, r, store, area, nodes);
+    answered(&origins, area, store, nodes, found, letters)
 }
 
 // The questions after reading, in their order.

@@ -1,7 +1,8 @@
 -- The profiles are exactly those of runs of one or more transitions whose first node is reachable and not the root, each once, so
 -- that P is their number; `Run` says it without search and fuel. A profile's nodes are reachable and its triples are a part of all
 -- triples, so the search's fuel is enough. The search goes by rising rank: the length of the run first, then how far its first node is
--- from the root; so each profile comes with the transitions of a shortest run that has it, of at most P transitions. Assumes nothing.
+-- from the root; so each profile comes with the transitions of a shortest run that has it. Those with runs of at most l transitions are
+-- therefore the profiles of such runs, c of l in number, and c of l is at least l where a listed run has l transitions. Assumes nothing.
 use mathlib.Core.Path.{_≡_, refl, sym, ap, subst, subst⁻¹, _∙_}
 use mathlib.Core.Bool.{_&&_}
 use mathlib.Core.List.{List, [], _∷_, _++_, map, List·Memᴰ, Memᴰ·map, Memᴰ·of-map, Memᴰ·cast}
@@ -11,11 +12,12 @@ use native.Mathlib.Nat.{mul-assoc, add-mul, one-mul, mul-one}
 use lib.Dec.{T}
 use lib.ListN.{length, length-append, length-map}
 use Rattle.base.specs.Lists.{flat-map, alike, tail}
-use Rattle.base.specs.Search.{Edge, Item, onward}
+use Rattle.base.specs.Search.{Edge, Item, onward, within}
 use Rattle.base.proofs.BoolLaws.{and-left, and-right, and-both}
 use Rattle.base.proofs.MemberLaws.{flat-map-of, flat-map-in, length-flat-map, alike-sound, alike-refl, parts, parts-length, parts-in}
 use Rattle.base.proofs.MemberLaws.{filter-part}
-use Rattle.base.proofs.SearchLaws.{Visits, Distinct, same-number, Reachable-by, search-found, search-few, search-distinct, search-short}
+use Rattle.base.proofs.SearchLaws.{Visits, Distinct, same-number, Reachable-by, search-found, search-few, search-distinct}
+use Rattle.base.proofs.WithinLaws.{within-of, within-in, within-distinct, search-short-within}
 use Rattle.base.proofs.SearchOrder.{Sorted, sorted-same, sorted-append, Rank-within, Far, search-sorted, search-near}
 use Rattle.formula.specs.Table.{Table}
 use Rattle.tableau.specs.Saturation.{Subset, same-subset}
@@ -154,13 +156,14 @@ module _ (t : Table) where
   unfolding profiles
   profiles-run {x} m = found-run x (search-found same-profile (profile-edges t) room starts m)
 
-  -- Theorem: a run that comes with a profile has at most P transitions.
-  pub profiles-short : {x : Item Transition Profile} → List·Memᴰ x (profiles t (nodes t)) → length (x .way) ≤ length (profiles t (nodes t))
+  -- Theorem: a run that comes with a profile has at most as many transitions as there are profiles of runs no longer than it.
+  pub profiles-short : {x : Item Transition Profile} → List·Memᴰ x (profiles t (nodes t))
+      → length (x .way) ≤ length (within (length (x .way)) (profiles t (nodes t)))
   unfolding profiles
   profiles-short m =
       omega (
         arith,
-        search-short same-profile (profile-edges t) 1 room starts
+        search-short-within same-profile (profile-edges t) 1 room starts
             (λ y m.
             let (n, p, q) = start-of m in
             let (s, r, e) = single-of n q in
@@ -259,3 +262,23 @@ profiles-count t xs d f g =
     let (x, m, e) = h in
     let (r, b) = profiles-run t m in
     g p (subst⁻¹ (IsProfile t) e (x .way, r, b)))
+
+-- the same of a run of at most l transitions
+abbrev pub IsProfile-within : Table → (l : ℕ) → Profile → Type 0
+IsProfile-within t l p = (ss : List Transition) × Run t p ss × Begins t (p .first) × (length ss ≤ l)
+
+-- Theorem: c of l is the number of profiles of runs of at most l transitions: every list of them that has each once has c of l elements.
+pub profiles-count-within : (t : Table) (l : ℕ) (xs : List (Item Transition Profile)) → Distinct xs
+    → ((p : Profile) → Visits p xs → IsProfile-within t l p) → ((p : Profile) → IsProfile-within t l p → Visits p xs)
+    → length xs ≡ length (within l (profiles t (nodes t)))
+profiles-count-within t l xs d f g =
+    same-number xs (within l (profiles t (nodes t))) d (within-distinct l (profiles-distinct t))
+    (λ p h.
+    let (ss, r, b, k) = f p h in
+    let (x, m, e, n) = profiles-all t r b in
+    (x, within-in l m (omega arith), e))
+    (λ p h.
+    let (x, m, e) = h in
+    let (i, k) = within-of l (profiles t (nodes t)) m in
+    let (r, b) = profiles-run t i in
+    g p (subst⁻¹ (IsProfile-within t l) e (x .way, r, b, k)))

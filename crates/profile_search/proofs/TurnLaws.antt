@@ -1,21 +1,21 @@
 -- What one turn adds: a profile followed by one of one transition (`longer-none`, `longer-one`), followed by each of them that begins where
--- it ends (`extend-start`, `extend-more`, `extend-done`), and the breadth-first search as a loop over the records (`Pending`). Assumes
+-- it ends (`extend-start`, `extend-more`, `extend-done`), and the turns of the breadth-first search over a layer of records (`Pending`). Assumes
 -- nothing.
 use mathlib.Core.Path.{_≡_, sym, ap, subst, _∙_}
 use mathlib.Core.Bool.{Bool, cond}
 use mathlib.Core.List.{List, [], _∷_}
-use Prim.Native.Nat.{ℕ, suc, _+_, _≤_, _<_}
+use Prim.Native.Nat.{ℕ, suc, _+_, _-_, _≤_, _<_}
 use native.Mathlib.Nat.{zero-add}
 use native.Mathlib.Numerals.{add-one}
 use native.Mathlib.Omega.{arith}
 use borrow.Author.Tests.{ne-eqb, eq-eqb}
 use lib.ListN.{length, getD}
 use Rattle.base.specs.Lists.{range, At}
-use Rattle.base.specs.Spread.{adds}
+use Rattle.base.specs.Spread.{adds, spread}
 use Rattle.base.proofs.AppendLaws.{flat-map-map}
-use Rattle.base.proofs.SpreadLaws.{After-turns, turns-start, turns-next, turns-done, turns-length}
+use Rattle.base.proofs.SpreadLaws.{After-turns, turns-start, turns-next, turns-length}
 use Rattle.profile_tables.specs.Triples.{Triples, join}
-use Rattle.profile_tables.specs.Runs.{Found-profile, same-profile, follow, longer, profiles-from}
+use Rattle.profile_tables.specs.Runs.{Found-profile, same-profile, follow, longer, layer}
 use Rattle.triples.specs.Inner.{triples-in}
 use Rattle.triples.proofs.CellLaws.{triples-copied}
 use Rattle.profile_search.specs.declared.Header.{Header}
@@ -126,44 +126,46 @@ module _ (s : Store) (count p : ℕ) (a : List ℕ) where
       → Profiles-added s count a all b (longer (s .n) (stored s a singles) p (record-of s a p))
   extend-done q singles h d g = grown-same (past q singles h d ∙ extended-all singles) g
 
--- p of the profiles found so far are gone on from: the loop's list after p turns is in the area
-pub record Pending (s : Store) (singles : ℕ) (a : List ℕ) (p all : ℕ) (b : List ℕ) : Type 0 where
+-- The loop over the profiles from number `from` up to number `to` has come to number p: its list is in the area.
+pub record Pending (s : Store) (singles from to : ℕ) (a : List ℕ) (p all : ℕ) (b : List ℕ) : Type 0 where
   pub so-far : List Found-profile
-  pub grown : Grown s singles a all b so-far
-  pub turns : After-turns same-profile (longer (s .n) (stored s a singles)) (stored s a singles) p so-far
+  pub grown : Grown s to a all b so-far
+  pub turns : After-turns same-profile (longer (s .n) (stored s a singles)) from (stored s a to) p so-far
 
-pub pending-start : (s : Store) (singles : ℕ) (a : List ℕ) → singles ≤ s .capacity → Chained s a singles → Pending s singles a 0 singles a
-pending-start s singles a h c = record {
-  so-far = stored s a singles;
-  grown = grown-still s singles a h c;
-  turns = turns-start same-profile (longer (s .n) (stored s a singles)) (stored s a singles);
+pub pending-start : (s : Store) (singles from to : ℕ) (a : List ℕ) → to ≤ s .capacity → Chained s a to
+    → Pending s singles from to a from to a
+pending-start s singles from to a h c = record {
+  so-far = stored s a to;
+  grown = grown-still s to a h c;
+  turns = turns-start same-profile (longer (s .n) (stored s a singles)) from (stored s a to);
 }
 
-module _ {s : Store} {singles p all : ℕ} {a b : List ℕ} (k : Pending s singles a p all b) where
+module _ {s : Store} {singles from to p all : ℕ} {a b : List ℕ} (k : Pending s singles from to a p all b) where
   abbrev onward : ℕ → Found-profile → List Found-profile
   onward = longer (s .n) (stored s a singles)
 
-  pub pending-next : {r : ℕ} {d : List ℕ} → all ≤ s .capacity → p < all
-      → Profiles-added s all b r d (longer (s .n) (stored s b singles) p (record-of s b p)) → Pending s singles a (p + 1) r d
-  pending-next {r} {d} h l g =
+  pub pending-next : {r : ℕ} {d : List ℕ} → all ≤ s .capacity → p < all → singles ≤ to
+      → Profiles-added s all b r d (longer (s .n) (stored s b singles) p (record-of s b p)) → Pending s singles from to a (p + 1) r d
+  pending-next {r} {d} h l m g =
       let x = record-of s b p in
       let there : At (k .so-far) p x = subst (λ (xs : List Found-profile). At xs p x) (k .grown .records h) (record-at s b all p l) in
       let same =
       ap (λ (os : List Found-profile). adds same-profile (stored s b all) (longer (s .n) os p x))
-      (stored-kept s b a singles (k .grown .kept)) in
+      (stored-kept s b a singles (λ i j. k .grown .kept i (omega arith))) in
       record {
         so-far = adds same-profile (k .so-far) (onward p x);
         grown = grown-then (k .grown) (onward p x) h (grown-same same g);
         turns = turns-next same-profile onward (k .turns) there;
       }
 
-  pub pending-stop : (fuel : ℕ) → s .capacity < all → p ≤ fuel → Grown s singles a all b (profiles-from fuel (s .n) (stored s a singles))
-  unfolding profiles-from
-  pending-stop fuel h l = grown-longer (k .grown) h (turns-length same-profile onward (k .turns) fuel l)
+  abbrev whole : List Found-profile
+  whole = layer (s .n) (stored s a singles) from to (stored s a to)
 
-  pub pending-done : (fuel : ℕ) → all ≤ p → p ≤ s .capacity → p ≤ fuel
-      → Grown s singles a all b (profiles-from fuel (s .n) (stored s a singles))
-  unfolding profiles-from
-  pending-done fuel h m l =
-      let few : length (k .so-far) ≤ p = omega (arith, ap length (k .grown .records (omega arith)), stored-length s b all) in
-      grown-same (sym (turns-done same-profile onward (k .turns) fuel l few)) (k .grown)
+  pub pending-stop : s .capacity < all → from ≤ to → p ≤ to → Grown s to a all b whole
+  unfolding layer
+  pending-stop h m l = grown-longer (k .grown) h (turns-length same-profile onward (k .turns) (to - from) (omega arith))
+
+  pub pending-done : p ≡ to → Grown s to a all b whole
+  unfolding layer
+  pending-done e =
+      grown-same (sym (k .turns .list-is) ∙ ap (λ (i : ℕ). spread same-profile onward (i - from) from (stored s a to)) e) (k .grown)

@@ -4,7 +4,7 @@ ghost use mathlib.Core.List.{[], _∷_};
 ghost use Prim.Native.Nat.{ℕ, _+_, _*_, _≤_, _<_};
 ghost use lib.ListN.{length, getD};
 ghost use Rattle.base.specs.Spread.{seen};
-ghost use Rattle.profile_tables.specs.Runs.{same-profile, follow, longer, profiles-from, singles-of, singles};
+ghost use Rattle.profile_tables.specs.Runs.{same-profile, follow, longer, layer, singles-of, singles};
 ghost use Rattle.tableau.specs.Inner.{table-of};
 ghost use Rattle.triples.specs.Inner.{triples-in};
 ghost use Rattle.profile_search.specs.Stored.{two, profile-of, found-of, record-start, record-of, stored, Rising, First-parted};
@@ -403,16 +403,18 @@ fn extend(area: &mut [u8], store: Store, p: usize, singles: usize, count: usize)
     all
 }
 
-// All profiles, breadth first, from those of one transition; how many, or capacity + 1.
-pub fn profiles(area: &mut [u8], store: Store, singles: usize) -> usize
-    requires { ⌜ Store-chained store (now area) singles ⌝ }
+// Adds what the profiles from number `from` up to number `to` lead to: where these are all of runs of one length, the profiles of runs that
+// are longer by one. How many there are then, or capacity + 1.
+pub fn layer(area: &mut [u8], store: Store, from: usize, to: usize, singles: usize) -> usize
+    requires { ⌜ Store-chained store (now area) to ⌝ }
     requires { ⌜ Rising store (now area) singles ⌝ }
-    ensures { λ r. ⌜ ((fuel : ℕ) → store .capacity < fuel → Grown store singles (now (area .entry)) r (now (area .exit))
-        (profiles-from fuel (store .n) (stored store (now (area .entry)) singles))) ⌝ }
+    requires { ⌜ (from ≤ to) × (singles ≤ to) ⌝ }
+    ensures { λ r. ⌜ Grown store to (now (area .entry)) r (now (area .exit))
+        (layer (store .n) (stored store (now (area .entry)) singles) from to (stored store (now (area .entry)) to)) ⌝ }
 {
-    let mut all = singles;
-    let mut p = 0;
-    while p < all {
+    let mut all = to;
+    let mut p = from;
+    while p < to {
         if store.capacity < all {
             return all;
         }

@@ -133,7 +133,8 @@ module _ (n : ℕ) where
             let r : iterate k (lap n a) (lap n a s) ≡ s = ap (iterate k (lap n a)) e ∙ iterate-stays k (lap n a) s e in
             ap (lap n a) r ∙ e ∙ sym r
 
-    rounds-sub : (k : ℕ) (s : Triples) → Sub (holds s) (holds (iterate k (lap n a) s))
+    -- rounds only add
+    pub rounds-sub : (k : ℕ) (s : Triples) → Sub (holds s) (holds (iterate k (lap n a) s))
     rounds-sub zero s f x g hf hx hg t = t
     rounds-sub (suc k) s f x g hf hx hg t = rounds-sub k (lap n a s) f x g hf hx hg (lap-sub s f x g hf hx hg t)
 

@@ -9,4 +9,5 @@ pub mod TableLaws
 pub mod FormedLaws
 pub mod NodeNumbers
 pub mod RunLaws
+pub mod LayerLaws
 pub mod AgreeLaws

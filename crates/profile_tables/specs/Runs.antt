@@ -2,7 +2,7 @@
 -- profiles of one transition. Assumes nothing.
 use mathlib.Core.Bool.{Bool, false, cond, not, _&&_}
 use mathlib.Core.List.{List, [], _∷_, _++_, map}
-use Prim.Native.Nat.{ℕ, suc}
+use Prim.Native.Nat.{ℕ, zero, suc, _-_}
 use lib.Dec.{eqb}
 use lib.ListN.{length, getD}
 use Rattle.base.specs.Lists.{flat-map, index, tail}
@@ -46,10 +46,21 @@ abbrev pub longer : ℕ → List Found-profile → ℕ → Found-profile → Lis
 unfolding join
 longer n singles p x = flat-map (follow n p x) singles
 
--- all profiles, given those of one transition
-unfoldable pub profiles-from : ℕ → ℕ → List Found-profile → List Found-profile
+-- what is found from those of one transition, going on from k of them one after the other; with k for fuel enough, all profiles
+unfoldable pub profiles-from : (k n : ℕ) → List Found-profile → List Found-profile
 unfolding join
-profiles-from fuel n singles = spread same-profile (longer n singles) fuel 0 singles
+profiles-from k n singles = spread same-profile (longer n singles) k 0 singles
+
+-- the same where the first p of the profiles xs are gone on from, and then those up to number q
+unfoldable pub layer : (n : ℕ) → List Found-profile → (p q : ℕ) → List Found-profile → List Found-profile
+unfolding join
+layer n singles p q xs = spread same-profile (longer n singles) (q - p) p xs
+
+-- how many profiles there are of runs of at most l transitions: those of l + 1 are there once all of at most l are gone on from
+abbrev pub count-within : (n : ℕ) → List Found-profile → (l : ℕ) → ℕ
+unfolding profiles-from
+count-within n singles zero = 0
+count-within n singles (suc l) = length (profiles-from (count-within n singles l) n singles)
 
 -- the number of a node
 abbrev pub number-of : List Subset → Subset → ℕ
@@ -79,10 +90,10 @@ unfoldable pub singles : Table → List Subset → List Found-profile
 unfolding triples transitions
 singles t ns = adds same-profile [] (singles-from t ns 1 (tail ns))
 
--- all profiles
-unfoldable pub profiles : ℕ → Table → List Subset → List Found-profile
+-- the profiles, given the nodes, after k turns
+unfoldable pub profiles : (k : ℕ) → Table → List Subset → List Found-profile
 unfolding singles profiles-from
-profiles fuel t ns = profiles-from fuel (length (operands t)) (singles t ns)
+profiles k t ns = profiles-from k (length (operands t)) (singles t ns)
 
 -- back to its first node, and not rejecting
 unfoldable pub accepting : Table → Found-profile → Bool

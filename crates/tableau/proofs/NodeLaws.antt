@@ -14,7 +14,8 @@ use Rattle.base.specs.Lists.{tail}
 use Rattle.base.specs.Search.{Edge, Item, onward}
 use Rattle.base.proofs.MemberLaws.{parts, parts-length, parts-in}
 use Rattle.base.proofs.SearchLaws.{Visits, visits-cons, Distinct, Reachable-by, same-number, search-found, search-first, search-distinct}
-use Rattle.base.proofs.SearchLaws.{search-few, search-short}
+use Rattle.base.proofs.SearchLaws.{search-few}
+use Rattle.base.proofs.WithinLaws.{search-short}
 use Rattle.base.proofs.SearchOrder.{Sorted, sorted-same, Rank-within, Far, search-sorted, search-near}
 use Rattle.base.proofs.Inside.{inside-length}
 use Rattle.formula.specs.Formula.{Formula}

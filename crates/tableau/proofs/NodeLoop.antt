@@ -182,7 +182,7 @@ module _ {rows : List ℕ} {count i from known capacity all x : ℕ} {area₀ o�
 -- the loop over the nodes: the search after i turns is in the area
 pub record Finding (rows : List ℕ) (count capacity known i : ℕ) (a area o : List ℕ) : Type 0 where
   pub found : List Reached-node
-  pub turns : After-turns same-subset (onward-from (table-of rows count)) (root-reached (table-of rows count) ∷ []) i found
+  pub turns : After-turns same-subset (onward-from (table-of rows count)) 0 (root-reached (table-of rows count) ∷ []) i found
   pub sized : Reached-sized (length (table-of rows count)) found
   pub others : (j : ℕ) (x : Reached-node) → At found j x → 0 < j → 0 < x .parent
   pub keeps : Nodes-noted capacity known a area o (map worded found)
@@ -210,7 +210,7 @@ find-start {rows} {count} {capacity} {known} {a} {o₀} number f e ad =
     } in
     record {
       found = root-reached t ∷ [];
-      turns = turns-start same-subset (onward-from t) (root-reached t ∷ []);
+      turns = turns-start same-subset (onward-from t) 0 (root-reached t ∷ []);
       sized = λ x m. ap (λ (y : Reached-node). length (y .at)) (List·Memᴰ·eq-of-singleton m) ∙ root-length t;
       others = λ j x b h. absurd (let l = at-lt b in omega arith);
       keeps = ad .is [] (worded (root-reached t)) a is-root (keeps-none capacity a o₀) (λ y m. absurd (List·Memᴰ·not-nil m));

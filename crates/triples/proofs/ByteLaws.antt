@@ -7,7 +7,7 @@ use Prim.Native.Nat.{ℕ, _+_, _-_, _/_, _^_, _≤_, _<_, min}
 use native.Mathlib.Omega.{arith}
 use native.Mathlib.Decide.{decLt}
 use lib.Dec.{T, leb, leb→le, le→leb}
-use lib.Bits.{bitAnd, bitOr, and-le-l}
+use lib.Bits.{bitAnd, bitOr, and-le-r}
 use Rattle.base.specs.Bits.{bit}
 use Rattle.base.proofs.BoolLaws.{and-left, and-right, and-both, or-cases, or-left, or-right}
 use Rattle.base.proofs.TestLaws.{not-of-T, same-truth}
@@ -156,7 +156,7 @@ met-none w mask e =
     let (x, l, p) = some-of 8 (λ x. bit mask x && bit w x) h in
     subst T (sym (met-and w mask x) ∙ ap (λ (v : ℕ). bit v x) e ∙ no-bit x) p)
 
-pub met-some : (w mask : ℕ) → w < 2 ^ 8 → (bitAnd w mask ≡ 0 → ⊥) → met w mask ≡ true
+pub met-some : (w mask : ℕ) → mask < 2 ^ 8 → (bitAnd w mask ≡ 0 → ⊥) → met w mask ≡ true
 met-some w mask h d = go (met w mask) refl
   where
     go : (t : Bool) → met w mask ≡ t → t ≡ true
@@ -164,7 +164,7 @@ met-some w mask h d = go (met w mask) refl
     go false e =
         absurd
         (d
-        (same-low-bits 8 (bitAnd w mask) 0 (omega (arith, and-le-l w mask)) (omega arith)
+        (same-low-bits 8 (bitAnd w mask) 0 (omega (arith, and-le-r w mask)) (omega arith)
         (λ k l.
         not-of-T (bit (bitAnd w mask) k)
         (λ p. subst T e (some-in 8 (λ x. bit mask x && bit w x) k l (subst T (met-and w mask k) p)))

@@ -1,4 +1,4 @@
--- Sets of triples in bytes: copied and compared byte by byte, joined until a lap adds nothing. Assumes nothing.
+-- Sets of triples in bytes: copied and compared byte by byte, joined until they lead back or a lap adds nothing. Assumes nothing.
 use mathlib.Core.Path.{_≡_, refl, sym, ap, subst, subst⁻¹, _∙_}
 use mathlib.Core.Bool.{Bool, true, false, _&&_}
 use mathlib.Core.List.{List}
@@ -13,11 +13,13 @@ use lib.ListN.{length, getD, set}
 use lib.Seq.{getD-set-same, getD-set-other}
 use Rattle.base.specs.Lists.{iterate}
 use Rattle.base.specs.Bits.{bit}
-use Rattle.base.proofs.BoolLaws.{of-T, to-T}
+use Rattle.base.proofs.BoolLaws.{of-T, to-T, and-left, and-right, and-both}
 use Rattle.base.proofs.ListLaws.{iterate-stays}
 use Rattle.profile_tables.specs.Triples.{Triples, some, holds, same-triples, join, either, lap, laps, rejecting}
-use Rattle.profile_tables.proofs.TriplesLaws.{some-in, some-same, holds-those, those-same, same-those, other-those, same-triples-sound}
-use Rattle.triples.specs.Inner.{bytes, bytes-from, bits, triples-in, triples-at, Same-row, Decides}
+use Rattle.profile_tables.proofs.TriplesLaws.{some-of, some-in, some-same, holds-those, those-same, same-those, other-those}
+use Rattle.profile_tables.proofs.TriplesLaws.{same-triples-sound}
+use Rattle.profile_tables.proofs.LapsLaws.{rounds-sub}
+use Rattle.triples.specs.Inner.{bytes, bytes-from, bits, triples-in, triples-at, Same-row, Decides, leads-back}
 use Rattle.triples.proofs.ByteLaws.{met, met-none, met-some}
 
 -- bytes at a place and from 0 on
@@ -76,41 +78,65 @@ module _ (n : ℕ) (a : List ℕ) where
       ∙ ap (λ (k : ℕ). iterate k (lap n base) (triples-in n m)) {x = left} {y = suc left - 1} (omega arith)
   laps-more s m zero h e q = absurd (omega arith)
 
-  pub laps-still : (s m : List ℕ) (left : ℕ) → On-way s left → Lapped s m → n ≤ 12 → true ≡ same-triples (triples-at n m 0) (triples-in n s)
+  pub laps-still : (s m : List ℕ) (left : ℕ) {r : Bool} → On-way s left → Lapped s m → n ≤ 12
+      → r ≡ same-triples (triples-at n m 0) (triples-in n s)
+      → r ≡ true
       → triples-in n s ≡ laps n base
   unfolding lap
-  laps-still s m left e q h same =
+  laps-still s m left e q h same t =
       let still : triples-in n m ≡ triples-in n s =
       triples-at-0 n m h ∙ same-triples-sound (triples-at n m 0) (triples-in n s)
-      (to-T (same-triples (triples-at n m 0) (triples-in n s)) (sym same)) in
+      (to-T (same-triples (triples-at n m 0) (triples-in n s)) (sym same ∙ t)) in
       sym (e ∙ iterate-stays left (lap n base) (triples-in n s) (sym q ∙ still))
 
   pub laps-end : (s : List ℕ) (left : ℕ) → left ≤ 0 → On-way s left → triples-in n s ≡ laps n base
   laps-end s zero h e = sym e
   laps-end s (suc left) h e = absurd (omega arith)
 
+  -- if s leads back, the laps do: they hold all that s holds
+  pub laps-back : (least : ℕ → Bool) (s : List ℕ) (left : ℕ) → On-way s left → leads-back least n (triples-in n s) ≡ true
+      → true ≡ rejecting least n base
+  unfolding rejecting
+  laps-back least s left e h =
+      let (f, hf, u) = some-of n (λ f. some 8 (by (triples-in n s) f)) (to-T (leads-back least n (triples-in n s)) h) in
+      let (x, hx, v) = some-of 8 (by (triples-in n s) f) u in
+      let t = rounds-sub n base left (triples-in n s) f x f hf hx hf (and-right (least x) (holds (triples-in n s) f x f) v) in
+      sym
+      (of-T (rejecting least n base)
+      (some-in n (λ f. some 8 (by (laps n base) f)) f hf
+      (some-in 8 (by (laps n base) f) x hx
+      (and-both (least x) (holds (laps n base) f x f) (and-left (least x) (holds (triples-in n s) f x f) v)
+      (subst⁻¹ (λ (l : Triples). T (holds l f x f)) e t)))))
+    where
+      by : Triples → (f x : ℕ) → Bool
+      by l f x = least x && holds l f x f
+
+  -- once s is the laps, its own answer counts
+  pub laps-answer : (least : ℕ → Bool) (s : List ℕ) (r : Bool) → triples-in n s ≡ laps n base → r ≡ leads-back least n (triples-in n s)
+      → r ≡ rejecting least n base
+  unfolding rejecting
+  laps-answer least s r e h = h ∙ ap (leads-back least n) e
+
 pub square : (n : ℕ) → n ≤ 12 → n * n ≤ 144
 square n h = omega (arith, mul-le-mul-right n h)
 
--- rejecting, by the diagonal of the laps
+-- leading back, by the bytes of the diagonal
 abbrev pub diagonal : List ℕ → (mask : ℕ) → ℕ → Bool
 diagonal s mask f = met (bytes s (f * 12 + f)) mask
 
-module _ (n mask : ℕ) (a : Triples) (s : List ℕ) (e : triples-in n s ≡ laps n a) where
-  pub rejecting-diagonal : rejecting (bit mask) n a ≡ some n (diagonal s mask)
-  unfolding rejecting
-  rejecting-diagonal =
-      ap (λ (l : Triples). some n (λ f. some 8 (λ x. bit mask x && holds l f x f))) (sym e)
-      ∙ some-same n (λ f. some 8 (λ x. bit mask x && holds (triples-in n s) f x f)) (diagonal s mask)
+module _ (n mask : ℕ) (s : List ℕ) where
+  pub back-diagonal : leads-back (bit mask) n (triples-in n s) ≡ some n (diagonal s mask)
+  back-diagonal =
+      some-same n (λ f. some 8 (λ x. bit mask x && holds (triples-in n s) f x f)) (diagonal s mask)
       (λ f hf.
       some-same 8 (λ x. bit mask x && holds (triples-in n s) f x f) (λ x. bit mask x && bits (bytes s) f x f)
       (λ x hx. ap (λ (t : Bool). bit mask x && t) (holds-those n (bits (bytes s)) f x f hf hx hf)))
 
-  pub rejecting-found : (f : ℕ) → f < n → bytes s (f * 12 + f) < 2 ^ 8 → (bitAnd (bytes s (f * 12 + f)) mask ≡ 0 → ⊥)
-      → true ≡ rejecting (bit mask) n a
-  rejecting-found f h b d =
+  pub back-found : (f : ℕ) → f < n → mask < 2 ^ 8 → (bitAnd (bytes s (f * 12 + f)) mask ≡ 0 → ⊥)
+      → true ≡ leads-back (bit mask) n (triples-in n s)
+  back-found f h b d =
       sym
-      (rejecting-diagonal
+      (back-diagonal
       ∙ of-T (some n (diagonal s mask))
       (some-in n (diagonal s mask) f h (to-T (diagonal s mask f) (met-some (bytes s (f * 12 + f)) mask b d))))
 

@@ -8,7 +8,7 @@ use Prim.Native.Nat.{ℕ, _+_, _*_, _≤_, _<_}
 use lib.Dec.{leb}
 use lib.ListN.{getD}
 use Rattle.base.specs.Bits.{bit}
-use Rattle.profile_tables.specs.Triples.{Triples, those, some, smaller}
+use Rattle.profile_tables.specs.Triples.{Triples, those, some, smaller, holds}
 
 -- the bytes of a list
 abbrev pub bytes : List ℕ → ℕ → ℕ
@@ -54,6 +54,10 @@ pub record Row-with (t : List ℕ) (f k : ℕ) (q : (x g : ℕ) → Bool) (u : L
 -- row f has the same bits in its first k columns
 abbrev pub Same-row : List ℕ → (at : ℕ) → List ℕ → (f k : ℕ) → Type 0
 Same-row l at t f k = (g : ℕ) → g < k → Bits (bytes-from l at (f * 12 + g)) (bit (bytes t (f * 12 + g)))
+
+-- some operand leads back to itself with a priority that a test says
+abbrev pub leads-back : (ℕ → Bool) → ℕ → Triples → Bool
+leads-back least n s = some n (λ f. some 8 (λ x. least x && holds s f x f))
 
 -- a Bool that says whether a statement holds
 pub record Decides (b : Bool) (P : Type 0) : Type 0 where

@@ -4,8 +4,8 @@ ghost use mathlib.Core.Path.{_≡_};
 ghost use Prim.Native.Nat.{ℕ, _+_, _≤_, _<_};
 ghost use lib.ListN.{length, getD};
 ghost use Rattle.base.specs.Bits.{bit};
-ghost use Rattle.profile_tables.specs.Triples.{smaller, same-triples, join, either, laps, rejecting};
-ghost use Rattle.triples.specs.Inner.{triples-in, triples-at, Bits, above, one-way, by-way, Row-with, Same-row, Decides};
+ghost use Rattle.profile_tables.specs.Triples.{smaller, same-triples, join, either, rejecting};
+ghost use Rattle.triples.specs.Inner.{triples-in, triples-at, Bits, above, one-way, by-way, Row-with, Same-row, Decides, leads-back};
 
 // The priorities with all smaller ones.
 fn down(w: u8) -> u8
@@ -127,37 +127,40 @@ pub fn same_triples(area: &[u8], at: usize, t: &[u8; 144], n: usize) -> bool
     true
 }
 
-// Joined any number of times.
-fn all_laps(a: &[u8; 144], n: usize) -> [u8; 144]
+// Whether some operand leads back to itself with a priority of the mask.
+fn leads_back(a: &[u8; 144], mask: u8, n: usize) -> bool
     requires { ⌜ n ≤ 12 ⌝ }
-    ensures { λ r. ⌜ triples-in n r ≡ laps n (triples-in n (now (a .entry))) ⌝ }
+    ensures { λ r. ⌜ r ≡ leads-back (bit mask) n (triples-in n (now (a .entry))) ⌝ }
 {
-    let mut sum = *a;
-    let mut left = 8 * (n * n);
-    while 0 < left {
-        let more = joined_or(&sum, &sum, a, n);
-        if same_triples(&more, 0, &sum, n) {
-            return sum;
-        }
-        sum = more;
-        left -= 1;
-    }
-    sum
-}
-
-// Whether the triples at a place, joined any number of times, lead from some operand back to it with a priority of the mask.
-pub fn is_rejecting(area: &[u8], at: usize, mask: u8, n: usize) -> bool
-    requires { ⌜ (n ≤ 12) × (at + 144 ≤ length (now area)) ⌝ }
-    ensures { λ r. ⌜ r ≡ rejecting (bit mask) n (triples-at n (now (area .entry)) at) ⌝ }
-{
-    let a = copied(area, at);
-    let sum = all_laps(&a, n);
     let mut f = 0;
     while f < n {
-        if sum[f * 12 + f] & mask != 0 {
+        if a[f * 12 + f] & mask != 0 {
             return true;
         }
         f += 1;
     }
     false
+}
+
+// Whether the triples at a place, joined any number of times, lead from some operand back to it with a priority of the mask. Those that
+// do mostly show it after few laps, so it stops at the first lap that does.
+pub fn is_rejecting(area: &[u8], at: usize, mask: u8, n: usize) -> bool
+    requires { ⌜ (n ≤ 12) × (at + 144 ≤ length (now area)) ⌝ }
+    ensures { λ r. ⌜ r ≡ rejecting (bit mask) n (triples-at n (now (area .entry)) at) ⌝ }
+{
+    let a = copied(area, at);
+    let mut sum = a;
+    let mut left = 8 * (n * n);
+    while 0 < left {
+        if leads_back(&sum, mask, n) {
+            return true;
+        }
+        let more = joined_or(&sum, &sum, &a, n);
+        if same_triples(&more, 0, &sum, n) {
+            return false;
+        }
+        sum = more;
+        left -= 1;
+    }
+    leads_back(&sum, mask, n)
 }

@@ -15,17 +15,18 @@ use Rattle.profile_search.specs.declared.Store.{Store}
 use Rattle.profile_search.proofs.GrowLaws.{stored-length, record-at}
 use Rattle.witness.specs.Letters.{cycle-letters}
 
-module _ (s : Store) (area : List ℕ) (P : ℕ) {t : Table} {ys : List Item-listed} (a : Profiles-agree t (stored s area P) ys) where
-  stands : (i : ℕ) → i < length (stored s area P) → At (stored s area P) i (record-of s area i)
-  stands i h = record-at s area P i (omega (arith, stored-length s area P))
+module _ (s : Store) (area : List ℕ) (count : ℕ) {t : Table} {ys : List Item-listed} (a : Profiles-agree t (stored s area count) ys) where
+  stands : (i : ℕ) → i < length (stored s area count) → At (stored s area count) i (record-of s area i)
+  stands i h = record-at s area count i (omega (arith, stored-length s area count))
 
   -- profile i and its counterpart
-  abbrev pub counterpart : (i : ℕ) → i < P → Agreed t ys i (record-of s area i)
-  counterpart i h = a .each i (record-of s area i) (record-at s area P i h)
+  abbrev pub counterpart : (i : ℕ) → i < count → Agreed t ys i (record-of s area i)
+  counterpart i h = a .each i (record-of s area i) (record-at s area count i h)
 
-  pub agreed-linked : (p : ℕ) → p < P → Linked (record-of s area) (suc p)
-  agreed-linked p h i l = a .linked (record-of s area) stands i (omega (arith, stored-length s area P))
+  pub agreed-linked : (p : ℕ) → p < count → Linked (record-of s area) (suc p)
+  agreed-linked p h i l = a .linked (record-of s area) stands i (omega (arith, stored-length s area count))
 
   -- Theorem: the letters along the profiles are those of the way.
-  pub cycle-is : (p : ℕ) (h : p < P) → cycle-letters s area p ≡ letters-of (counterpart p h .item)
-  cycle-is p h = a .letters (record-of s area) stands p (counterpart p h .item) (counterpart p h .stands)
+  pub cycle-is : (p : ℕ) (h : p < count) → cycle-letters s area p ≡ letters-of (counterpart p h .item)
+  cycle-is p h =
+      a .letters (record-of s area) stands p (counterpart p h .item) (counterpart p h .stands) (omega (arith, stored-length s area count))

@@ -1,11 +1,11 @@
--- `decision::searched` builds the nodes and, if there is room for them, the profiles behind them. Where there is room for these too, they
--- and the notes of the nodes are all that the answer is made from.
+-- `decision::searched` builds the nodes and, if there is room for them, searches the profiles behind them. What that comes to and the notes
+-- of the nodes are all that the answer is made from.
 use Prim.Native.Nat.{ℕ}
 use mathlib.Core.List.{List}
 use lib.ListN.{length}
 use native.Mathlib.Omega.{arith}
 use borrow.Author.Needs.{needs}
-use Rattle.decision.proofs.SearchedLaws.{nodes-14, Store-behind, given, profiles-15, all-profiled, buffer-room, answer-on}
+use Rattle.decision.proofs.SearchedLaws.{nodes-14, Store-behind, given, answer-ready, answer-on}
 use Rattle.decision.proofs.searched.Statement.{statement}
 use Rattle.decision.proofs.searched.Tie as tie
 
@@ -58,43 +58,28 @@ behind c =
       store-is = c .store-of .ensures;
     }
 
-profiles-of-requires : tie.Need-profiles-of-requires
-profiles-of-requires c κs = given (behind (c .before))
-
-same-length-2 : tie.Need-same-length-2
-same-length-2 c = search needs
-
-returns-2 : tie.Need-returns-2
-returns-2 c =
-    let profiles-of = c .before .before .before in
-    let store-of = profiles-of .before .before in
-    let start = store-of .before .before .before .before .before .before .before .before .before .before .before in
-    profiles-15 (behind store-of) (profiles-of .profiles-of .ensures) (c .if2 .taken) (start .args .letters .now)
+search-requires : tie.Need-search-requires
+search-requires c κs = given (behind (c .before))
 
 slice-aggregate-answered : tie.Need-slice-aggregate-answered
 slice-aggregate-answered c = search needs
 
 answered-requires : tie.Need-answered-requires
 answered-requires c κs =
-    let if2 = c .before .before .before .before .before in
-    let profiles-of = if2 .before .before .before in
-    let b = behind (profiles-of .before .before) in
-    let g = profiles-of .profiles-of .ensures in
-    (all-profiled b g (omega (arith, if2 .if2 .left)), (b .ranks .fix-is, buffer-room b g (omega (arith, if2 .if2 .left))))
+    let search = c .before .before .before .before .before in
+    answer-ready (behind (search .before .before)) (search .search .ensures .0) (search .search .ensures .1)
+
+same-length-2 : tie.Need-same-length-2
+same-length-2 c = search needs
 
 same-length-3 : tie.Need-same-length-3
 same-length-3 c = search needs
 
-same-length-4 : tie.Need-same-length-4
-same-length-4 c = search needs
-
-returns-3 : tie.Need-returns-3
-returns-3 c =
-    let answered = c .before .before in
-    let if2 = answered .before .before .before .before .before .before in
-    let profiles-of = if2 .before .before .before in
-    answer-on (behind (profiles-of .before .before)) (profiles-of .profiles-of .ensures) (omega (arith, if2 .if2 .left))
-    (answered .answered .ensures)
+returns-2 : tie.Need-returns-2
+returns-2 c =
+    let answered = c .before .before .answered in
+    let search = c .before .before .before .before .before .before .before .before in
+    answer-on (behind (search .before .before)) (search .search .ensures .0) (search .search .ensures .1) (answered .ensures)
 
 pub searched-spec : {M : Type 1} → statement M
 searched-spec =
@@ -106,11 +91,9 @@ searched-spec =
     returns
     ranked-requires
     store-of-requires
-    profiles-of-requires
-    same-length-2
-    returns-2
+    search-requires
     slice-aggregate-answered
     answered-requires
+    same-length-2
     same-length-3
-    same-length-4
-    returns-3)
+    returns-2)

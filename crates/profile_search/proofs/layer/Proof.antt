@@ -1,4 +1,4 @@
--- `profile_search::profiles` goes on from each record in turn. The invariant: the search after p turns is in the area.
+-- `profile_search::layer` goes on from each record of a layer in turn. The invariant: what the search has found up to number p is in the area.
 use mathlib.Core.Path.{subst⁻¹}
 use mathlib.Core.List.{List}
 use Prim.Native.Nat.{ℕ, _+_, _-_, _≤_}
@@ -8,28 +8,26 @@ use Rattle.profile_search.proofs.RisingLaws.{rising-kept}
 use Rattle.profile_search.proofs.TurnLaws.{Pending, pending-start, pending-next, pending-stop, pending-done}
 use native.Mathlib.Omega.{arith}
 use borrow.Author.Needs.{needs}
-use Rattle.profile_search.proofs.profiles.Statement.{statement}
-use Rattle.profile_search.proofs.profiles.Tie as tie
+use Rattle.profile_search.proofs.layer.Statement.{statement}
+use Rattle.profile_search.proofs.layer.Tie as tie
 
--- after p turns
-record Turned (s : Store) (singles : ℕ) (a b : List ℕ) (all p : ℕ) : Type 0 where
-  few : p ≤ s .capacity
-  turn : p ≤ all
-  pending : Pending s singles a p all b
+-- the loop has come to number p
+record Turned (s : Store) (singles from to : ℕ) (a b : List ℕ) (all p : ℕ) : Type 0 where
+  turn : p ≤ to
+  pending : Pending s singles from to a p all b
 
 abbrev Inv-loop : tie.InvT-loop
-Inv-loop area₀ store singles all₀ p₀ area all p = Turned store singles area₀ area all p
+Inv-loop area₀ store from to singles all₀ p₀ area all p = Turned store singles from to area₀ area all p
 
 abbrev μ-loop : tie.MeasureT-loop
-μ-loop area₀ store singles all₀ p₀ area all p = store .capacity + 1 - p
+μ-loop area₀ store from to singles all₀ p₀ area all p = to - p
 
 loop-holds : tie.Need-loop-holds Inv-loop μ-loop
 loop-holds c =
     let start = c .before in
     record {
-      few = omega arith;
-      turn = omega arith;
-      pending = pending-start _ _ _ (start .pre .0 .room) (start .pre .0 .chained);
+      turn = start .pre .1 .1 .0;
+      pending = pending-start _ _ _ _ _ (start .pre .0 .room) (start .pre .0 .chained);
     }
 
 same-length : tie.Need-same-length Inv-loop μ-loop
@@ -40,7 +38,8 @@ same-length c =
 returns : tie.Need-returns Inv-loop μ-loop
 returns c =
     let loop = c .before .before .before .loop in
-    λ fuel h. pending-stop (loop .inv .pending) fuel (c .if1 .taken) (omega arith)
+    let start = c .before .before .before .before .before in
+    pending-stop (loop .inv .pending) (c .if1 .taken) (start .pre .1 .1 .0) (loop .inv .turn)
 
 extend-requires : tie.Need-extend-requires Inv-loop μ-loop
 extend-requires c κs =
@@ -55,7 +54,10 @@ extend-requires c κs =
         room = if1 .left;
         chained = grown .chained (if1 .left);
       },
-      (rising-kept (s .store) (s .area .now) (loop .area) (grown .kept) (start .pre .1), (test .taken, grown .more)),
+      (
+        rising-kept (s .store) (s .area .now) (loop .area) (λ i h. grown .kept i (omega (arith, start .pre .1 .1 .1))) (start .pre .1 .0),
+        (omega (arith, test .taken, grown .more), omega (arith, start .pre .1 .1 .1, grown .more)),
+      ),
     )
 
 add-p : tie.Need-add-p Inv-loop μ-loop
@@ -70,10 +72,11 @@ loop-again c =
     let loop = c .before .before .before .before .before .before .before .loop in
     let if1 = c .before .before .before .before .if1 in
     let test = c .before .before .before .before .before .before .loop-test in
+    let start = c .before .before .before .before .before .before .before .before .before in
     record {
-      few = omega arith;
-      turn = omega (arith, extend .ensures .more);
-      pending = pending-next (loop .inv .pending) (if1 .left) (test .taken) (extend .ensures);
+      turn = omega (arith, test .taken);
+      pending = pending-next (loop .inv .pending) (if1 .left) (omega (arith, test .taken, loop .inv .pending .grown .more))
+          (start .pre .1 .1 .1) (extend .ensures);
     }
 
 same-length-2 : tie.Need-same-length-2 Inv-loop μ-loop
@@ -82,10 +85,10 @@ same-length-2 c = c .before .loop .inv .pending .grown .elsewhere .same-length
 returns-2 : tie.Need-returns-2 Inv-loop μ-loop
 returns-2 c =
     let loop = c .before .loop in
-    λ fuel h. pending-done (loop .inv .pending) fuel (c .loop-test .left) (loop .inv .few) (omega arith)
+    pending-done (loop .inv .pending) (omega (arith, loop .inv .turn, c .loop-test .left))
 
-pub profiles-spec : {M : Type 1} → statement M
-profiles-spec =
+pub layer-spec : {M : Type 1} → statement M
+layer-spec =
     tie.close
     (tie.spec
     Inv-loop

@@ -1,6 +1,6 @@
 -- The first number that passes a test, found by trying one after another (`Trying`), and what it is (`First`). The code's test of a profile
 -- is the definition's, where its mask tells the least fixpoints. Assumes nothing.
-use mathlib.Core.Path.{_≡_, sym, ap, _∙_}
+use mathlib.Core.Path.{_≡_, refl, sym, ap, _∙_}
 use mathlib.Core.Bool.{Bool, true, false, cond, not, _&&_}
 use mathlib.Core.List.{_∷_}
 use mathlib.Core.Option.{none, some}
@@ -19,12 +19,12 @@ use Rattle.profile_tables.specs.Triples.{rejecting}
 use Rattle.profile_tables.specs.Marks.{leasts}
 use Rattle.profile_tables.specs.Runs.{Found-profile, accepting}
 use Rattle.profile_tables.proofs.TriplesLaws.{rejecting-same}
-use Rattle.decision.specs.Searched.{accepts}
+use Rattle.cycle_search.specs.Layers.{accepts}
 
--- The numbers below p fail the test: the first of all n is the first from p on.
-pub record Trying (test : ℕ → Bool) (n p : ℕ) : Type 0 where
+-- The numbers from k up to p fail the test: the first of those up to n is the first from p on.
+pub record Trying (test : ℕ → Bool) (k n p : ℕ) : Type 0 where
   pub low : p ≤ n
-  pub rest : first test (range 0 n) ≡ first test (range p (n - p))
+  pub rest : first test (range k (n - k)) ≡ first test (range p (n - p))
 
 -- the numbers from p on, where there are some
 numbers-on : {n p : ℕ} → p < n → range p (n - p) ≡ p ∷ range (p + 1) (n - (p + 1))
@@ -32,25 +32,25 @@ numbers-on {n} {p} h =
     ap (range p) {x = n - p} {y = suc (n - (p + 1))} (omega arith)
     ∙ ap (λ (k : ℕ). p ∷ range k (n - (p + 1))) {x = suc p} {y = p + 1} (omega arith)
 
-pub try-start : (test : ℕ → Bool) (n : ℕ) → Trying test n 0
-try-start test n = record { low = omega arith; rest = ap (λ (k : ℕ). first test (range 0 k)) {x = n} {y = n - 0} (omega arith) }
+pub try-start : (test : ℕ → Bool) (k n : ℕ) → k ≤ n → Trying test k n k
+try-start test k n h = record { low = h; rest = refl }
 
-module _ {test : ℕ → Bool} {n p : ℕ} (t : Trying test n p) where
+module _ {test : ℕ → Bool} {k n p : ℕ} (t : Trying test k n p) where
   -- the test of number p decides
-  tried : p < n → {b : Bool} → test p ≡ b
-      → first test (range 0 n) ≡ cond b (some p) (first test (range (p + 1) (n - (p + 1))))
-  tried h e =
+  tried : p < n → {b c : Bool} → b ≡ test p → b ≡ c
+      → first test (range k (n - k)) ≡ cond c (some p) (first test (range (p + 1) (n - (p + 1))))
+  tried h q e =
       t .rest ∙ ap (first test) (numbers-on h)
-      ∙ ap (λ (b : Bool). cond b (some p) (first test (range (p + 1) (n - (p + 1))))) e
+      ∙ ap (λ (b : Bool). cond b (some p) (first test (range (p + 1) (n - (p + 1))))) (sym q ∙ e)
 
-  pub try-found : p < n → test p ≡ true → some p ≡ first test (range 0 n)
-  try-found h e = sym (tried h e)
+  pub try-found : p < n → {b : Bool} → b ≡ test p → b ≡ true → some p ≡ first test (range k (n - k))
+  try-found h q e = sym (tried h q e)
 
-  pub try-next : p < n → test p ≡ false → Trying test n (p + 1)
-  try-next h e = record { low = omega arith; rest = tried h e }
+  pub try-next : p < n → {b : Bool} → b ≡ test p → b ≡ false → Trying test k n (p + 1)
+  try-next h q e = record { low = omega arith; rest = tried h q e }
 
-  pub try-none : n ≤ p → none ≡ first test (range 0 n)
-  try-none h = sym (t .rest ∙ ap (λ (k : ℕ). first test (range p k)) {x = n - p} {y = 0} (omega arith))
+  pub try-none : n ≤ p → none ≡ first test (range k (n - k))
+  try-none h = sym (t .rest ∙ ap (λ (j : ℕ). first test (range p j)) {x = n - p} {y = 0} (omega arith))
 
 -- p is the first of the n numbers from k on that passes.
 pub record First (test : ℕ → Bool) (k n p : ℕ) : Type 0 where

@@ -1,13 +1,13 @@
--- `decision::is_accepting` compares the profile's nodes and asks whether its triples are rejecting.
+-- `cycle_search::is_accepting` compares the profile's nodes and asks whether its triples are rejecting.
 use mathlib.Core.Path.{ap, _∙_}
 use borrow.Author.Needs.{needs}
 use Rattle.base.specs.Bits.{bit}
 use Rattle.profile_tables.specs.Triples.{Triples, rejecting}
 use Rattle.profile_search.specs.Stored.{record-of}
 use Rattle.profile_search.proofs.RecordLaws.{triple-set-at}
-use Rattle.decision.proofs.AcceptingLaws.{accepts-open, accepts-closed}
-use Rattle.decision.proofs.is_accepting.Statement.{statement}
-use Rattle.decision.proofs.is_accepting.Tie as tie
+use Rattle.cycle_search.proofs.AcceptingLaws.{accepts-open, accepts-closed}
+use Rattle.cycle_search.proofs.is_accepting.Statement.{statement}
+use Rattle.cycle_search.proofs.is_accepting.Tie as tie
 
 header-of-requires : tie.Need-header-of-requires
 header-of-requires c κs = search needs

@@ -1,0 +1,2 @@
+pub mod AcceptingLaws
+pub mod SearchLaws
