@@ -1,5 +1,5 @@
-/* Lists the entries of a rule, decides a few, tries the course of each that has one, and a course that is refused. Each answer is asked for
- * a refusal before it is taken apart. */
+/* Lists the entries of a rule, decides a few, one of them with little room, tries the course of each that has one, and a course that is
+ * refused. Each answer is asked for a refusal before it is taken apart. */
 #include "../include/yuktrob.h"
 #include <stdio.h>
 
@@ -30,7 +30,8 @@ static void list(const uint8_t *rule, size_t rule_len) {
 
 static void print_course(uint64_t answer) {
     unsigned n = yuktrob_lead_len(answer) + yuktrob_loop_len(answer);
-    printf("MET, lead-in %u, loop %u:", yuktrob_lead_len(answer), yuktrob_loop_len(answer));
+    printf("MET, lead-in %u, loop %u, ", yuktrob_lead_len(answer), yuktrob_loop_len(answer));
+    printf("K %u, profiles up to the loop's length %u:", yuktrob_nodes(answer), yuktrob_profiles(answer));
     for (unsigned i = 0; i < n; i++) printf(" %04x", (unsigned)course[i]);
     printf("\n");
 }
@@ -46,9 +47,10 @@ static void try_course(const uint8_t *rule, size_t rule_len, const uint16_t *pla
     }
 }
 
-static void decide(const uint8_t *rule, size_t rule_len) {
+/* The decision with room for so many profiles, PROFILES at most. */
+static void decide_within(size_t profiles, const uint8_t *rule, size_t rule_len) {
     uint64_t answer =
-        yuktrob_decide(rule, rule_len, NODES, PROFILES, work, sizeof work, course, sizeof course / sizeof course[0]);
+        yuktrob_decide(rule, rule_len, NODES, profiles, work, sizeof work, course, sizeof course / sizeof course[0]);
     if (yuktrob_refusal(answer)) {
         print_refusal(answer);
     } else if (yuktrob_is_met(answer)) {
@@ -60,12 +62,15 @@ static void decide(const uint8_t *rule, size_t rule_len) {
     }
 }
 
+static void decide(const uint8_t *rule, size_t rule_len) { decide_within(PROFILES, rule, rule_len); }
+
 int main(void) {
     const uint8_t eventually[] = {0x09, 0x06, 0x03, 0x00, 0x08, 0x05, 0x00}; /* sooner or later signal 0 */
     const uint8_t never[] = {0x02};
     const uint8_t unguarded[] = {0x09, 0x05, 0x00};
     const uint8_t next_outside[] = {0x08, 0x09, 0x05, 0x00};
     const uint8_t unfinished[] = {0x06, 0x01};
+    const uint8_t often[] = {0x0A, 0x07, 0x09, 0x06, 0x03, 0x00, 0x08, 0x05, 0x00, 0x08, 0x05, 0x00}; /* infinitely often signal 0 */
     const uint8_t never_previous[] = {0x0A, 0x07, 0x04, 0x0E, 0x08, 0x05, 0x00}; /* always signal 14 absent */
     const uint16_t handover[] = {YUKTROB_PREVIOUS_SCALE, YUKTROB_CURRENT_SCALE};
     const uint16_t no_flag[] = {YUKTROB_CURRENT_SCALE, 0x0000};
@@ -76,6 +81,8 @@ int main(void) {
     decide(unguarded, sizeof unguarded);
     decide(next_outside, sizeof next_outside);
     decide(unfinished, sizeof unfinished);
+    decide_within(4, often, sizeof often);
+    decide_within(3, often, sizeof often);
     decide(never_previous, sizeof never_previous);
     try_course(never_previous, sizeof never_previous, handover, 2, 1);
     try_course(never_previous, sizeof never_previous, no_flag, 2, 1);

@@ -5,8 +5,8 @@
  *   entry      accepted: 8 bits each for the command, its argument and the entry after its last, the first lowest; all 0 if there is no
  *              such entry; refused 1 to 9: its places
  *   truth      told: 1 for true, 0 for false; refused 1 to 9: its places; refused 16 to 19: nothing
- *   decision   1 + 2 * sizes for MET, 2 * sizes for NOT, where sizes has 13 bits each for lead-in length, loop length, K and P, the
- *              first lowest; refused 1 to 9: its places; refused 11 to 15: nothing
+ *   decision   1 + 2 * sizes for MET, 2 * sizes for NOT, where sizes has 13 bits each for lead-in length, loop length, nodes and
+ *              profiles, the first lowest; refused 1 to 9: its places; refused 11 to 15: nothing
  * The places of a refusal are 8 bits for the byte's place and, of 8 alone, 8 bits above them for where the variable's fixpoint begins.
  * docs/FORMULAS.md lists the refusals; later versions may have more. Ask for a refusal before taking an answer apart.
  *
@@ -50,9 +50,11 @@ uint64_t yuktrob_entry(const uint8_t *rule, size_t rule_len, size_t e);
 uint64_t yuktrob_truth(const uint8_t *rule, size_t rule_len, const uint16_t *places, size_t places_len, size_t lead_len, uint64_t *words,
                        size_t words_len);
 
-/* Whether any course meets a rule, with room for so many nodes and profiles. After MET the buffer begins with the course; the rest of
- * it, and all of it after any other answer, is unchanged. After MET, NOT, 14 and 15 the first YUKTROB_WORK_LEN(nodes, profiles) bytes
- * of the work area are zero; otherwise the work area is unchanged. */
+/* Whether any course meets a rule, with room for so many nodes and profiles. If some course does, room is needed for the profiles of runs
+ * of at most as many steps as the shortest good loop has, and otherwise for all profiles; 15 says that there is less. More room changes
+ * neither MET nor NOT, nor its numbers. After MET the buffer begins with the course; the rest of it, and all of it after any other answer,
+ * is unchanged. After MET, NOT, 14 and 15 the first YUKTROB_WORK_LEN(nodes, profiles) bytes of the work area are zero; otherwise the work
+ * area is unchanged. */
 uint64_t yuktrob_decide(const uint8_t *rule, size_t rule_len, size_t nodes, size_t profiles, uint8_t *work, size_t work_len,
                         uint16_t *course, size_t course_len);
 
@@ -75,7 +77,8 @@ static inline unsigned yuktrob_end(uint64_t answer) { return (unsigned)(answer >
 /* Truth, not refused. */
 static inline int yuktrob_is_true(uint64_t answer) { return (answer & 255) == 0 && answer >> 8 == 1; }
 
-/* A decision, not refused; the lengths are 0 after NOT. */
+/* A decision, not refused; the lengths are 0 after NOT. The nodes are K. After NOT the profiles are P; after MET they are those of runs of
+ * at most as many steps as the loop has. */
 static inline int yuktrob_is_met(uint64_t answer) { return (answer & 255) == 0 && (answer >> 8 & 1) == 1; }
 static inline unsigned yuktrob_lead_len(uint64_t answer) { return (unsigned)(answer >> 9 & 8191); }
 static inline unsigned yuktrob_loop_len(uint64_t answer) { return (unsigned)(answer >> 22 & 8191); }

@@ -62,7 +62,8 @@ fn each_signal(rule: &mut [u8], mut other: impl FnMut(u8) -> u8) {
     }
 }
 
-/// The rule's bytes: at random, damaged, short, long, or with fixpoints that cross, most of which alternate; of these some lack a next.
+/// The rule's bytes: at random, damaged, short, long, with no good loop of one step, or with fixpoints that cross, most of which alternate;
+/// of these some lack a next.
 fn rule(random: &mut Random) -> Vec<u8> {
     let most = [4, 12, 24, 48, 60][random.below(5)];
     let size = 1 + random.below(most);
@@ -70,6 +71,7 @@ fn rule(random: &mut Random) -> Vec<u8> {
         0..=1 => random.damaged(size),
         2..=4 => random.crossing(),
         5 => random.unguarded(),
+        6 => [vec![7], random.beat(), random.rule(size)].concat(),
         _ => random.rule(size),
     }
 }
@@ -271,10 +273,27 @@ fn room(random: &mut Random, most: usize) -> usize {
     }
 }
 
-fn lent(random: &mut Random) -> Lent {
-    let (n, m) = (room(random, MOST_NODES), room(random, MOST_PROFILES));
-    let short = |random: &mut Random, need: usize, more: usize| if random.one_in(30) { need.saturating_sub(1) } else { need + random.below(more) };
+/// Room for the profiles that a decision needs, for one fewer or for one more.
+fn near_effort(random: &mut Random, rule: &[u8]) -> Option<usize> {
+    let effort = decision::effort(&reading::read(rule).ok()?, MOST_NODES, MOST_PROFILES)?;
+    (effort.profiles + random.below(3)).checked_sub(1)
+}
+
+/// The room for profiles is in every third input near what the decision needs, and in the others any.
+fn lent(random: &mut Random, rule: &[u8]) -> Lent {
+    let n = room(random, MOST_NODES);
+    let near = if random.one_in(3) { near_effort(random, rule) } else { None };
+    let m = near.unwrap_or_else(|| room(random, MOST_PROFILES));
+    let short = |random: &mut Random, need: usize, more: usize| {
+        if random.one_in(30) { need.saturating_sub(1) } else { need + random.below(more) }
+    };
     Lent { n, m, work: short(random, work_len(n, m), 40), course: short(random, course_len(n, m), 4) }
+}
+
+/// As much room or more, and areas to suit.
+fn more_room(random: &mut Random, lent: Lent) -> Lent {
+    let (n, m) = (lent.n + random.below(MOST_NODES - lent.n + 1), lent.m + random.below(MOST_PROFILES - lent.m + 1));
+    Lent { n, m, work: work_len(n, m), course: course_len(n, m) }
 }
 
 /// The answer without the course.
@@ -310,7 +329,8 @@ fn zeros(settled: &Settled, lent: Lent) -> usize {
     }
 }
 
-/// How many decisions gave another course, as short, and what the scale flags did in those that came to a verdict.
+/// How many decisions gave another course, as short; what the scale flags did in those that came to a verdict; and what the room for
+/// profiles did.
 #[derive(Default)]
 pub struct Decisions {
     pub other: u64,
@@ -320,6 +340,66 @@ pub struct Decisions {
     pub both_absent: u64,
     /// With a course that has a place of the current scale.
     pub current: u64,
+    /// Verdicts that were asked for again with more room.
+    pub again: u64,
+    pub rooms: Rooms,
+}
+
+/// What M, the room for profiles, did in decisions. What is needed are the profiles of runs of at most as many steps as the shortest good
+/// loop has, or all if there is none.
+#[derive(Default)]
+pub struct Rooms {
+    /// MET where there are more profiles than are needed, of these where there are more than M, and of these with a loop of several steps.
+    pub met_fewer: u64,
+    pub met_early: u64,
+    pub met_early_later: u64,
+    /// MET where M is just what is needed.
+    pub met_exact: u64,
+    /// NOT where M is just what is needed.
+    pub not_exact: u64,
+    /// 15 though there is a good loop; of these where the first one is among the first M profiles, and where M is one fewer than needed.
+    pub refused_good: u64,
+    pub refused_behind: u64,
+    pub refused_by_one: u64,
+    /// 15 where there is no good loop, and of these where M is one fewer than needed.
+    pub refused_none: u64,
+    pub refused_none_by_one: u64,
+}
+
+impl Rooms {
+    fn count(&mut self, rule: &[u8], Lent { n, m, .. }: Lent, settled: &Settled) {
+        let Ok(entries) = reading::read(rule) else { return };
+        match *settled {
+            Settled::Met { profiles, loop_len, .. } => {
+                let fewer = decision::has_more_profiles(&entries, n, profiles);
+                let early = fewer && decision::has_more_profiles(&entries, n, m);
+                self.met_fewer += fewer as u64;
+                self.met_early += early as u64;
+                self.met_early_later += (early && loop_len > 1) as u64;
+                self.met_exact += (profiles == m) as u64;
+            }
+            Settled::Not { profiles, .. } => self.not_exact += (profiles == m) as u64,
+            Settled::Refused(why) if why.number == 15 => self.count_refused(&entries, n, m),
+            Settled::Refused(_) => {}
+        }
+    }
+
+    /// A refusal with 15, unless more than twice as many profiles are needed.
+    fn count_refused(&mut self, entries: &[reading::Command], n: usize, m: usize) {
+        let Some(effort) = decision::effort(entries, n, 2 * m + 64) else { return };
+        let by_one = effort.profiles == m + 1;
+        match effort.before {
+            Some(before) => {
+                self.refused_good += 1;
+                self.refused_behind += (before < m) as u64;
+                self.refused_by_one += by_one as u64;
+            }
+            None => {
+                self.refused_none += 1;
+                self.refused_none_by_one += by_one as u64;
+            }
+        }
+    }
 }
 
 impl Decisions {
@@ -343,10 +423,29 @@ fn meets(rule: &[u8], course: &[u16], settled: &Settled) -> bool {
     matches!(told, Truth::Told(true, _)) && decision::has_run(&entries, course, lead_len)
 }
 
-/// The decision: the answer, the work area, and the course buffer. Another course of the same two lengths is as right if it meets the rule
-/// by steps of its graph.
+/// The decision: the answer, the work area, and the course buffer; and often that more room changes neither a verdict nor its numbers.
 pub fn decision(random: &mut Random, rule: &[u8], areas: &mut Areas, decisions: &mut Decisions) -> Result<(), String> {
-    let lent = lent(random);
+    let lent = lent(random, rule);
+    let (settled, found) = decided(rule, lent, areas, &mut decisions.other)?;
+    decisions.rooms.count(rule, lent, &settled);
+    if matches!(settled, Settled::Refused(_)) {
+        return Ok(());
+    }
+    decisions.count(rule, &found);
+    if random.one_in(4) {
+        decisions.again += 1;
+        let more = more_room(random, lent);
+        let (again, _) = decided(rule, more, areas, &mut decisions.other)?;
+        if again != settled {
+            return Err(format!("decide {rule:02x?} {lent:?} {settled:?}, but {more:?} {again:?}"));
+        }
+    }
+    Ok(())
+}
+
+/// The answer of both and the course given. Another course than expected, of the same two lengths, is as right if it meets the rule by
+/// steps of its graph; `other` counts such.
+fn decided(rule: &[u8], lent: Lent, areas: &mut Areas, other: &mut u64) -> Result<(Settled, Vec<u16>), String> {
     let (work, buffer) = (&mut areas.work[..lent.work], &mut areas.course[..lent.course]);
     work.fill(0xa5);
     buffer.fill(0x5a5a);
@@ -370,9 +469,6 @@ pub fn decision(random: &mut Random, rule: &[u8], areas: &mut Areas, decisions: 
     if found != course && !meets(rule, found, &ours) {
         return fail("course");
     }
-    decisions.other += (found != course) as u64;
-    if !matches!(ours, Settled::Refused(_)) {
-        decisions.count(rule, found);
-    }
-    Ok(())
+    *other += (found != course) as u64;
+    Ok((ours, found.to_vec()))
 }

@@ -1,10 +1,11 @@
-//! The decision: the graph of a rule, its profiles, and a shortest course.
+//! The decision: the graph of a rule, its profiles up to the shortest good loop, and a shortest course.
 
 use crate::reading::{read, Command, Unreadable};
 use crate::scale;
 use std::collections::{HashMap, HashSet};
+use std::ops::Range;
 
-/// What the decision answers.
+/// What the decision answers. After MET only the profiles of runs of at most `loop_len` steps count, after NOT all.
 #[derive(Clone, Debug, PartialEq, Eq)]
 pub enum Verdict {
     Unread(Unreadable),
@@ -32,17 +33,39 @@ pub fn decide(rule: &[u8], n: usize, m: usize, work: usize, buffer: usize) -> Ve
     let Some(nodes) = graph.nodes(n) else {
         return Verdict::Refused(14);
     };
-    let Some(profiles) = graph.profiles(&nodes, m) else {
+    let Some((profiles, good)) = graph.profiles(&nodes, m, |x| graph.good(x)) else {
         return Verdict::Refused(15);
     };
     let (k, p) = (nodes.order.len(), profiles.len());
-    match profiles.iter().position(|x| x.first == x.last && !graph.bad(&x.triples)) {
+    match good {
         None => Verdict::Not { nodes: k, profiles: p },
         Some(found) => {
             let (lead, around) = (lead_to(&nodes, profiles[found].first), around(&profiles, found));
             Verdict::Met { lead_len: lead.len(), loop_len: around.len(), nodes: k, profiles: p, course: [lead, around].concat() }
         }
     }
+}
+
+/// How many profiles a decision works out before it answers.
+#[derive(Clone, Copy, Debug, PartialEq, Eq)]
+pub struct Effort {
+    /// Those of runs of at most as many steps as the shortest good loop has; all of them if there is none.
+    pub profiles: usize,
+    /// How many of them were found before the first good loop, if there is one.
+    pub before: Option<usize>,
+}
+
+/// The effort, if there is room for so many nodes and profiles.
+pub fn effort(entries: &[Command], nodes: usize, profiles: usize) -> Option<Effort> {
+    let graph = Graph::new(entries);
+    let (all, before) = graph.profiles(&graph.nodes(nodes)?, profiles, |x| graph.good(x))?;
+    Some(Effort { profiles: all.len(), before })
+}
+
+/// Whether the graph, of at most `nodes` nodes, has more than so many profiles, those of runs longer than a good loop among them.
+pub fn has_more_profiles(entries: &[Command], nodes: usize, profiles: usize) -> bool {
+    let graph = Graph::new(entries);
+    graph.nodes(nodes).is_some_and(|nodes| graph.profiles(&nodes, profiles, |_| false).is_none())
 }
 
 /// Of each step that a rule's graph, of at most `room` nodes, lacks for the scale flags alone, the signals that it requires present: both
@@ -122,6 +145,9 @@ struct Profile {
     parent: Option<usize>,
     place: u16,
 }
+
+/// One step: where it leads, its triples, its place.
+type One = (usize, Triples, u16);
 
 /// The profiles found so far.
 struct Found {
@@ -311,14 +337,15 @@ impl<'a> Graph<'a> {
         all
     }
 
-    /// The steps of a node: where each leads, its triples, its place.
-    fn ones(&self, nodes: &Nodes, first: usize) -> Vec<(usize, Triples, u16)> {
+    /// The steps of a node.
+    fn ones(&self, nodes: &Nodes, first: usize) -> Vec<One> {
         let one = |s: &Step| (nodes.number[&s.to], self.triples(nodes.order[first], s.pick), s.place);
         nodes.steps[first].iter().map(one).collect()
     }
 
-    /// The profiles, breadth first by length, if there are at most `room`.
-    fn profiles(&self, nodes: &Nodes, room: usize) -> Option<Vec<Profile>> {
+    /// The profiles of runs of one step, then the further ones of runs of two, and so on, if there are at most `room`: up to the first
+    /// number of steps with one that is wanted, which is told too, and to the end if none is.
+    fn profiles(&self, nodes: &Nodes, room: usize, wanted: impl Fn(&Profile) -> bool) -> Option<(Vec<Profile>, Option<usize>)> {
         let mut found = Found { all: Vec::new(), known: HashSet::new(), room };
         // no run of a profile starts at the root
         let mut ones = vec![Vec::new()];
@@ -328,16 +355,32 @@ impl<'a> Graph<'a> {
                 found.add(Profile { first, last: *last, triples: triples.clone(), parent: None, place: *place })?;
             }
         }
-        let mut i = 0;
-        while i < found.all.len() {
+        let mut latest = 0..found.all.len();
+        loop {
+            let first_wanted = latest.clone().find(|&i| wanted(&found.all[i]));
+            if first_wanted.is_some() || latest.is_empty() {
+                return Some((found.all, first_wanted));
+            }
+            latest = self.longer(&ones, latest, &mut found)?;
+        }
+    }
+
+    /// Which profiles are new when the runs of these have one step more, if there is room for them.
+    fn longer(&self, ones: &[Vec<One>], latest: Range<usize>, found: &mut Found) -> Option<Range<usize>> {
+        let known = found.all.len();
+        for i in latest {
             let (first, last) = (found.all[i].first, found.all[i].last);
             for (to, triples, place) in &ones[last] {
                 let triples = self.join(&found.all[i].triples, triples);
                 found.add(Profile { first, last: *to, triples, parent: Some(i), place: *place })?;
             }
-            i += 1;
         }
-        Some(found.all)
+        Some(known..found.all.len())
+    }
+
+    /// Whether the profile is a good loop's.
+    fn good(&self, x: &Profile) -> bool {
+        x.first == x.last && !self.bad(&x.triples)
     }
 
     /// Whether some power has a least fixpoint's weight on its diagonal.

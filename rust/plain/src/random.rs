@@ -167,6 +167,12 @@ impl Random {
         }
     }
 
+    /// A signal at every second, third or fourth place, and not at the place behind: each good loop has a multiple of so many steps.
+    pub fn beat(&mut self) -> Vec<u8> {
+        let (signal, steps) = (self.below(3) as u8, 2 + self.below(3));
+        [&[10, 7, 3, signal, 7, 8, 4, signal][..], &vec![8; steps], &[5, 0]].concat()
+    }
+
     /// Bytes that are nearly a rule, or no rule at all.
     pub fn damaged(&mut self, size: usize) -> Vec<u8> {
         let mut bytes = self.rule(size);

@@ -1,6 +1,6 @@
 //! The proved library and the independent implementation agree.
 
-use yuktrob_plain::compared::{self, Areas, Decisions, Input, Signals, Truths, Unguarded};
+use yuktrob_plain::compared::{self, Areas, Decisions, Input, Rooms, Signals, Truths, Unguarded};
 use yuktrob_plain::random::Random;
 
 /// Courses are kept this short, so that the test takes seconds; `compare` draws longer ones.
@@ -23,10 +23,19 @@ fn on_some_thousands() {
     assert!(unguarded.between > 100, "only {} rules refused with 8 for a fixpoint between", unguarded.between);
     assert!(signals.fewest() > 20, "only {} rules with some signal both present and absent", signals.fewest());
     check_flags(&truths, &decisions);
+    check_rooms(&decisions.rooms);
+    assert!(decisions.again > 250, "only {} verdicts asked for again with more room", decisions.again);
+}
+
+/// Each count is above the number behind it.
+fn check_counts(counted: &[(u64, u64, &str)]) {
+    for (count, few, what) in counted {
+        assert!(count > few, "only {count} {what}");
+    }
 }
 
 fn check_flags(truths: &Truths, decisions: &Decisions) {
-    let counted = [
+    check_counts(&[
         (truths.refused_19, 150, "truths refused with 19"),
         (truths.before_18, 30, "truths refused with 19 that have too few words as well"),
         (truths.behind_16, 50, "truths refused with 16 that 19 would refuse as well"),
@@ -35,8 +44,20 @@ fn check_flags(truths: &Truths, decisions: &Decisions) {
         (decisions.both_present, 30, "verdicts with a step missing as both flags would be present"),
         (decisions.both_absent, 30, "verdicts with a step missing as both flags would be absent"),
         (decisions.current, 150, "courses given with a place of the current scale"),
-    ];
-    for (count, few, what) in counted {
-        assert!(count > few, "only {count} {what}");
-    }
+    ]);
+}
+
+fn check_rooms(rooms: &Rooms) {
+    check_counts(&[
+        (rooms.met_fewer, 300, "MET with fewer profiles than there are"),
+        (rooms.met_early, 100, "MET where there are more than M profiles"),
+        (rooms.met_early_later, 10, "MET where there are more than M profiles and the loop has several steps"),
+        (rooms.met_exact, 100, "MET where M is just what is needed"),
+        (rooms.not_exact, 25, "NOT where M is just what is needed"),
+        (rooms.refused_good, 100, "refused with 15 though there is a good loop"),
+        (rooms.refused_behind, 50, "refused with 15 though a good loop is among the first M profiles"),
+        (rooms.refused_by_one, 70, "refused with 15 where M is one fewer than a good loop needs"),
+        (rooms.refused_none, 30, "refused with 15 without a good loop"),
+        (rooms.refused_none_by_one, 20, "refused with 15 where M is one fewer than all profiles"),
+    ]);
 }

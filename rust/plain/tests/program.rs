@@ -1,4 +1,5 @@
-//! The program, run: document 01's cases with their courses, refusals with a place, long input, input byte by byte, and no input.
+//! The program, run: document 01's cases with their courses, more profiles than it has room for, refusals with a place, long input, input
+//! byte by byte, and no input.
 
 use std::io::Write;
 use std::process::{Command, Stdio};
@@ -69,12 +70,12 @@ const CASES: [(&[u8], &str); 11] = [
     (&[10, 7, 3, 0, 8, 5, 0], "MET 1 1 2 1"),
     (&[9, 7, 3, 0, 8, 5, 0], "NOT 2 1"),
     (&[9, 6, 3, 0, 8, 5, 0], "MET 1 1 3 3"),
-    (&[10, 7, 9, 6, 3, 0, 8, 5, 0, 8, 5, 0], "MET 1 1 3 5"),
+    (&[10, 7, 9, 6, 3, 0, 8, 5, 0, 8, 5, 0], "MET 1 1 3 4"),
     (&[7, 9, 6, 3, 0, 8, 5, 0, 10, 7, 4, 0, 8, 5, 0], "NOT 2 1"),
-    (&[10, 7, 3, 0, 7, 8, 4, 0, 8, 8, 5, 0], "MET 1 2 3 5"),
+    (&[10, 7, 3, 0, 7, 8, 4, 0, 8, 8, 5, 0], "MET 1 2 3 4"),
     (&[10, 7, 9, 8, 8, 5, 0, 8, 5, 0], "NOT 3 6"),
-    (&[10, 9, 6, 7, 3, 0, 8, 5, 1, 8, 5, 0], "MET 1 1 3 6"),
-    (&[9, 10, 6, 7, 3, 0, 8, 5, 1, 8, 5, 0], "MET 1 1 3 6"),
+    (&[10, 9, 6, 7, 3, 0, 8, 5, 1, 8, 5, 0], "MET 1 1 3 4"),
+    (&[9, 10, 6, 7, 3, 0, 8, 5, 1, 8, 5, 0], "MET 1 1 3 4"),
 ];
 
 #[test]
@@ -86,7 +87,22 @@ fn cases() {
 
 #[test]
 fn case_h_whole() {
-    assert_eq!(at_once(CASES[7].0), "MET 1 2 3 5\nS 4001\nL 4000\nL 4001\n");
+    assert_eq!(at_once(CASES[7].0), "MET 1 2 3 4\nS 4001\nL 4000\nL 4001\n");
+}
+
+/// The same kind of part for each of the first signals, then a last part, joined by ands.
+fn and_each(signals: u8, part: impl Fn(u8) -> Vec<u8>, last: &[u8]) -> Vec<u8> {
+    (0..signals).rev().fold(last.to_vec(), |all, j| [vec![7], part(j), all].concat())
+}
+
+#[test]
+fn more_profiles_than_there_is_room_for() {
+    // infinitely often each of three signals, and a fourth until a fifth: 375 profiles, 192 of them of runs of one step
+    let often = and_each(3, |j| vec![10, 7, 9, 6, 3, j, 8, 5, 0, 8, 5, 0], &[9, 6, 3, 4, 7, 3, 3, 8, 5, 0]);
+    check(&often, "MET 1 1 17 192", &at_once(&often));
+    // sooner or later each of six signals: 729 profiles, all of runs of one step
+    let eventually = |j| vec![9, 6, 3, j, 8, 5, 0];
+    assert_eq!(at_once(&and_each(5, eventually, &eventually(5))), "REFUSED 15\n");
 }
 
 #[test]

@@ -46,7 +46,7 @@ pub enum Verdict<'c> {
         loop_len: usize,
         /// The paper's K: the nodes of the rule's graph.
         nodes: usize,
-        /// The paper's P: its profiles.
+        /// How many profiles the graph has of runs of at most `loop_len` steps. Longer runs may have more, which are not counted.
         profiles: usize,
         /// A shortest such course, in the buffer's first places: the lead-in, then the loop. Each place has one scale flag.
         course: &'c [u16],
@@ -55,7 +55,7 @@ pub enum Verdict<'c> {
     Not {
         /// The paper's K: the nodes of the rule's graph.
         nodes: usize,
-        /// The paper's P: its profiles.
+        /// The paper's P: all its profiles.
         profiles: usize,
     },
 }
@@ -63,11 +63,24 @@ pub enum Verdict<'c> {
 /// Whether any course meets the rule, with room for `nodes` nodes and `profiles` profiles. The work area needs
 /// [`work_len`] bytes, the course buffer [`course_len`] places; they need not be cleared. Refused: 1 to 9, 11 to 15.
 ///
+/// If some course meets the rule, room is needed for the profiles of runs of at most as many steps as the shortest good loop has, and
+/// otherwise for all profiles; 15 says that there is less. More room changes neither a verdict nor its numbers.
+///
 /// ```
 /// use yuktrob::{course_len, decide, work_len, Verdict};
 /// let (mut work, mut course) = (vec![0; work_len(1, 1)], vec![0; course_len(1, 1)]);
 /// assert_eq!(decide(&[0x02], 1, 1, &mut work, &mut course), Ok(Verdict::Not { nodes: 1, profiles: 0 }));
 /// assert_eq!(decide(&[0x02], 0, 1, &mut work, &mut course).unwrap_err().number, 11);
+/// ```
+///
+/// Infinitely often signal 0 has five profiles, four of them of runs of one step, and a loop of one step is found:
+///
+/// ```
+/// use yuktrob::{course_len, decide, work_len, Verdict};
+/// let often = [0x0A, 0x07, 0x09, 0x06, 0x03, 0x00, 0x08, 0x05, 0x00, 0x08, 0x05, 0x00];
+/// let (mut work, mut course) = (vec![0; work_len(3, 4)], vec![0; course_len(3, 4)]);
+/// assert!(matches!(decide(&often, 3, 4, &mut work, &mut course), Ok(Verdict::Met { loop_len: 1, profiles: 4, .. })));
+/// assert_eq!(decide(&often, 3, 3, &mut work, &mut course).unwrap_err().number, 15);
 /// ```
 pub fn decide<'c>(
     rule: &[u8],

@@ -60,7 +60,7 @@ impl Refusal {
             12 => "the work area has fewer than 8 N + 192 M bytes",
             13 => "the course buffer has fewer than N + M places",
             14 => "the graph has more than N nodes",
-            15 => "there are more than M profiles",
+            15 => "more than M profiles are needed to find a shortest good loop, or to tell that there is none",
             16 => "the lead-in is not shorter than the course; an empty course",
             17 => "more than 8,192 places",
             18 => "fewer words than places",

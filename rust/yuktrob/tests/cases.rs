@@ -1,7 +1,8 @@
-//! The outcomes that document 01 gives, through the wrappers: cases A to L and the truth examples, each place with a scale flag as document
-//! 02 asks; what the flags refuse; and the refusals of reading with their places.
+//! The outcomes that document 01 gives, through the wrappers: cases A to L and the truth examples, each place with a scale flag and each
+//! count of profiles as document 02 asks; what the flags refuse; little room for profiles, and the areas then; and the refusals of reading
+//! with their places.
 
-use yuktrob::{decide, truth, Areas, Refusal, Rule, Verdict};
+use yuktrob::{course_len, decide, truth, work_len, Areas, Refusal, Rule, Verdict};
 
 fn met(lead_len: usize, loop_len: usize, nodes: usize, profiles: usize, course: &[u16]) -> Verdict<'_> {
     Verdict::Met { lead_len, loop_len, nodes, profiles, course }
@@ -28,13 +29,52 @@ fn cases() {
         (&[10, 7, 3, 0, 8, 5, 0], met(1, 1, 2, 1, &[0x4001, 0x4001])),
         (&[9, 7, 3, 0, 8, 5, 0], not(2, 1)),
         (&[9, 6, 3, 0, 8, 5, 0], met(1, 1, 3, 3, &[0x4001, 0x4000])),
-        (&[10, 7, 9, 6, 3, 0, 8, 5, 0, 8, 5, 0], met(1, 1, 3, 5, &[0x4001, 0x4001])),
+        (&[10, 7, 9, 6, 3, 0, 8, 5, 0, 8, 5, 0], met(1, 1, 3, 4, &[0x4001, 0x4001])),
         (&[7, 9, 6, 3, 0, 8, 5, 0, 10, 7, 4, 0, 8, 5, 0], not(2, 1)),
-        (&[10, 7, 3, 0, 7, 8, 4, 0, 8, 8, 5, 0], met(1, 2, 3, 5, &[0x4001, 0x4000, 0x4001])),
+        (&[10, 7, 3, 0, 7, 8, 4, 0, 8, 8, 5, 0], met(1, 2, 3, 4, &[0x4001, 0x4000, 0x4001])),
         (&[10, 7, 9, 8, 8, 5, 0, 8, 5, 0], not(3, 6)),
-        (&[10, 9, 6, 7, 3, 0, 8, 5, 1, 8, 5, 0], met(1, 1, 3, 6, &[0x4001, 0x4001])),
-        (&[9, 10, 6, 7, 3, 0, 8, 5, 1, 8, 5, 0], met(1, 1, 3, 6, &[0x4000, 0x4000])),
+        (&[10, 9, 6, 7, 3, 0, 8, 5, 1, 8, 5, 0], met(1, 1, 3, 4, &[0x4001, 0x4001])),
+        (&[9, 10, 6, 7, 3, 0, 8, 5, 1, 8, 5, 0], met(1, 1, 3, 4, &[0x4000, 0x4000])),
     ]);
+}
+
+const CASE_F: [u8; 12] = [10, 7, 9, 6, 3, 0, 8, 5, 0, 8, 5, 0];
+const CASE_H: [u8; 12] = [10, 7, 3, 0, 7, 8, 4, 0, 8, 8, 5, 0];
+const CASE_I: [u8; 10] = [10, 7, 9, 8, 8, 5, 0, 8, 5, 0];
+
+/// Decides with room for so many nodes and profiles, in areas that are longer than asked for and hold something. Afterwards the work area
+/// is zero as far as it was asked for, the course stands at the beginning of the buffer, and all else is as it was.
+fn check_areas(rule: &[u8], (nodes, profiles): (usize, usize), expected: Result<Verdict, u8>) {
+    let asked = work_len(nodes, profiles);
+    let (mut work, mut buffer) = (vec![0xa5; asked + 40], vec![0x5a5a; course_len(nodes, profiles) + 4]);
+    let answer = decide(rule, nodes, profiles, &mut work, &mut buffer).map_err(|why| why.number);
+    assert_eq!(answer, expected, "{rule:02x?} {nodes} {profiles}");
+    let written = if let Ok(Verdict::Met { course, .. }) = expected { course.len() } else { 0 };
+    assert!(buffer[written..].iter().all(|&place| place == 0x5a5a), "{rule:02x?} {nodes} {profiles}");
+    let (zero, kept) = work.split_at(asked);
+    assert!(zero.iter().all(|&byte| byte == 0) && kept.iter().all(|&byte| byte == 0xa5), "{rule:02x?} {nodes} {profiles}");
+}
+
+#[test]
+fn room_for_the_profiles_up_to_a_loop_is_enough() {
+    for (rule, expected) in [(CASE_F, met(1, 1, 3, 4, &[0x4001, 0x4001])), (CASE_H, met(1, 2, 3, 4, &[0x4001, 0x4000, 0x4001]))] {
+        for profiles in [1, 2, 3] {
+            check_areas(&rule, (256, profiles), Err(15));
+        }
+        // each has five
+        for room in [(256, 4), (256, 5), (3, 4), (1024, 4096)] {
+            check_areas(&rule, room, Ok(expected));
+        }
+        check_areas(&rule, (2, 4), Err(14));
+        check_areas(&rule, (2, 1), Err(14));
+    }
+}
+
+#[test]
+fn not_needs_room_for_all_profiles() {
+    check_areas(&CASE_I, (256, 5), Err(15));
+    check_areas(&CASE_I, (256, 6), Ok(not(3, 6)));
+    check_areas(&CASE_I, (1024, 4096), Ok(not(3, 6)));
 }
 
 #[test]

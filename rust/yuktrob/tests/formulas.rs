@@ -102,7 +102,7 @@ fn refusal(number: u8) -> Refusal {
         12 => decide(&[1], 1, 1, &mut work[..199], &mut buffer).unwrap_err(),
         13 => decide(&[1], 1, 1, &mut work, &mut buffer[..1]).unwrap_err(),
         14 => decide(&[1], 1, 300, &mut work, &mut buffer).unwrap_err(),
-        15 => decide(&often, 256, 4, &mut work, &mut buffer).unwrap_err(),
+        15 => decide(&often, 256, 3, &mut work, &mut buffer).unwrap_err(),
         16 => truth(&[1], &[PREVIOUS_SCALE; 2], 2, &mut [0; 2]).unwrap_err(),
         17 => truth(&[1], &[PREVIOUS_SCALE; 8193], 0, &mut [0; 8193]).unwrap_err(),
         18 => truth(&[1], &[PREVIOUS_SCALE; 2], 1, &mut [0]).unwrap_err(),

@@ -2,7 +2,7 @@
 //! `compare [INPUTS [SEED [LONGEST]]]`, where no course that both work out is longer than LONGEST places, 60 at least and 8,192 at most.
 
 use std::time::Instant;
-use yuktrob_plain::compared::{self, Areas, Decisions, Input, Signals, Truths, Unguarded, LONG};
+use yuktrob_plain::compared::{self, Areas, Decisions, Input, Rooms, Signals, Truths, Unguarded, LONG};
 use yuktrob_plain::random::Random;
 
 fn main() {
@@ -36,6 +36,8 @@ fn main() {
     println!("rules refused with 8: {all}, of these for a fixpoint that is neither the innermost nor at byte 0: {between}");
     println!("rules with one signal both present and absent, of the signal that the fewest have so: {}", signals.fewest());
     report_flags(&truths, &decisions);
+    report_rooms(&decisions.rooms);
+    println!("verdicts asked for again with more room: {}", decisions.again);
     println!("decisions with another course, as short: {}", decisions.other);
     println!("differences: {differences}");
     if differences > 0 {
@@ -51,4 +53,14 @@ fn report_flags(truths: &Truths, decisions: &Decisions) {
     println!("verdicts on rules with both scale flags: {with_flags}");
     println!("of these with a step missing for the flags alone, both present: {both_present}, both absent: {both_absent}");
     println!("courses given with a place of the current scale: {current}");
+}
+
+fn report_rooms(rooms: &Rooms) {
+    let Rooms { met_fewer, met_early, met_early_later, met_exact, not_exact, .. } = rooms;
+    println!("MET with fewer profiles than there are: {met_fewer}, of these where there are more than M: {met_early}");
+    println!("of these with a loop of several steps: {met_early_later}");
+    println!("M just what is needed: {met_exact} MET, {not_exact} NOT");
+    let Rooms { refused_good, refused_behind, refused_by_one, refused_none, refused_none_by_one, .. } = rooms;
+    println!("15 with a good loop: {refused_good}, of these within M: {refused_behind}, with M one fewer than needed: {refused_by_one}");
+    println!("15 without a good loop: {refused_none}, of these with M one fewer than needed: {refused_none_by_one}");
 }

@@ -1,5 +1,6 @@
 //! The decision's tables.
 
+use crate::early;
 use crate::shapes::{always, each, eventually, infinitely_often, until, written};
 use crate::timing::{head, once, row, time, BOTH};
 use std::hint::black_box;
@@ -8,17 +9,25 @@ use yuktrob::{course_len, work_len, MOST_NODES, MOST_PROFILES};
 use yuktrob_plain::decision::{decide, Verdict};
 use yuktrob_plain::random::Random;
 
-struct Areas {
-    work: Vec<u8>,
-    course: Vec<u16>,
+/// Areas for the largest room.
+pub struct Areas {
+    pub work: Vec<u8>,
+    pub course: Vec<u16>,
+}
+
+impl Areas {
+    pub fn new() -> Self {
+        Areas { work: vec![0; work_len(MOST_NODES, MOST_PROFILES)], course: vec![0; course_len(MOST_NODES, MOST_PROFILES)] }
+    }
 }
 
 pub fn tables() {
-    let mut areas = Areas { work: vec![0; work_len(MOST_NODES, MOST_PROFILES)], course: vec![0; course_len(MOST_NODES, MOST_PROFILES)] };
+    let mut areas = Areas::new();
     typical(&mut areas);
     let timed = random_rules(&mut areas);
     heaviest(&mut areas, &timed);
     shapes(&mut areas);
+    early::table(&mut areas);
     by_size(&mut areas, &timed);
 }
 
@@ -29,7 +38,8 @@ struct Timed {
     rule: Vec<u8>,
 }
 
-fn decision(areas: &mut Areas, rule: &[u8], n: usize, m: usize) -> (Duration, Duration) {
+/// The times of the proved library and of the independent implementation.
+pub fn decision(areas: &mut Areas, rule: &[u8], n: usize, m: usize) -> (Duration, Duration) {
     let (work, course) = (&mut areas.work[..work_len(n, m)], &mut areas.course[..course_len(n, m)]);
     let ours = time(|| {
         black_box(yuktrob::decide(black_box(rule), n, m, work, course)).ok();
@@ -91,8 +101,8 @@ fn heaviest(areas: &mut Areas, timed: &[Timed]) {
     for Timed { rule, .. } in timed.iter().rev().take(10) {
         let (ours, theirs) = decision(areas, rule, MOST_NODES, MOST_PROFILES);
         let sizes = match settled(rule) {
-            Verdict::Met { nodes, profiles, .. } => format!("MET, K {nodes}, P {profiles}"),
-            Verdict::Not { nodes, profiles } => format!("NOT, K {nodes}, P {profiles}"),
+            Verdict::Met { nodes, profiles, .. } => format!("MET, K {nodes}, profiles {profiles}"),
+            Verdict::Not { nodes, profiles } => format!("NOT, K {nodes}, profiles {profiles}"),
             Verdict::Refused(k) => format!("refused {k}"),
             Verdict::Unread(_) => "unread".into(),
         };
@@ -126,11 +136,11 @@ fn shapes(areas: &mut Areas) {
         ("G of each of 7 signals or its absence next", always(&each(7, 7, |j| vec![6, 3, j, 8, 4, j]))),
         ("G of each of 9 signals or true next", always(&each(9, 7, |j| vec![6, 3, j, 8, 1]))),
         ("G of a signal or its absence 11 places on", always(&later(11))),
-        ("G of 7 ors with nexts and of signals, found: K 97, P 360", written(FOUND[0])),
-        ("G of 7 ors with nexts and of signals, found: K 49, P 198", written(FOUND[1])),
-        ("G of 7 ors with nexts and of signals, found: K 129, P 1056", written(FOUND[2])),
-        ("G of 7 ors of signals and nexts, found: K 17, P 0", written(FOUND[3])),
-        ("G of 7 ors of signals and nexts, found: K 41, P 0", written(FOUND[4])),
+        ("G of 7 ors with nexts and of signals, found: K 97, profiles 360", written(FOUND[0])),
+        ("G of 7 ors with nexts and of signals, found: K 49, profiles 198", written(FOUND[1])),
+        ("G of 7 ors with nexts and of signals, found: K 129, profiles 864", written(FOUND[2])),
+        ("G of 7 ors of signals and nexts, found: K 17, profiles 0", written(FOUND[3])),
+        ("G of 7 ors of signals and nexts, found: K 41, profiles 0", written(FOUND[4])),
     ];
     for (name, rule) in &rules {
         let (ours, theirs) = decision(areas, rule, MOST_NODES, MOST_PROFILES);
@@ -139,7 +149,7 @@ fn shapes(areas: &mut Areas) {
 }
 
 fn by_size(areas: &mut Areas, timed: &[Timed]) {
-    head("Decision by K and P, N = 1,024, M = 4,096: the median rule of those whose P is near", &BOTH);
+    head("Decision by size, N = 1,024, M = 4,096: the median rule of those that need about as many profiles", &BOTH);
     let sizes = |rule: &[u8]| match settled(rule) {
         Verdict::Met { nodes, profiles, .. } | Verdict::Not { nodes, profiles } => Some((nodes, profiles)),
         _ => None,
@@ -152,7 +162,7 @@ fn by_size(areas: &mut Areas, timed: &[Timed]) {
             .collect();
         if let Some((k, p, rule)) = group.get(group.len() / 2) {
             let (ours, theirs) = decision(areas, rule, MOST_NODES, MOST_PROFILES);
-            row(&format!("K {k}, P {p}"), ours, theirs);
+            row(&format!("K {k}, profiles {p}"), ours, theirs);
         }
     }
 }

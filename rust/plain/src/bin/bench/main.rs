@@ -1,6 +1,7 @@
 //! Times the proved library and the independent implementation on the same inputs, in one run.
 //!
 //! - `bench`: all tables.
+//! - `bench early`: the table of decisions that need fewer profiles than there are.
 //! - `bench alternating [SHORT LONG]`: the table of truth with alternating fixpoints, at these numbers of places.
 //! - `bench search COUNT SEED [PLACES]`: which of so many random rules with fixpoints that cross, most of which alternate, take the proved
 //!   library longest, and on which course.
@@ -10,6 +11,7 @@
 
 mod alternating;
 mod decisions;
+mod early;
 mod readings;
 mod shapes;
 mod timing;
@@ -35,8 +37,9 @@ fn main() {
     let number = |i: usize, otherwise: usize| words.get(i).map_or(otherwise, |w| w.parse().expect("a number"));
     match words.first().map(String::as_str) {
         None => all(),
+        Some("early") => early::table(&mut decisions::Areas::new()),
         Some("alternating") => alternating::table(number(1, 1024), number(2, 8192)),
         Some("search") => alternating::search(number(1, 3000), number(2, 1) as u64, number(3, 1024)),
-        Some(other) => panic!("{other}: not known; alternating or search, or nothing"),
+        Some(other) => panic!("{other}: not known; early, alternating or search, or nothing"),
     }
 }
