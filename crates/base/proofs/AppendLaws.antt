@@ -1,5 +1,5 @@
--- The shared functions on lists that are put together: gathering, keeping and testing go part by part, a run of numbers can be cut anywhere, and
--- gathering goes through maps. Assumes nothing.
+-- The shared functions on lists that are put together: gathering, keeping and testing go part by part, a run of numbers can be cut
+-- anywhere, and gathering goes through maps. Assumes nothing.
 use mathlib.Core.Path.{_≡_, refl, sym, ap, _∙_}
 use mathlib.Core.Logic.{inl, inr}
 use mathlib.Core.Bool.{Bool, true, false, cond, _||_}

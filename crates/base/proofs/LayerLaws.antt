@@ -1,13 +1,12 @@
 -- The layers of a breadth-first search over one list: the items with ways of at most l labels stand first (`Parted`). Those that the first
 -- k turns find are the starts and what goes on from the first k items, so where these are the ones with ways of at most l labels, all that
 -- is then found are the ones with ways of at most l + 1 (`parted-next`). Assumes nothing.
-use mathlib.Core.Path.{_≡_, refl, sym, ap, subst, _∙_}
+use mathlib.Core.Path.{_≡_, sym, ap, subst, _∙_}
 use mathlib.Core.Logic.{inl, inr}
 use mathlib.Core.Bool.{Bool, true, false, cond}
-use mathlib.Core.List.{List, [], _∷_, _++_, map, List·Memᴰ}
+use mathlib.Core.List.{List, [], _∷_, List·Memᴰ}
 use Prim.Native.Nat.{ℕ, zero, suc, _+_, _≤_, _<_}
 use native.Mathlib.Omega.{arith}
-use native.Mathlib.Decide.{decLt}
 use lib.Dec.{leb, le→leb, leb→le}
 use lib.ListN.{length, length-append, length-map}
 use Rattle.base.specs.Lists.{filter}

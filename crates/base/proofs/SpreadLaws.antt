@@ -1,9 +1,10 @@
 -- The search over one list, turn by turn: what is added one after the other is added at once (`adds-append`), a list only grows at its end
--- (`adds-begins`, `spread-begins`), and an item of it stood there before or was added (`adds-at`). With n for fuel the search does n turns:
--- so many turns and then so many more are all of them (`spread-add`), and an item that is added names one of the items that these turns went
--- on from as its parent (`spread-at`). `After-turns` is what a loop keeps that goes on from one item after another (`turns-next`); where no
--- item is left, the list is what the search finds (`turns-done`), and before that it is how that begins (`turns-begin`), so a loop may stop
--- where there is no more room. The labels along the parents are those up to the parent, and the item's own (`labels-next`). Assumes nothing.
+-- (`adds-begins`, `spread-begins`), and an item of it stood there before or was added (`adds-at`). With n for fuel the search does n
+-- turns: so many turns and then so many more are all of them (`spread-add`), and an item that is added names one of the items that these
+-- turns went on from as its parent (`spread-at`). `After-turns` is what a loop keeps that goes on from one item after another
+-- (`turns-next`); where no item is left, the list is what the search finds (`turns-done`), and before that it is how that begins
+-- (`turns-begin`), so a loop may stop where there is no more room. The labels along the parents are those up to the parent, and the item's
+-- own (`labels-next`). Assumes nothing.
 use mathlib.Core.Path.{_≡_, refl, sym, ap, _∙_}
 use mathlib.Core.Logic.{_⊎_, inl, inr}
 use mathlib.Core.Bool.{Bool, true, false, cond}

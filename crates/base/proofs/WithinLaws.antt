@@ -9,13 +9,13 @@ use mathlib.Core.List.{List, [], _∷_, _++_, append-nil, append-assoc, List·Me
 use mathlib.Core.List.{List·Memᴰ·append-cases, List·Memᴰ·eq-of-singleton, Memᴰ·append-left, Memᴰ·append-right}
 use Prim.Native.Nat.{ℕ, suc, _+_, _≤_, _<_}
 use native.Mathlib.Omega.{arith}
-use lib.Dec.{T, leb, leb→le, le→leb}
+use lib.Dec.{leb, leb→le, le→leb}
 use lib.ListN.{length, length-append}
 use Rattle.base.specs.Search.{Edge, Item, fresh, search-from, within}
 use Rattle.base.proofs.BoolLaws.{by-test}
 use Rattle.base.proofs.MemberLaws.{filter-of, filter-in, filter-few, filter-fewer}
 use Rattle.base.proofs.AppendLaws.{filter-append}
-use Rattle.base.proofs.SearchLaws.{Visits, Distinct, new-items, new-onward, fresh-given, walk-keeps}
+use Rattle.base.proofs.SearchLaws.{Distinct, new-items, new-onward, fresh-given, walk-keeps}
 
 module _ {L K : Type 0} (l : ℕ) where
   abbrev short : Item L K → Bool

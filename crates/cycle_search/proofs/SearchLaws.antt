@@ -1,9 +1,9 @@
--- The search by layers, turn by turn (`Searching`): the store has the first l + 1 layers, and none of the first l has an accepting profile.
--- It begins with the profiles of one transition, the first layer (`search-start`). Where its last layer has none either, the next one is made
--- (`search-next`), unless there is no room for it (`search-full`); a layer that adds nothing is the last (`search-end`), and one with an
--- accepting profile too (`search-found`). Assumes nothing.
+-- The search by layers, turn by turn (`Searching`): the store has the first l + 1 layers, and none of the first l has an accepting
+-- profile. It begins with the profiles of one transition, the first layer (`search-start`). Where its last layer has none either, the next
+-- one is made (`search-next`), unless there is no room for it (`search-full`); a layer that adds nothing is the last (`search-end`), and
+-- one with an accepting profile too (`search-found`). Assumes nothing.
 use mathlib.Core.Path.{_≡_, refl, sym, ap, subst, subst⁻¹, _∙_}
-use mathlib.Core.Bool.{Bool, true, false}
+use mathlib.Core.Bool.{Bool, false}
 use mathlib.Core.Option.{Option, none, some}
 use mathlib.Core.List.{List}
 use Prim.Native.Nat.{ℕ, suc, _-_, _≤_, _<_}
@@ -17,14 +17,14 @@ use Rattle.base.proofs.MemberLaws.{range-in}
 use Rattle.base.proofs.FirstLaws.{first-none}
 use Rattle.profile_tables.specs.Runs.{Found-profile, profiles-from, layer, count-within}
 use Rattle.profile_tables.proofs.LayerLaws.{layer-on, found-begin}
-use Rattle.profile_search.specs.Stored.{record-start, record-of, stored, Rising, Bytes-between, Chained, Store-chained, Grown}
+use Rattle.profile_search.specs.Stored.{record-start, record-of, stored, Bytes-between, Chained, Store-chained, Grown}
 use Rattle.profile_search.specs.declared.Store.{Store}
 use Rattle.profile_search.proofs.RecordLaws.{changed-none, changed-then}
 use Rattle.profile_search.proofs.GrowLaws.{stored-length, record-at, stored-kept}
-use Rattle.cycle_search.specs.Layers.{Layers, found-by, Comes-to}
+use Rattle.cycle_search.specs.Layers.{Layers, Comes-to}
 use Rattle.cycle_search.specs.declared.Sought.{Sought}
 use Rattle.cycle_search.specs.declared.Sought.the-variants as sought
-use Rattle.cycle_search.proofs.AcceptingLaws.{First, first-is}
+use Rattle.cycle_search.proofs.AcceptingLaws.{first-is}
 
 -- The search has come to the layer from number `from` up to number `all`.
 pub record Searching (test : Found-profile → Bool) (s : Store) (singles : ℕ) (a b : List ℕ) (from all : ℕ) : Type 0 where

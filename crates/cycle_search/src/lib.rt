@@ -22,10 +22,7 @@ enum Cycle {
 // The first accepting profile, and how many there are of runs that are no longer; none among all profiles, and how many these are; or a
 // layer that there is no room for before that is known.
 pub enum Sought {
-    Accepting {
-        profile: usize,
-        count: usize,
-    },
+    Accepting { profile: usize, count: usize },
     Nowhere(usize),
     NoRoom,
 }

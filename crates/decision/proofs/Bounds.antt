@@ -1,6 +1,6 @@
--- How large the numbers of a verdict are. Where one is given N bounds K and M bounds the profiles that it counts, a witness has fewer than K
--- positions before its cycle and at most as many in it as these profiles are, and its letters have sixteen bits; a refusal's number is at most 15, and the places of a refusal
--- of reading at most 97. Assumes nothing.
+-- How large the numbers of a verdict are. Where one is given N bounds K and M bounds the profiles that it counts, a witness has fewer than
+-- K positions before its cycle and at most as many in it as these profiles are, and its letters have sixteen bits; a refusal's number is
+-- at most 15, and the places of a refusal of reading at most 97. Assumes nothing.
 use mathlib.Core.Path.{_≡_, refl, sym, subst⁻¹, _∙_}
 use mathlib.Core.Logic.{inl, inr}
 use mathlib.Core.List.{List, [], _∷_, _++_, map, map-append, List·Memᴰ, List·Memᴰ·not-nil, List·Memᴰ·eq-of-singleton}
@@ -26,7 +26,8 @@ use Rattle.decision.specs.Contract.{says, node-count, Witness, Decided}
 use Rattle.decision.specs.declared.Verdict as code
 use Rattle.decision.specs.declared.Verdict.the-variants.{Satisfiable, Unsatisfiable, Refused, Unread}
 use Rattle.decision.specs.Lends.{Capacity}
-use Rattle.decision.proofs.VerdictLaws.{Profiles-fit, Concluded, witness-shortest, fit-met, fit-unmet, Verdict-cases, verdict-answered}
+use Rattle.decision.proofs.VerdictLaws.{Profiles-fit, Concluded, witness-shortest, fit-met, fit-unmet, Verdict-cases}
+use Rattle.decision.proofs.VerdictLaws.{verdict-answered}
 
 pub record Answer-sized (N M stem cycle K P : ℕ) : Type 0 where
   pub capacity : Capacity N M

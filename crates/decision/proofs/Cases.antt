@@ -89,8 +89,8 @@ pub record Sized : Type 0 where
 abbrev with-room : ℕ → ℕ → List ℕ → Verdict → Sized
 with-room N M b o = record { nodes = N; profiles = M; bytes = b; outcome = o }
 
--- A with N = 1. F, whose cycle has one transition, and H, whose cycle has two, with as many profiles as it takes and one fewer; I, for which
--- there is none, likewise; F with N = 2 and M = 1.
+-- A with N = 1. F, whose cycle has one transition, and H, whose cycle has two, with as many profiles as it takes and one fewer; I, for
+-- which there is none, likewise; F with N = 2 and M = 1.
 abbrev pub sized : List Sized
 sized =
     with-room 1 300 (0x01 ∷ []) (Verdict.refused 14)

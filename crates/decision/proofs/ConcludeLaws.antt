@@ -3,7 +3,7 @@
 -- those of the way to its first node. It stands in the last layer, so all that are kept are the profiles of runs no longer than its own:
 -- what the definition counts. Where there is no room for a layer, and none before it has an accepting profile, the definition counts at
 -- least the profiles up to this layer, whether or not it finds an accepting one behind them. Assumes nothing.
-use mathlib.Core.Path.{_≡_, refl, sym, ap, subst, subst⁻¹, _∙_}
+use mathlib.Core.Path.{_≡_, refl, sym, ap, subst⁻¹, _∙_}
 use mathlib.Core.Bool.{Bool, true, false}
 use mathlib.Core.Option.{Option, none, some}
 use mathlib.Core.List.{List, [], _++_, map, map-append}

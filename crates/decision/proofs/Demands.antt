@@ -1,10 +1,10 @@
--- What is asked of the decision, each demand as one theorem about the verdict, for any bytes, N, M and sizes of the two areas. Unless it is
--- a refusal, the verdict is NOT exactly if no lasso over the alphabet, however long, meets the formula that the bytes are (`not-exactly`).
--- Nothing of 1 to 13 refuses exactly if the bytes are a formula and the capacities and the areas are as asked (`granted-exactly`). It is 14
--- exactly if then K is above N (`refused-14-exactly`), and 15 exactly if then K is at most N, P above M, and c of l above M too where a
--- shortest accepting cycle has l transitions (`refused-15-exactly`). Where nothing up to 14 refuses and some such lasso meets the formula,
--- there is a shortest accepting cycle, and if c of its length is at most M, the verdict is MET with a short witness (`met-short`). More room
--- never alters MET or NOT (`more-room`, `more-room-decided`). Assumes nothing.
+-- What is asked of the decision, each demand as one theorem about the verdict, for any bytes, N, M and sizes of the two areas. Unless it
+-- is a refusal, the verdict is NOT exactly if no lasso over the alphabet, however long, meets the formula that the bytes are
+-- (`not-exactly`). Nothing of 1 to 13 refuses exactly if the bytes are a formula and the capacities and the areas are as asked
+-- (`granted-exactly`). It is 14 exactly if then K is above N (`refused-14-exactly`), and 15 exactly if then K is at most N, P above M, and
+-- c of l above M too where a shortest accepting cycle has l transitions (`refused-15-exactly`). Where nothing up to 14 refuses and some
+-- such lasso meets the formula, there is a shortest accepting cycle, and if c of its length is at most M, the verdict is MET with a short
+-- witness (`met-short`). More room never alters MET or NOT (`more-room`, `more-room-decided`). Assumes nothing.
 use mathlib.Core.Path.{_≡_, refl, sym, ap, subst, subst⁻¹, _∙_}
 use mathlib.Core.Logic.{_↔_}
 use mathlib.Core.Bool.{true}
@@ -165,8 +165,7 @@ module _ (N M workspace buffer : ℕ) (bytes : List ℕ) where
   refused-15-exactly = (
     λ e.
         let (f, g) = granted-exactly .0 (subst⁻¹ Past13 e (omega arith)) in
-        let (k, n) = only-15 (from-14 g) e in
-        (
+        let (k, n) = only-15 (from-14 g) e in (
           f,
           g,
           k,

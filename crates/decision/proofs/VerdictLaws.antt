@@ -1,6 +1,6 @@
--- The verdict is that of MEANING 5: each refusal exactly where its question is the first that is answered by no, else MET with a
--- witness, K and c of its cycle's length, or NOT where there is no accepting cycle, with K and P. `Verdict-cases` is the list of questions as
--- a relation, without search and fuel; `Profiles-fit` is question 15 so. The verdict's definition meets it (`verdict-answered`), and it
+-- The verdict is that of MEANING 5: each refusal exactly where its question is the first that is answered by no, else MET with a witness,
+-- K and c of its cycle's length, or NOT where there is no accepting cycle, with K and P. `Verdict-cases` is the list of questions as a
+-- relation, without search and fuel; `Profiles-fit` is question 15 so. The verdict's definition meets it (`verdict-answered`), and it
 -- leaves nothing open but the witness's letters (`answered-settled`). Assumes nothing.
 use mathlib.Core.Path.{_≡_, refl, sym, ap, subst, _∙_}
 use mathlib.Core.Option.{Option, none, some}

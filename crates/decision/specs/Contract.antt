@@ -41,8 +41,8 @@ abbrev pub profile-count-within : Table → (l : ℕ) → ℕ
 profile-count-within t l = length (within l (profiles t (nodes t)))
 
 -- MEANING 5.4 and 5.6: a run to a node, an accepting cycle of this node, their letters; no accepting cycle has fewer transitions, and no
--- node with one as short is nearer; the stem has fewer letters than K, the cycle at most c of its length. Which of the witnesses it is stays
--- free (5.8).
+-- node with one as short is nearer; the stem has fewer letters than K, the cycle at most c of its length. Which of the witnesses it is
+-- stays free (5.8).
 pub record Witness (t : Table) (stem cycle : ℕ) (letters : List ℕ) : Type 0 where
   pub node : Subset
   pub there : List Transition

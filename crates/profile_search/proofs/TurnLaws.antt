@@ -1,6 +1,6 @@
--- What one turn adds: a profile followed by one of one transition (`longer-none`, `longer-one`), followed by each of them that begins where
--- it ends (`extend-start`, `extend-more`, `extend-done`), and the turns of the breadth-first search over a layer of records (`Pending`). Assumes
--- nothing.
+-- What one turn adds: a profile followed by one of one transition (`longer-none`, `longer-one`), followed by each of them that begins
+-- where it ends (`extend-start`, `extend-more`, `extend-done`), and the turns of the breadth-first search over a layer of records
+-- (`Pending`). Assumes nothing.
 use mathlib.Core.Path.{_≡_, sym, ap, subst, _∙_}
 use mathlib.Core.Bool.{Bool, cond}
 use mathlib.Core.List.{List, [], _∷_}
@@ -9,7 +9,7 @@ use native.Mathlib.Nat.{zero-add}
 use native.Mathlib.Numerals.{add-one}
 use native.Mathlib.Omega.{arith}
 use borrow.Author.Tests.{ne-eqb, eq-eqb}
-use lib.ListN.{length, getD}
+use lib.ListN.{getD}
 use Rattle.base.specs.Lists.{range, At}
 use Rattle.base.specs.Spread.{adds, spread}
 use Rattle.base.proofs.AppendLaws.{flat-map-map}
@@ -23,7 +23,7 @@ use Rattle.profile_search.specs.declared.Store.{Store}
 use Rattle.profile_search.specs.Stored.{found-of, record-start, record-of, stored, first-of, Header-of, Chained, Grown}
 use Rattle.profile_search.specs.Stored.{Profiles-added}
 use Rattle.profile_search.proofs.RecordLaws.{triple-set-at}
-use Rattle.profile_search.proofs.GrowLaws.{stored-length, record-at, stored-kept, grown-still, grown-longer, grown-then, with-first}
+use Rattle.profile_search.proofs.GrowLaws.{record-at, stored-kept, grown-still, grown-longer, grown-then, with-first}
 use Rattle.profile_search.proofs.GrowLaws.{turn-more, turn-stop, turn-past}
 
 pub grown-same : {s : Store} {count r : ℕ} {a b : List ℕ} {xs ys : List Found-profile} → xs ≡ ys → Grown s count a r b xs

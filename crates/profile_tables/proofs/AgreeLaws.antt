@@ -57,8 +57,8 @@ pub record Profiles-agree (t : Table) (xs : List Found-profile) (ys : List Item-
   pub letters : (of : ℕ → Found-profile) → ((i : ℕ) → i < length xs → At xs i (of i)) → (i : ℕ) (y : Item-listed) → At ys i y
       → i < length xs → labels-to each-label of (suc i) ≡ letters-of y
 
--- The search of the code and the definition's: what is found after k turns agrees; where all that is found is gone on from, that is all; and
--- the layers end where the definition's runs of at most l transitions do, with as many profiles.
+-- The search of the code and the definition's: what is found after k turns agrees; where all that is found is gone on from, that is all;
+-- and the layers end where the definition's runs of at most l transitions do, with as many profiles.
 pub record Search-agrees (t : Table) : Type 0 where
   pub agree : (k : ℕ) → Profiles-agree t (profiles k t (sets (nodes t))) (literal.profiles t (nodes t))
   pub whole : (k : ℕ) → length (profiles k t (sets (nodes t))) ≤ k

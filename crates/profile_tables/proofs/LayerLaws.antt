@@ -10,7 +10,7 @@ use Prim.Native.Nat.{ℕ, zero, suc, _+_, _-_, _≤_}
 use native.Mathlib.Omega.{arith}
 use lib.Dec.{eqb}
 use lib.ListN.{length, length-append}
-use Rattle.base.specs.Lists.{At, flat-map, tail}
+use Rattle.base.specs.Lists.{At, tail}
 use Rattle.base.specs.Search.{within}
 use Rattle.base.specs.Spread.{spread, each-label}
 use Rattle.base.proofs.At.{at-lt}

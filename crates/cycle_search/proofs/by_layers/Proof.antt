@@ -1,5 +1,5 @@
--- `cycle_search::by_layers` looks for an accepting profile in one layer after another. The invariant (`Searching`): the store has all layers
--- up to this one, and none before it has an accepting profile.
+-- `cycle_search::by_layers` looks for an accepting profile in one layer after another. The invariant (`Searching`): the store has all
+-- layers up to this one, and none before it has an accepting profile.
 use mathlib.Core.Path.{ap, subst⁻¹, _∙_}
 use Prim.Native.Nat.{_+_, _-_}
 use native.Mathlib.Omega.{arith}

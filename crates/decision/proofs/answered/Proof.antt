@@ -35,8 +35,8 @@ returns-2 c =
     let u = c .before .before .before .before .before .before .args in
     let l = u .letters .now in
     let found = c .before .found in
-    subst⁻¹ (λ (o : Sought). Told (u .origins .now) (u .store) (u .area .now) (u .nodes) o l l (Unsatisfiable (u .nodes) (found .given .0 .0)))
-    (found .given .1) (refl, refl)
+    let r = Unsatisfiable (u .nodes) (found .given .0 .0) in
+    subst⁻¹ (λ (o : Sought). Told (u .origins .now) (u .store) (u .area .now) (u .nodes) o l l r) (found .given .1) (refl, refl)
 
 same-length : tie.Need-same-length
 same-length c = search needs

@@ -1,7 +1,8 @@
--- `profile_search::layer` goes on from each record of a layer in turn. The invariant: what the search has found up to number p is in the area.
+-- `profile_search::layer` goes on from each record of a layer in turn. The invariant: what the search has found up to number p is in the
+-- area.
 use mathlib.Core.Path.{subst⁻¹}
 use mathlib.Core.List.{List}
-use Prim.Native.Nat.{ℕ, _+_, _-_, _≤_}
+use Prim.Native.Nat.{ℕ, _-_, _≤_}
 use Rattle.profile_search.specs.declared.Store.{Store}
 use Rattle.profile_search.specs.Stored.{Store-fits}
 use Rattle.profile_search.proofs.RisingLaws.{rising-kept}
