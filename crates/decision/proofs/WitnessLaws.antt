@@ -1,4 +1,4 @@
--- What the decision hands back beside K and P. The profiles stand by rank: by the length of the run, and at equal length by the distance
+-- What the decision hands back beside its counts. The profiles stand by rank: by the length of the run, and at equal length by the distance
 -- of the first node from the root. So the first accepting one is that of an accepting cycle with the fewest transitions, at a node that is
 -- nearest to the root of all that have such a cycle; and where there is none, there is no accepting cycle. Assumes nothing.
 use mathlib.Core.Path.{_≡_, refl, sym, ap, subst, subst⁻¹}

@@ -13,9 +13,9 @@ use Rattle.decision.specs.declared.Verdict.the-variants.{Satisfiable, Unsatisfi
 abbrev pub worded-text : List ℕ → ℕ → List ℕ
 worded-text word n = word ++ number-text n
 
--- The line of a verdict, without its end: that of MET,
-abbrev pub met-text : (stem cycle K P : ℕ) → List ℕ
-met-text stem cycle K P = worded-text (77 ∷ 69 ∷ 84 ∷ []) stem ++ number-text cycle ++ number-text K ++ number-text P
+-- The line of a verdict, without its end: that of MET, with the profiles that it counts last,
+abbrev pub met-text : (stem cycle K c : ℕ) → List ℕ
+met-text stem cycle K c = worded-text (77 ∷ 69 ∷ 84 ∷ []) stem ++ number-text cycle ++ number-text K ++ number-text c
 
 -- that of NOT,
 abbrev pub not-text : (K P : ℕ) → List ℕ
@@ -40,7 +40,7 @@ unread-text why = placed-text (code-of why) (place-of why) ++ from-text (binder-
 
 -- and which of them it is.
 abbrev pub verdict-text : Verdict → List ℕ
-verdict-text (Satisfiable stem cycle K P) = met-text stem cycle K P
+verdict-text (Satisfiable stem cycle K c) = met-text stem cycle K c
 verdict-text (Unsatisfiable K P) = not-text K P
 verdict-text (Refused code) = refused-text code
 verdict-text (Unread why) = unread-text why
@@ -48,7 +48,7 @@ verdict-text (Unread why) = unread-text why
 -- The letters of the witness, which stand at the buffer's start: those of the stem behind one text, those of the cycle behind another,
 -- and a third behind both.
 abbrev pub lasso-text : Verdict → (letters stem-front cycle-front back : List ℕ) → List ℕ
-lasso-text (Satisfiable stem cycle K P) letters stem-front cycle-front back =
+lasso-text (Satisfiable stem cycle K c) letters stem-front cycle-front back =
     each (letter-text stem-front back) (take stem (drop 0 letters)) ++ each (letter-text cycle-front back) (take cycle (drop stem letters))
 lasso-text (Unsatisfiable K P) letters stem-front cycle-front back = []
 lasso-text (Refused code) letters stem-front cycle-front back = []

@@ -40,13 +40,13 @@ truth-number (truth.Holds b) = number 0 (cond b 1 0)
 truth-number (truth.Refused code) = number code 0
 truth-number (truth.Unread why) = refusal-number why
 
--- 1 for MET or 0 for NOT, then the lengths of stem and cycle, K and P with 13 bits each, the first lowest
-abbrev pub found : (met stem cycle K P : ℕ) → ℕ
-found met stem cycle K P = met + 2 * (stem + 8192 * (cycle + 8192 * (K + 8192 * P)))
+-- 1 for MET or 0 for NOT, then the lengths of stem and cycle, K and the profiles counted with 13 bits each, the first lowest
+abbrev pub found : (met stem cycle K c : ℕ) → ℕ
+found met stem cycle K c = met + 2 * (stem + 8192 * (cycle + 8192 * (K + 8192 * c)))
 
 -- the decision: that, or a refusal as for truth
 abbrev pub verdict-number : Verdict → ℕ
-verdict-number (decision.Satisfiable stem cycle K P) = number 0 (found 1 stem cycle K P)
+verdict-number (decision.Satisfiable stem cycle K c) = number 0 (found 1 stem cycle K c)
 verdict-number (decision.Unsatisfiable K P) = number 0 (found 0 0 0 K P)
 verdict-number (decision.Refused code) = number code 0
 verdict-number (decision.Unread why) = refusal-number why
@@ -56,11 +56,11 @@ abbrev pub answer-of : (bytes : List ℕ) (N M : ℕ) (workspace buffer : List �
 answer-of bytes N M workspace buffer = says (verdict N M (length workspace) (length buffer) bytes)
 
 -- Why the numbers fit into 64 bits: by question 11 and MEANING 5.6 the sizes of a verdict have room in 13 bits each.
-pub record Letters-16 (stem cycle K P : ℕ) : Type 0 where
+pub record Letters-16 (stem cycle K c : ℕ) : Type 0 where
   pub stem-fits : stem < max-nodes
   pub cycle-fits : cycle ≤ max-profiles
   pub nodes-fit : K ≤ max-nodes
-  pub profiles-fit : P ≤ max-profiles
+  pub profiles-fit : c ≤ max-profiles
 
 -- By MEANING 1.6 the places of a refusal of reading are at most 97:
 abbrev pub Early : Refusal → Type 0
@@ -74,7 +74,7 @@ TruthFits (truth.Unread why) = Early why
 
 -- and of the decision's, whose sizes are small, too
 abbrev pub VerdictFits : Verdict → Type 0
-VerdictFits (decision.Satisfiable stem cycle K P) = Letters-16 stem cycle K P
+VerdictFits (decision.Satisfiable stem cycle K c) = Letters-16 stem cycle K c
 VerdictFits (decision.Unsatisfiable K P) = Letters-16 0 0 K P
 VerdictFits (decision.Refused code) = Unit {0}
 VerdictFits (decision.Unread why) = Early why
