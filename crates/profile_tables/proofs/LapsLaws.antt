@@ -14,8 +14,8 @@ use Rattle.base.proofs.BoolLaws.{and-left, and-right, and-both, or-cases, or-le
 use Rattle.base.proofs.TestLaws.{same-truth}
 use Rattle.base.proofs.ListLaws.{iterate-stays}
 use Rattle.profile_tables.specs.Triples.{some, smaller, Triples, holds, those, join, either, lap, laps, rejecting}
-use Rattle.profile_tables.proofs.TriplesLaws.{Test, Tables-agree, some-of, some-in, smaller-in, smaller-of, holds-those, those-same}
-use Rattle.profile_tables.proofs.TriplesLaws.{join-holds}
+use Rattle.profile_tables.proofs.TriplesLaws.{Test, Tables-agree, some-of, some-in, some-same, smaller-in, smaller-of, smaller-same}
+use Rattle.profile_tables.proofs.TriplesLaws.{holds-those, those-same, join-holds}
 
 -- a triple of one lap, or of one lap more
 pub data Lap-table (n : ℕ) (a : Triples) : ℕ → ℕ → ℕ → Type 0 where
@@ -137,6 +137,28 @@ module _ (n : ℕ) where
     pub rounds-sub : (k : ℕ) (s : Triples) → Sub (holds s) (holds (iterate k (lap n a) s))
     rounds-sub zero s f x g hf hx hg t = t
     rounds-sub (suc k) s f x g hf hx hg t = rounds-sub k (lap n a s) f x g hf hx hg (lap-sub s f x g hf hx hg t)
+
+    -- row f of a round needs row f of the set alone
+    module _ (f : ℕ) (hf : f < n) where
+      abbrev Row-agree : Triples → Triples → Type 0
+      Row-agree s t = (x g : ℕ) → x < 8 → g < n → holds s f x g ≡ holds t f x g
+
+      lap-row : (s t : Triples) → Row-agree s t → Row-agree (lap n a s) (lap n a t)
+      lap-row s t h x g hx hg =
+          let joined : holds (join n s a) f x g ≡ holds (join n t a) f x g =
+          join-holds n s a f x g hf hx hg
+          ∙ some-same n (way s) (way t)
+          (λ m hm. smaller-same (λ y. holds s f y m) (λ z. holds a m z g) (λ y. holds t f y m) (λ z. holds a m z g) x
+          (λ y hy. h y m hy hm) (λ z hz. refl))
+          ∙ sym (join-holds n t a f x g hf hx hg) in
+          lap-holds s f x g hf hx hg ∙ cc (h x g hx hg, joined) ∙ sym (lap-holds t f x g hf hx hg)
+        where
+          way : Triples → ℕ → Bool
+          way r m = smaller (λ y. holds r f y m) (λ z. holds a m z g) x
+
+      pub rounds-row : (k : ℕ) (s t : Triples) → Row-agree s t → Row-agree (iterate k (lap n a) s) (iterate k (lap n a) t)
+      rounds-row zero s t h = h
+      rounds-row (suc k) s t h = rounds-row k (lap n a s) (lap n a t) (lap-row s t h)
 
     -- each lap's triples are laps
     abbrev Laps : Triples → Type 0

@@ -2,11 +2,12 @@
 -- two sets of priorities are those of each that the other has one at least as large as. Assumes nothing.
 use mathlib.Core.Path.{_≡_, refl, sym, ap, subst, subst⁻¹, _∙_}
 use mathlib.Core.Logic.{inl, inr}
-use mathlib.Core.Bool.{Bool, true, false, _&&_, _||_}
+use mathlib.Core.Bool.{Bool, true, false, not, _&&_, _||_}
 use Prim.Native.Nat.{ℕ, _+_, _-_, _/_, _^_, _≤_, _<_, min}
 use native.Mathlib.Omega.{arith}
 use native.Mathlib.Decide.{decLt}
-use lib.Dec.{T, leb, leb→le, le→leb}
+use borrow.Author.Tests.{eqb-true, eqb-false}
+use lib.Dec.{T, eqb, leb, leb→le, le→leb}
 use lib.Bits.{bitAnd, bitOr, and-le-r}
 use Rattle.base.specs.Bits.{bit}
 use Rattle.base.proofs.BoolLaws.{and-left, and-right, and-both, or-cases, or-left, or-right}
@@ -169,3 +170,11 @@ met-some w mask h d = go (met w mask) refl
         not-of-T (bit (bitAnd w mask) k)
         (λ p. subst T e (some-in 8 (λ x. bit mask x && bit w x) k l (subst T (met-and w mask k) p)))
         ∙ sym (no-bit k))))
+
+-- what the test for one gives
+pub met-test : (w mask : ℕ) → mask < 2 ^ 8 → not (eqb (bitAnd w mask) 0) ≡ met w mask
+met-test w mask h = go (eqb (bitAnd w mask) 0) refl
+  where
+    go : (t : Bool) → eqb (bitAnd w mask) 0 ≡ t → not t ≡ met w mask
+    go true e = sym (met-none w mask (eqb-true (bitAnd w mask) 0 e))
+    go false e = sym (met-some w mask h (eqb-false (bitAnd w mask) 0 e))

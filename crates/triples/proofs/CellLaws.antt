@@ -1,35 +1,29 @@
--- Sets of triples in bytes: copied and compared byte by byte, joined until they lead back or a lap adds nothing. Assumes nothing.
-use mathlib.Core.Path.{_≡_, refl, sym, ap, subst, subst⁻¹, _∙_}
+-- Sets of triples in bytes: copied and compared byte by byte, and asked which operands lead back. Assumes nothing.
+use mathlib.Core.Path.{_≡_, sym, ap, subst, subst⁻¹, _∙_}
 use mathlib.Core.Bool.{Bool, true, false, _&&_}
 use mathlib.Core.List.{List}
-use Prim.Native.Nat.{ℕ, zero, suc, _+_, _-_, _*_, _^_, _≤_, _<_}
+use Prim.Native.Nat.{ℕ, _+_, _*_, _^_, _≤_, _<_}
 use native.Mathlib.Omega.{arith}
-use native.Mathlib.Nat.{mul-le-mul-right}
 use native.Mathlib.Decide.{ℕ-discrete}
 use native.Mathlib.Numerals.{add-one}
-use lib.Dec.{T}
-use lib.Bits.{bitAnd}
+use borrow.Author.Count.{below-more}
+use borrow.Author.Tests.{eqb-true, eqb-false, eq-eqb, ne-eqb}
+use lib.Dec.{T, eqb}
+use lib.Bits.{bitAnd, bitOr, bitXor, and-le-l, and-le-r, or-add-and, or-zero-l, xor-add-and, xor-self}
 use lib.ListN.{length, getD, set}
 use lib.Seq.{getD-set-same, getD-set-other}
-use Rattle.base.specs.Lists.{iterate}
 use Rattle.base.specs.Bits.{bit}
-use Rattle.base.proofs.BoolLaws.{of-T, to-T, and-left, and-right, and-both}
-use Rattle.base.proofs.ListLaws.{iterate-stays}
-use Rattle.profile_tables.specs.Triples.{Triples, some, holds, same-triples, join, either, lap, laps, rejecting}
-use Rattle.profile_tables.proofs.TriplesLaws.{some-of, some-in, some-same, holds-those, those-same, same-those, other-those}
-use Rattle.profile_tables.proofs.TriplesLaws.{same-triples-sound}
-use Rattle.profile_tables.proofs.LapsLaws.{rounds-sub}
-use Rattle.triples.specs.Inner.{bytes, bytes-from, bits, triples-in, triples-at, Same-row, Decides, leads-back}
-use Rattle.triples.proofs.ByteLaws.{met, met-none, met-some}
+use Rattle.base.proofs.BoolLaws.{of-T, to-T}
+use Rattle.profile_tables.specs.Triples.{some, those, holds, same-triples}
+use Rattle.profile_tables.proofs.TriplesLaws.{Test, some-in, some-same, holds-those, those-same, same-those, other-those}
+use Rattle.triples.specs.Inner.{bytes, bytes-from, bits, triples-in, triples-at, Same-row, Decides, comes-back, leads-back}
+use Rattle.triples.proofs.ByteLaws.{met, met-some}
 
--- bytes at a place and from 0 on
+-- bytes copied from a place
 pub triples-copied : (n : ℕ) (l t : List ℕ) (at : ℕ) → n ≤ 12 → ((i : ℕ) → i < 144 → getD t i 0 ≡ getD l (at + i) 0)
     → triples-in n t ≡ triples-at n l at
 triples-copied n l t at k h =
     those-same n (bits (bytes t)) (bits (bytes-from l at)) (λ f x g hf hx hg. ap (λ (w : ℕ). bit w x) (h (f * 12 + g) (omega arith)))
-
-pub triples-at-0 : (n : ℕ) (l : List ℕ) → n ≤ 12 → triples-in n l ≡ triples-at n l 0
-triples-at-0 n l h = triples-copied n l l 0 h (λ i k. ap (λ (j : ℕ). getD l j 0) (omega arith))
 
 pub copied-more : (l t : List ℕ) (at i v : ℕ) → i < length t → ((j : ℕ) → j < i → getD t j 0 ≡ getD l (at + j) 0) → v ≡ getD l (at + i) 0
     → (j : ℕ) → j < i + 1 → getD (set t i v) j 0 ≡ getD l (at + j) 0
@@ -53,72 +47,51 @@ module _ (n : ℕ) (l : List ℕ) (at : ℕ) (t : List ℕ) where
   pub not-same : (f : ℕ) → f < n → (Same-row l at t f n → ⊥) → false ≡ same-triples (triples-at n l at) (triples-in n t)
   not-same f hf d = sym (other-those n (bits (bytes-from l at)) (bits (bytes t)) (λ h. d (λ g hg x hx. h f x g hf hx hg)))
 
--- laps
-module _ (n : ℕ) (a : List ℕ) where
-  abbrev base : Triples
-  base = triples-in n a
+-- the first k bytes are the same
+abbrev pub Same-below : (x y : List ℕ) (k : ℕ) → Type 0
+Same-below x y k = (g : ℕ) → g < k → getD x g 0 ≡ getD y g 0
 
-  -- s is on the way to the laps, with that many rounds left
-  abbrev pub On-way : List ℕ → ℕ → Type 0
-  On-way s left = laps n base ≡ iterate left (lap n base) (triples-in n s)
+or-none : (a b : ℕ) → bitOr a b ≡ 0 → (a ≡ 0) × (b ≡ 0)
+or-none a b e =
+    let s = or-add-and a b in
+    let l = and-le-l a b in
+    let r = and-le-r a b in
+    (omega arith, omega arith)
 
-  -- m is s with one lap more
-  abbrev pub Lapped : List ℕ → List ℕ → Type 0
-  Lapped s m = triples-in n m ≡ either n (triples-in n s) (join n (triples-in n s) base)
+xor-none : (a b : ℕ) → bitXor a b ≡ 0 → a ≡ b
+xor-none a b e = omega (arith, xor-add-and a b, and-le-l a b, and-le-r a b)
 
-  pub laps-start : On-way a (8 * (n * n))
-  unfolding laps
-  laps-start = refl
+-- one column more, with the bits that differ there
+pub differ-more : (x y : List ℕ) (d g : ℕ) → Decides (eqb d 0) (Same-below x y g)
+    → Decides (eqb (bitOr d (bitXor (getD x g 0) (getD y g 0))) 0) (Same-below x y (g + 1))
+differ-more x y d g h =
+    record {
+      holds = λ e.
+          let (p, q) = or-none d apart (eqb-true (bitOr d apart) 0 e) in
+          below-more (λ i. getD x i 0 ≡ getD y i 0) g (h .holds (eq-eqb d 0 p)) (xor-none (getD x g 0) (getD y g 0) q);
+      fails = λ e k.
+          h .fails (ne-eqb d 0 (λ z. eqb-false (bitOr d apart) 0 e (both z (k g (omega arith))))) (λ i l. k i (omega arith));
+    }
+  where
+    apart : ℕ
+    apart = bitXor (getD x g 0) (getD y g 0)
 
-  pub laps-more : (s m : List ℕ) (left : ℕ) → 0 < left → On-way s left → Lapped s m → On-way m (left - 1)
-  unfolding lap
-  laps-more s m (suc left) h e q =
-      e
-      ∙ ap (iterate left (lap n base)) (sym q)
-      ∙ ap (λ (k : ℕ). iterate k (lap n base) (triples-in n m)) {x = left} {y = suc left - 1} (omega arith)
-  laps-more s m zero h e q = absurd (omega arith)
+    both : d ≡ 0 → getD x g 0 ≡ getD y g 0 → bitOr d apart ≡ 0
+    both z q = ap (λ (w : ℕ). bitOr w apart) z ∙ or-zero-l apart ∙ ap (λ (w : ℕ). bitXor w (getD y g 0)) q ∙ xor-self (getD y g 0)
 
-  pub laps-still : (s m : List ℕ) (left : ℕ) {r : Bool} → On-way s left → Lapped s m → n ≤ 12
-      → r ≡ same-triples (triples-at n m 0) (triples-in n s)
-      → r ≡ true
-      → triples-in n s ≡ laps n base
-  unfolding lap
-  laps-still s m left e q h same t =
-      let still : triples-in n m ≡ triples-in n s =
-      triples-at-0 n m h ∙ same-triples-sound (triples-at n m 0) (triples-in n s)
-      (to-T (same-triples (triples-at n m 0) (triples-in n s)) (sym same ∙ t)) in
-      sym (e ∙ iterate-stays left (lap n base) (triples-in n s) (sym q ∙ still))
+-- a search for one that a test says
+pub found-some : (n : ℕ) (q : ℕ → Bool) (f : ℕ) → f < n → q f ≡ true → true ≡ some n q
+found-some n q f h e = sym (of-T (some n q) (some-in n q f h (to-T (q f) e)))
 
-  pub laps-end : (s : List ℕ) (left : ℕ) → left ≤ 0 → On-way s left → triples-in n s ≡ laps n base
-  laps-end s zero h e = sym e
-  laps-end s (suc left) h e = absurd (omega arith)
+pub none-more : (q : ℕ → Bool) (f : ℕ) → some f q ≡ false → q f ≡ false → some (f + 1) q ≡ false
+none-more q f h e = rw add-one (cc)
 
-  -- if s leads back, the laps do: they hold all that s holds
-  pub laps-back : (least : ℕ → Bool) (s : List ℕ) (left : ℕ) → On-way s left → leads-back least n (triples-in n s) ≡ true
-      → true ≡ rejecting least n base
-  unfolding rejecting
-  laps-back least s left e h =
-      let (f, hf, u) = some-of n (λ f. some 8 (by (triples-in n s) f)) (to-T (leads-back least n (triples-in n s)) h) in
-      let (x, hx, v) = some-of 8 (by (triples-in n s) f) u in
-      let t = rounds-sub n base left (triples-in n s) f x f hf hx hf (and-right (least x) (holds (triples-in n s) f x f) v) in
-      sym
-      (of-T (rejecting least n base)
-      (some-in n (λ f. some 8 (by (laps n base) f)) f hf
-      (some-in 8 (by (laps n base) f) x hx
-      (and-both (least x) (holds (laps n base) f x f) (and-left (least x) (holds (triples-in n s) f x f) v)
-      (subst⁻¹ (λ (l : Triples). T (holds l f x f)) e t)))))
-    where
-      by : Triples → (f x : ℕ) → Bool
-      by l f x = least x && holds l f x f
-
-  -- once s is the laps, its own answer counts
-  pub laps-answer : (least : ℕ → Bool) (s : List ℕ) (r : Bool) → triples-in n s ≡ laps n base → r ≡ leads-back least n (triples-in n s)
-      → r ≡ rejecting least n base
-  unfolding rejecting
-  laps-answer least s r e h = h ∙ ap (leads-back least n) e
-
-pub square : (n : ℕ) → n ≤ 12 → n * n ≤ 144
-square n h = omega (arith, mul-le-mul-right n h)
+-- an operand leads back in a table exactly if it does by the test that the table was made by
+pub comes-those : (least : ℕ → Bool) (n : ℕ) (q : Test) (f : ℕ) → f < n
+    → comes-back least (those n q) f ≡ some 8 (λ x. least x && q f x f)
+comes-those least n q f h =
+    some-same 8 (λ x. least x && holds (those n q) f x f) (λ x. least x && q f x f)
+    (λ x hx. ap (λ (t : Bool). least x && t) (holds-those n q f x f h hx h))
 
 -- leading back, by the bytes of the diagonal
 abbrev pub diagonal : List ℕ → (mask : ℕ) → ℕ → Bool
@@ -127,19 +100,8 @@ diagonal s mask f = met (bytes s (f * 12 + f)) mask
 module _ (n mask : ℕ) (s : List ℕ) where
   pub back-diagonal : leads-back (bit mask) n (triples-in n s) ≡ some n (diagonal s mask)
   back-diagonal =
-      some-same n (λ f. some 8 (λ x. bit mask x && holds (triples-in n s) f x f)) (diagonal s mask)
-      (λ f hf.
-      some-same 8 (λ x. bit mask x && holds (triples-in n s) f x f) (λ x. bit mask x && bits (bytes s) f x f)
-      (λ x hx. ap (λ (t : Bool). bit mask x && t) (holds-those n (bits (bytes s)) f x f hf hx hf)))
+      some-same n (comes-back (bit mask) (triples-in n s)) (diagonal s mask) (λ f hf. comes-those (bit mask) n (bits (bytes s)) f hf)
 
   pub back-found : (f : ℕ) → f < n → mask < 2 ^ 8 → (bitAnd (bytes s (f * 12 + f)) mask ≡ 0 → ⊥)
       → true ≡ leads-back (bit mask) n (triples-in n s)
-  back-found f h b d =
-      sym
-      (back-diagonal
-      ∙ of-T (some n (diagonal s mask))
-      (some-in n (diagonal s mask) f h (to-T (diagonal s mask f) (met-some (bytes s (f * 12 + f)) mask b d))))
-
-pub diagonal-more : (s : List ℕ) (mask f : ℕ) → some f (diagonal s mask) ≡ false → bitAnd (bytes s (f * 12 + f)) mask ≡ 0
-    → some (f + 1) (diagonal s mask) ≡ false
-diagonal-more s mask f h e = rw add-one (cc (h, met-none (bytes s (f * 12 + f)) mask e))
+  back-found f h b d = found-some n (diagonal s mask) f h (met-some (bytes s (f * 12 + f)) mask b d) ∙ sym back-diagonal

@@ -1,3 +1,4 @@
 pub mod ByteLaws
 pub mod CellLaws
 pub mod JoinLaws
+pub mod RowLaws

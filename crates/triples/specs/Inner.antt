@@ -42,9 +42,9 @@ above a k = some 8 (λ j. leb k j && a j)
 abbrev pub one-way : (w : ℕ) → List ℕ → (m x g : ℕ) → Bool
 one-way w b m x g = smaller (bit w) (λ z. bits (bytes b) m z g) x
 
--- the triple (f, x, g) joined from one of a and one of b that meet in an operand below m
-abbrev pub by-way : List ℕ → List ℕ → (m f x g : ℕ) → Bool
-by-way a b m f x g = some m (λ k. one-way (bytes a (f * 12 + k)) b k x g)
+-- x joined to g from a priority in a row of bytes and one of b that meet in an operand below m
+abbrev pub by-way : (ℕ → ℕ) → List ℕ → (m x g : ℕ) → Bool
+by-way w b m x g = some m (λ k. one-way (w k) b k x g)
 
 -- u is t, but that the first k columns of row f have beside their priorities those that a test says
 pub record Row-with (t : List ℕ) (f k : ℕ) (q : (x g : ℕ) → Bool) (u : List ℕ) : Type 0 where
@@ -55,9 +55,13 @@ pub record Row-with (t : List ℕ) (f k : ℕ) (q : (x g : ℕ) → Bool) (u : L
 abbrev pub Same-row : List ℕ → (at : ℕ) → List ℕ → (f k : ℕ) → Type 0
 Same-row l at t f k = (g : ℕ) → g < k → Bits (bytes-from l at (f * 12 + g)) (bit (bytes t (f * 12 + g)))
 
--- some operand leads back to itself with a priority that a test says
+-- operand f leads back to itself with a priority that a test says
+abbrev pub comes-back : (ℕ → Bool) → Triples → ℕ → Bool
+comes-back least s f = some 8 (λ x. least x && holds s f x f)
+
+-- some operand does
 abbrev pub leads-back : (ℕ → Bool) → ℕ → Triples → Bool
-leads-back least n s = some n (λ f. some 8 (λ x. least x && holds s f x f))
+leads-back least n s = some n (comes-back least s)
 
 -- a Bool that says whether a statement holds
 pub record Decides (b : Bool) (P : Type 0) : Type 0 where

@@ -1,16 +1,16 @@
 -- `triples::joined_row` fills row f. The invariant: it has the triples by way of the operands passed, and all else is as it was.
 use mathlib.Core.Path.{refl}
-use Prim.Native.Nat.{_-_, _≤_}
+use Prim.Native.Nat.{_-_, _*_, _≤_}
 use native.Mathlib.Omega.{arith}
 use native.Mathlib.Nat.{le-antisymm}
 use borrow.Author.Needs.{needs}
-use Rattle.triples.specs.Inner.{by-way, Row-with}
+use Rattle.triples.specs.Inner.{bytes-from, by-way, Row-with}
 use Rattle.triples.proofs.JoinLaws.{row-stays, row-way}
 use Rattle.triples.proofs.joined_row.Statement.{statement}
 use Rattle.triples.proofs.joined_row.Tie as tie
 
 abbrev Inv-loop : tie.InvT-loop
-Inv-loop a b n f t₀ m₀ t m = (m ≤ n) × Row-with t₀ f 12 (by-way a b m f) t
+Inv-loop a b n f t₀ m₀ t m = (m ≤ n) × Row-with t₀ f 12 (by-way (bytes-from a (f * 12)) b m) t
 
 abbrev μ-loop : tie.MeasureT-loop
 μ-loop a b n f t₀ m₀ t m = n - m
@@ -41,8 +41,8 @@ loop-again c =
     let start = c .before .before .before .before .before in
     let loop = c .before .before .before .before .loop in (
       omega arith,
-      row-way (start .args .a .now) (start .args .b .now) (start .args .t .now) (loop .t) (c .with-way .last .0) (start .args .f) (loop .m)
-          (loop .inv .1) (c .with-way .ensures),
+      row-way (bytes-from (start .args .a .now) (start .args .f * 12)) (start .args .b .now) (start .args .t .now) (loop .t)
+          (c .with-way .last .0) (start .args .f) (loop .m) (loop .inv .1) (c .with-way .ensures),
     )
 
 returns : tie.Need-returns Inv-loop μ-loop

@@ -1,14 +1,16 @@
 -- `triples::leads_back` looks for a priority of the mask on the diagonal. The invariant: there is none in the rows passed.
 use mathlib.Core.Path.{_≡_, refl, sym, _∙_}
 use mathlib.Core.Bool.{false}
-use Prim.Native.Nat.{_-_, _≤_}
+use Prim.Native.Nat.{_+_, _-_, _*_, _≤_}
 use native.Mathlib.Omega.{arith}
 use native.Mathlib.Nat.{le-antisymm}
 use borrow.Author.Needs.{needs}
 use mir.Val.{Fits}
 use mir.Syntax.{w8}
 use Rattle.profile_tables.specs.Triples.{some}
-use Rattle.triples.proofs.CellLaws.{diagonal, back-diagonal, back-found, diagonal-more}
+use Rattle.triples.specs.Inner.{bytes}
+use Rattle.triples.proofs.ByteLaws.{met-none}
+use Rattle.triples.proofs.CellLaws.{none-more, diagonal, back-diagonal, back-found}
 use Rattle.triples.proofs.leads_back.Statement.{statement}
 use Rattle.triples.proofs.leads_back.Tie as tie
 
@@ -47,7 +49,9 @@ loop-again : tie.Need-loop-again Inv-loop μ-loop
 loop-again c =
     let start = c .before .before .before .before in
     let loop = c .before .before .before .loop in
-    (omega arith, diagonal-more (start .args .a .now) (start .args .mask) (loop .f) (loop .inv .1) (c .if1 .left))
+    let a = start .args .a .now in
+    let mask = start .args .mask in
+    (omega arith, none-more (diagonal a mask) (loop .f) (loop .inv .1) (met-none (bytes a (loop .f * 12 + loop .f)) mask (c .if1 .left)))
 
 returns-2 : tie.Need-returns-2 Inv-loop μ-loop
 returns-2 c =

@@ -71,7 +71,7 @@ loop-again c =
       omega arith,
       (
         simp length-set (loop .inv .1 .0),
-        row-store (start .args .t .now) (loop .t) (start .args .f) (loop .g) _ _ (omega arith) (loop .inv .1 .1)
+        row-store (start .args .t .now) (loop .t) (start .args .f) (loop .g) _ _ _ refl (omega arith) (loop .inv .1 .1)
             (or-bits _ (c .minima .result) _ (c .minima .ensures)),
       ),
     )
