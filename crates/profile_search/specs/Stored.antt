@@ -108,7 +108,7 @@ row-of t n f = map (λ g. bits-of (getD t (f * 12 + g) 0)) (range 0 n)
 
 -- the sum of a row's bytes so far with one byte of triples more
 abbrev pub mixed : ℕ → List Bool → ℕ
-mixed sum x = (sum * 8 + word x) % 4294967296
+mixed sum x = sum * 8 + word x
 
 -- a hash with a row more
 abbrev pub mixed-row : ℕ → List (List Bool) → ℕ

@@ -124,12 +124,12 @@ fn same_profile(area: &[u8], store: Store, p: usize, header: Header, t: &[u8; 14
     triples::same_triples(area, record_start(store, p), t, store.n)
 }
 
-// One byte more into a row's sum, modulo 2^32.
+// One byte more into a row's sum. A row has at most 12, whose sum is below 2^42, so it is taken modulo 2^32 once a row.
 fn mix(sum: usize, x: u8) -> usize
-    requires { ⌜ sum < 4294967296 ⌝ }
-    ensures { λ r. ⌜ (r < 4294967296) × (r ≡ mixed sum (bits-of x)) ⌝ }
+    requires { ⌜ sum < 4398046511104 ⌝ }
+    ensures { λ r. ⌜ r ≡ mixed sum (bits-of x) ⌝ }
 {
-    (sum * 8 + base::wide(x)) % 0x1_0000_0000
+    sum * 8 + base::wide(x)
 }
 
 // The bytes of row f into a hash, modulo 2^32: the factor, a prime near 2^32 over the golden ratio, spreads them and what came before. One

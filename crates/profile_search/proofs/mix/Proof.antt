@@ -1,6 +1,6 @@
 -- `profile_search::mix` takes one byte more into a row's sum. The byte is the number that its eight bits make.
 use mathlib.Core.Path.{sym, ap, _∙_}
-use Prim.Native.Nat.{ℕ, _+_, _*_, _%_}
+use Prim.Native.Nat.{ℕ, _+_, _*_}
 use Rattle.profile_search.proofs.SingleLaws.{subset-word}
 use borrow.Author.Needs.{needs}
 use native.Mathlib.Omega.{arith}
@@ -18,11 +18,8 @@ add-result c = search needs
 
 returns : tie.Need-returns
 returns c =
-    let s = c .before in (
-      omega arith,
-      ap (λ (w : ℕ). (s .args .sum * 8 + w) % 4294967296)
-          (c .wide .ensures ∙ sym (subset-word 8 (s .args .x) (omega arith))),
-    )
+    let s = c .before in
+    ap (λ (w : ℕ). s .args .sum * 8 + w) (c .wide .ensures ∙ sym (subset-word 8 (s .args .x) (omega arith)))
 
 pub mix-spec : {M : Type 1} → statement M
 mix-spec = tie.close (tie.spec mul-result wide-requires add-result returns)
