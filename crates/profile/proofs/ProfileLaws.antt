@@ -267,7 +267,7 @@ profiles-count t xs d f g =
 abbrev pub IsProfile-within : Table → (l : ℕ) → Profile → Type 0
 IsProfile-within t l p = (ss : List Transition) × Run t p ss × Begins t (p .first) × (length ss ≤ l)
 
--- Theorem: c of l is the number of profiles of runs of at most l transitions: every list of them that has each once has c of l elements.
+-- Theorem: what c of l counts. Every list that has each profile of a run of at most l transitions once, and no other, has c of l elements.
 pub profiles-count-within : (t : Table) (l : ℕ) (xs : List (Item Transition Profile)) → Distinct xs
     → ((p : Profile) → Visits p xs → IsProfile-within t l p) → ((p : Profile) → IsProfile-within t l p → Visits p xs)
     → length xs ≡ length (within l (profiles t (nodes t)))
