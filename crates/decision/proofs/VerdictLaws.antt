@@ -181,12 +181,10 @@ asked-settled Question refusal s o p (Asked.answered-no n) b = ap settled (sym (
 
 witness-settled : {t : Table} {a b c d : ℕ} {xs ys : List ℕ} → Witness t a b xs → Witness t c d ys → (a ≡ c) × (b ≡ d)
 witness-settled w u =
-    let x = w .cycle-fewest (u .node) (u .around) (u .accepted) in
-    let y = u .cycle-fewest (w .node) (w .around) (w .accepted) in
-    let e : length (u .around) ≡ length (w .around) = omega (arith, w .cycle-is, u .cycle-is) in
-    let p = w .stem-fewest (u .node) (u .around) (u .there) (u .accepted) (e ∙ sym (w .cycle-is)) (u .leads) in
-    let q = u .stem-fewest (w .node) (w .around) (w .there) (w .accepted) (sym e ∙ sym (u .cycle-is)) (w .leads) in
-    (omega (arith, w .stem-is, u .stem-is), omega (arith, w .cycle-is, u .cycle-is))
+    let e = one-shortest (witness-shortest w) (witness-shortest u) in
+    let p = w .stem-fewest (u .node) (u .around) (u .there) (u .accepted) (sym (u .cycle-is) ∙ sym e) (u .leads) in
+    let q = u .stem-fewest (w .node) (w .around) (w .there) (w .accepted) (sym (w .cycle-is) ∙ e) (w .leads) in
+    (omega (arith, w .stem-is, u .stem-is), e)
 
 concluded-settled : (t : Table) → Settles (Concluded t)
 concluded-settled t o p (met w) (met u) =
