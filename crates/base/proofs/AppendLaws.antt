@@ -1,5 +1,5 @@
 -- The shared functions on lists that are put together: gathering, keeping and testing go part by part, a run of numbers can be cut
--- anywhere, and gathering goes through maps. Assumes nothing.
+-- anywhere, and gathering goes through maps; and two lists that are equal have equal parts. Assumes nothing.
 use mathlib.Core.Path.{_≡_, refl, sym, ap, _∙_}
 use mathlib.Core.Logic.{inl, inr}
 use mathlib.Core.Bool.{Bool, true, false, cond, _||_}
@@ -7,6 +7,7 @@ use mathlib.Core.List.{List, [], _∷_, _++_, map, map-append, append-assoc, Lis
 use Prim.Native.Nat.{ℕ, zero, suc, _+_, _<_}
 use native.Mathlib.Nat.{zero-add, suc-add, add-suc, add-zero}
 use native.Mathlib.Omega.{arith}
+use lib.ListN.{length, length-append}
 use Rattle.base.specs.Lists.{range, flat-map, any, filter}
 
 pub any-append : {A : Type 0} (q : A → Bool) (xs ys : List A) → any q (xs ++ ys) ≡ (any q xs || any q ys)
@@ -50,3 +51,28 @@ range-more n = range-append 0 n 1 ∙ rw (zero-add n)
 pub range-of : (k n : ℕ) {x : ℕ} → List·Memᴰ x (range k n) → x < k + n
 range-of k zero m = absurd (List·Memᴰ·not-nil m)
 range-of k (suc n) m = elim (List·Memᴰ·cases-cons m) [ inl e ↦ omega arith | inr r ↦ omega (arith, range-of (suc k) n r) ]
+
+-- parts of the same lengths, one by one
+pub append-cancel : {A : Type 0} (xs ys : List A) {us vs : List A} → length xs ≡ length ys → xs ++ us ≡ ys ++ vs → (xs ≡ ys) × (us ≡ vs)
+append-cancel [] [] h e = (refl, e)
+append-cancel [] (y ∷ ys) h e = absurd (omega arith)
+append-cancel (x ∷ xs) [] h e = absurd (omega arith)
+append-cancel {A} (x ∷ xs) (y ∷ ys) {us} {vs} h e =
+    let (p, q) = append-cancel xs ys (omega arith) (behind e) in
+    ((λ i. front e i ∷ p i), q)
+  where
+    front : x ∷ (xs ++ us) ≡ y ∷ (ys ++ vs) → x ≡ y
+    front e = cc
+
+    behind : x ∷ (xs ++ us) ≡ y ∷ (ys ++ vs) → xs ++ us ≡ ys ++ vs
+    behind e = cc
+
+-- all elements but the last, and the last
+pub last-cancel : {A : Type 0} (xs ys : List A) (x y : A) → xs ++ (x ∷ []) ≡ ys ++ (y ∷ []) → (xs ≡ ys) × (x ≡ y)
+last-cancel xs ys x y e =
+    let h : length xs ≡ length ys = omega (arith, ap length e, length-append xs (x ∷ []), length-append ys (y ∷ [])) in
+    let (p, q) = append-cancel xs ys h e in
+    (p, only q)
+  where
+    only : x ∷ [] ≡ y ∷ [] → x ≡ y
+    only e = cc

@@ -9,7 +9,10 @@ pub mod MemberLaws
 pub mod CondLaws
 pub mod SearchLaws
 pub mod WithinLaws
+pub mod OrderLaws
+pub mod SortedLaws
 pub mod SearchOrder
+pub mod WayOrder
 pub mod SpreadLaws
 pub mod MatchLaws
 pub mod LayerLaws

@@ -19,8 +19,7 @@ use Rattle.tableau.specs.Saturation.{Subset}
 use Rattle.tableau.specs.Transition.{Transition, letter}
 use Rattle.tableau.specs.Run.{Along}
 use Rattle.tableau.proofs.TransitionLaws.{letter-bound}
-use Rattle.profile.specs.Profiles.{Profile}
-use Rattle.profile.specs.Cycle.{Run}
+use Rattle.profile.proofs.CycleLaws.{run-along}
 use Rattle.decision.specs.Verdict.{Verdict, verdict}
 use Rattle.decision.specs.Contract.{says, node-count, Witness, Decided}
 use Rattle.decision.specs.declared.Verdict as code
@@ -78,11 +77,15 @@ module _ {N M : ℕ} where
       (λ _. asked-bounded (omega arith)
       (λ _. asked-bounded (omega arith) (λ n. asked-bounded (omega arith) (λ p. concluded-bounded _ c n p))))) o d
 
--- Theorem: what the decision answers is bounded.
+-- Theorem: the verdict's numbers are bounded,
+pub verdict-bounded : (N M workspace buffer : ℕ) (bytes : List ℕ) → Bounded N M (says (verdict N M workspace buffer bytes))
+verdict-bounded N M workspace buffer bytes =
+    answered-bounded bytes refl (verdict N M workspace buffer bytes) (verdict-answered N M workspace buffer bytes)
+
+-- and so is what the decision answers.
 pub decided-bounded : {bytes : List ℕ} {N M : ℕ} {w w′ b b′ : List ℕ} {v : code.Verdict} → Decided bytes N M w w′ b b′ v → Bounded N M v
 decided-bounded {bytes} {N} {M} {w} {b} d =
-    subst⁻¹ (Bounded N M) (d .answered)
-    (answered-bounded bytes refl (verdict N M (length w) (length b) bytes) (verdict-answered N M (length w) (length b) bytes))
+    subst⁻¹ (Bounded N M) (d .answered) (verdict-bounded N M (length w) (length b) bytes)
 
 -- letters of sixteen bits
 abbrev pub Letters-small : List ℕ → Type 0
@@ -108,10 +111,6 @@ module _ (t : Table) where
   along-small Along.stay = λ x i. absurd (List·Memᴰ·not-nil i)
   along-small (Along.on {u} {ss} {s} a m) = step-small ss s (along-small a) (letter-bound t u m)
 
-  run-small : {p : Profile} {ss : List Transition} → Run t p ss → Letters-small (map letter ss)
-  run-small (Run.one {v} m) = one-small (letter-bound t v m)
-  run-small (Run.more {p} {ss} {s} r m) = step-small ss s (run-small r) (letter-bound t (p .last) m)
-
 -- the letters of a witness: those before the cycle, and its own
 pub record Letters-parted (stem cycle : ℕ) (letters : List ℕ) : Type 0 where
   pub before : List ℕ
@@ -130,6 +129,6 @@ witness-parted {t} w =
       parts = w .letters-are ∙ map-append letter (w .there) (w .around);
       stem-is = w .stem-is ∙ sym (length-map (w .there) letter);
       cycle-is = w .cycle-is ∙ sym (length-map (w .around) letter);
-      before-small = along-small t (w .leads);
-      around-small = run-small t (w .accepted .run);
+      before-small = along-small t (w .foremost .is-one .leads);
+      around-small = along-small t (run-along t (w .foremost .is-one .counts .run));
     }

@@ -19,11 +19,11 @@ use Rattle.base.specs.Search.{Item, within}
 use Rattle.formula.specs.Table.{Table}
 use Rattle.tableau.specs.Saturation.{Subset}
 use Rattle.tableau.specs.Transition.{Transition, letter}
-use Rattle.tableau.specs.Nodes.{nodes}
+use Rattle.tableau.specs.Nodes.{nodes, stem-to}
 use Rattle.tableau.specs.Inner.{table-of}
 use Rattle.tableau.specs.Area.{reachable}
 use Rattle.tableau.specs.Origins.{way-letters}
-use Rattle.tableau.proofs.NodeLaws.{nodes-distinct}
+use Rattle.tableau.proofs.NodeLaws.{stem-of}
 use Rattle.profile.specs.Profiles as literal
 use Rattle.profile_tables.specs.Runs.{Found-profile, singles, profiles-from, profiles, count-within, accepting}
 use Rattle.profile_tables.proofs.NodeNumbers.{sets}
@@ -38,12 +38,11 @@ use Rattle.witness.specs.Letters.{stem-letters, cycle-letters, over, Witness-re
 use Rattle.witness.specs.declared.Lengths.{Lengths}
 use Rattle.witness.proofs.StemLaws.{origins-noted, stem-is}
 use Rattle.witness.proofs.CycleLaws.{counterpart, agreed-linked, cycle-is}
-use Rattle.decision.specs.Verdict.{stem-to, counted, conclude, workspace-size}
+use Rattle.decision.specs.Verdict.{counted, conclude, workspace-size}
 use Rattle.decision.specs.Contract.{node-count}
 use Rattle.decision.specs.declared.Verdict as code
 use Rattle.decision.specs.declared.Verdict.the-variants.{Satisfiable, Unsatisfiable, Refused}
 use Rattle.decision.specs.Searched.{Decoded, Profiled, Ready, Told, Answers, found-in, needed, concluded, Within, Searched}
-use Rattle.decision.proofs.WitnessLaws.{stem-of}
 use Rattle.decision.proofs.SettleLaws.{searched-15, searched-on}
 
 abbrev letters : List Transition → List ℕ
@@ -55,7 +54,7 @@ unfolding nodes
 way-stem t {j} a =
     let (x, b, e) = at-unmap (λ (n : Item Transition Subset). n .at) (nodes t) a in
     ap (λ (n : Item Transition Subset). letters (n .way)) (at-get b (record { way = []; at = [] }))
-    ∙ ap letters (sym (stem-of (nodes t) (nodes-distinct t) (at-in b)))
+    ∙ ap letters (sym (stem-of t (at-in b)))
     ∙ ap (λ (u : Subset). letters (stem-to u (nodes t))) e
 
 -- a buffer over which the letters of two runs are written

@@ -4,7 +4,8 @@
 -- (`granted-exactly`). It is 14 exactly if then K is above N (`refused-14-exactly`), and 15 exactly if then K is at most N, P above M, and
 -- c of l above M too where a shortest accepting cycle has l transitions (`refused-15-exactly`). Where nothing up to 14 refuses and some
 -- such lasso meets the formula, there is a shortest accepting cycle, and if c of its length is at most M, the verdict is MET with a short
--- witness (`met-short`). More room never alters MET or NOT (`more-room`, `more-room-decided`). Assumes nothing.
+-- witness (`met-short`). More room never alters MET or NOT (`more-room`, `more-room-decided`), and the inputs settle the rest too
+-- (`decided-settled`). Assumes nothing.
 use mathlib.Core.Path.{_≡_, refl, sym, ap, subst, subst⁻¹, _∙_}
 use mathlib.Core.Logic.{_↔_}
 use mathlib.Core.Bool.{true}
@@ -18,7 +19,7 @@ use Rattle.formula.specs.Table.{Table, table}
 use Rattle.formula.specs.Reading.{Reading, parse}
 use Rattle.lasso.specs.Lasso.{Lasso, over-alphabet, meets}
 use Rattle.decision.specs.Verdict.{Verdict, decide, ask-capacities, after-reading, verdict}
-use Rattle.decision.specs.Contract.{says, node-count, profile-count, profile-count-within, Witness, Decided}
+use Rattle.decision.specs.Contract.{says, node-count, profile-count, profile-count-within, Witness, leaves, Decided}
 use Rattle.decision.specs.declared.Verdict as code
 use Rattle.decision.specs.declared.Verdict.the-variants.{Satisfiable, Unsatisfiable, Refused, Unread}
 use Rattle.decision.specs.Lends.{Lends}
@@ -249,12 +250,19 @@ answered-is (Verdict.refused code) h = h
 answered-is (Verdict.satisfiable stem cycle K c letters) h = tt
 answered-is (Verdict.unsatisfiable K P) h = tt
 
--- Theorem: so it is with the operation itself; what it leaves in the witness buffer may be another witness of these lengths.
+-- Theorem: so it is with the operation itself, whose answer and whose witness are the same.
 pub more-room-decided : {bytes : List ℕ} {N M N′ M′ : ℕ} {w w₁ b b₁ w′ w₁′ b′ b₁′ : List ℕ} {r r′ : code.Verdict} → N ≤ N′ → M ≤ M′
-    → Lends N′ M′ (length w′) (length b′) → Decided bytes N M w w₁ b b₁ r → Decided bytes N′ M′ w′ w₁′ b′ b₁′ r′ → Answered r → r′ ≡ r
+    → Lends N′ M′ (length w′) (length b′) → Decided bytes N M w w₁ b b₁ r → Decided bytes N′ M′ w′ w₁′ b′ b₁′ r′ → Answered r
+    → (r′ ≡ r) × (b₁′ ≡ leaves (verdict N M (length w) (length b) bytes) b′)
 more-room-decided {bytes} {N} {M} {N′} {M′} {w} {b = b} {w′ = w′} {b′ = b′} n m l d e h =
     let v = verdict N M (length w) (length b) bytes in
-    e .answered
-    ∙ ap says (more-room N M (length w) (length b) N′ M′ (length w′) (length b′) n m l bytes
-    (answered-is v (subst Answered (d .answered) h)))
-    ∙ sym (d .answered)
+    let same =
+    more-room N M (length w) (length b) N′ M′ (length w′) (length b′) n m l bytes (answered-is v (subst Answered (d .answered) h)) in (
+      e .answered ∙ ap says same ∙ sym (d .answered),
+      e .buffered ∙ ap (λ (o : Verdict). leaves o b′) same,
+    )
+
+-- Theorem (MEANING 5.8): two calls with the same inputs answer the same, and leave the same in both areas.
+pub decided-settled : {bytes : List ℕ} {N M : ℕ} {w w₁ w₂ b b₁ b₂ : List ℕ} {r s : code.Verdict} → Decided bytes N M w w₁ b b₁ r
+    → Decided bytes N M w w₂ b b₂ s → (r ≡ s) × (b₁ ≡ b₂) × (w₁ ≡ w₂)
+decided-settled d e = (d .answered ∙ sym (e .answered), d .buffered ∙ sym (e .buffered), d .worked ∙ sym (e .worked))

@@ -23,12 +23,12 @@ use Rattle.profile.specs.Profiles as literal
 use Rattle.decision.specs.Verdict.{Verdict, counted, conclude, decide, workspace-size, witness-size, ask-capacities, after-reading}
 use Rattle.decision.specs.Verdict.{verdict}
 use Rattle.decision.specs.Lends.{Capacity, Lends}
-use Rattle.decision.specs.Contract.{says, node-count, Buffered, zeroed, cleared, Decided}
-use Rattle.decision.specs.Searched.{Decoded, leaves, Answers, Within, Searched, Settled, found-in, needed, concluded}
+use Rattle.decision.specs.Contract.{says, node-count, leaves, zeroed, cleared, Decided}
+use Rattle.decision.specs.Searched.{Decoded, Answers, Within, Searched, Settled, found-in, needed, concluded}
 use Rattle.decision.specs.declared.Verdict as code
 use Rattle.decision.specs.declared.Verdict.the-variants.{Refused, Unread}
 use Rattle.decision.proofs.VerdictLaws.{From11, From14, capacities-asked, decide-asked}
-use Rattle.decision.proofs.Answer.{past-13, verdict-met, verdict-unmet}
+use Rattle.decision.proofs.Answer.{past-13}
 
 -- The questions 14 and 15.
 module _ (N M : ℕ) (t : Table) where
@@ -116,26 +116,15 @@ module _ (bytes : List ℕ) (N M : ℕ) (workspace buffer : List ℕ) where
   abbrev whole-verdict : Verdict
   whole-verdict = verdict N M (length workspace) (length buffer) bytes
 
-  buffered : (buffer′ : List ℕ) (v : Verdict) → whole-verdict ≡ v → buffer′ ≡ leaves v buffer → Buffered bytes v buffer buffer′
-  buffered buffer′ (Verdict.unread why) e l = l
-  buffered buffer′ (Verdict.refused c) e l = l
-  buffered buffer′ (Verdict.unsatisfiable K P) e l = (verdict-unmet N M (length workspace) (length buffer) bytes K P e, l)
-  buffered buffer′ (Verdict.satisfiable stem cycle K c ls) e l =
-      record {
-        letters = ls;
-        met = verdict-met N M (length workspace) (length buffer) bytes stem cycle K c ls e;
-        filled = l;
-      }
-
   settled-decided : {workspace′ buffer′ : List ℕ} {r : code.Verdict} (f : Formula) → parse bytes ≡ Reading.accepted f
       → Settled (table f) N M workspace workspace′ buffer buffer′ r → Decided bytes N M workspace workspace′ buffer buffer′ r
   unfolding verdict
-  settled-decided {buffer′ = buffer′} f p s =
+  settled-decided f p s =
       let e : whole-verdict ≡ ask-capacities N M (length workspace) (length buffer) (table f) =
       ap (after-reading N M (length workspace) (length buffer)) p in
       record {
         answered = s .answers .answered ∙ sym (ap says e);
-        buffered = buffered buffer′ whole-verdict refl (s .answers .buffered ∙ sym (ap (λ (v : Verdict). leaves v buffer) e));
+        buffered = s .answers .buffered ∙ sym (ap (λ (v : Verdict). leaves v buffer) e);
         worked = s .worked ∙ sym (ap (λ (v : Verdict). cleared N M v workspace) e);
       }
 
@@ -154,7 +143,7 @@ module _ (bytes : List ℕ) (N M : ℕ) (workspace buffer : List ℕ) where
       let e : whole-verdict ≡ Verdict.unread why = ap (after-reading N M (length workspace) (length buffer)) p in
       record {
         answered = sym (ap says e);
-        buffered = subst⁻¹ (λ (v : Verdict). Buffered bytes v buffer buffer) e refl;
+        buffered = sym (ap (λ (v : Verdict). leaves v buffer) e);
         worked = sym (ap (λ (v : Verdict). cleared N M v workspace) e);
       }
 

@@ -1,10 +1,10 @@
 -- The verdict is that of MEANING 5: each refusal exactly where its question is the first that is answered by no, else MET with a witness,
 -- K and c of its cycle's length, or NOT where there is no accepting cycle, with K and P. `Verdict-cases` is the list of questions as a
 -- relation, without search and fuel; `Profiles-fit` is question 15 so. The verdict's definition meets it (`verdict-answered`), and it
--- leaves nothing open but the witness's letters (`answered-settled`). Assumes nothing.
+-- leaves nothing open (`answered-settled`), since there is one witness (`one-witness`). Assumes nothing.
 use mathlib.Core.Path.{_≡_, refl, sym, ap, subst, _∙_}
 use mathlib.Core.Option.{Option, none, some}
-use mathlib.Core.List.{List, []}
+use mathlib.Core.List.{List, _++_, map}
 use Prim.Native.Nat.{ℕ, _≤_}
 use native.Mathlib.Omega.{arith}
 use lib.Dec.{leb, leb→le, le→leb}
@@ -17,10 +17,12 @@ use Rattle.formula.specs.Table.{Table, table}
 use Rattle.formula.specs.Reading.{Reading, parse}
 use Rattle.formula.specs.declared.Refusal.{Refusal}
 use Rattle.tableau.specs.Saturation.{Subset}
-use Rattle.tableau.specs.Transition.{Transition}
+use Rattle.tableau.specs.Transition.{Transition, letter}
 use Rattle.tableau.specs.Nodes.{nodes}
+use Rattle.tableau.proofs.ForemostLaws.{one-foremost}
 use Rattle.profile.specs.Profiles.{Profile, profiles}
 use Rattle.profile.proofs.RootLaws.{root-apart}
+use Rattle.profile.proofs.CycleLaws.{run-along}
 use Rattle.decision.specs.Verdict.{Verdict, counted, conclude, decide, within-capacity, workspace-size, witness-size}
 use Rattle.decision.specs.Verdict.{ask-capacities, after-reading, verdict}
 use Rattle.decision.specs.Lends.{Capacity}
@@ -54,9 +56,21 @@ pub data Concluded (t : Table) : Verdict → Type 0 where
   unmet : NoCycle t → Concluded t (Verdict.unsatisfiable (node-count t) (profile-count t))
 
 -- the cycle of a witness is a shortest one, and all shortest ones have one length
+witness-cycle : {t : Table} {stem cycle : ℕ} {letters : List ℕ} (w : Witness t stem cycle letters)
+    → AcceptingCycle t (w .foremost .is-one .node) (w .around)
+witness-cycle w = w .foremost .is-one .counts
+
 pub witness-shortest : {t : Table} {stem cycle : ℕ} {letters : List ℕ} → Witness t stem cycle letters → Shortest t cycle
 witness-shortest w =
-    record { node = w .node; around = w .around; accepted = w .accepted; length-is = sym (w .cycle-is); fewest = w .cycle-fewest }
+    record {
+      node = w .foremost .is-one .node;
+      around = w .around;
+      accepted = witness-cycle w;
+      length-is = sym (w .cycle-is);
+      fewest = λ v ss c.
+          let (rs, a) = c .reachable in
+          omega (arith, w .foremost .cycle-fewest rs ss (record { node = v; leads = a; counts = c }), w .cycle-is);
+    }
 
 pub one-shortest : {t : Table} {l m : ℕ} → Shortest t l → Shortest t m → l ≡ m
 one-shortest s r =
@@ -164,38 +178,45 @@ pub verdict-answered : (N M workspace buffer : ℕ) (bytes : List ℕ)
 unfolding verdict
 verdict-answered N M workspace buffer bytes = read-answered N M workspace buffer (parse bytes)
 
--- A verdict without its letters.
-abbrev pub settled : Verdict → Verdict
-settled (Verdict.unread why) = Verdict.unread why
-settled (Verdict.refused code) = Verdict.refused code
-settled (Verdict.satisfiable stem cycle K c letters) = Verdict.satisfiable stem cycle K c []
-settled (Verdict.unsatisfiable K P) = Verdict.unsatisfiable K P
-
+-- nothing is left open
 abbrev Settles : (Verdict → Type 0) → Type 0
-Settles Is = (o p : Verdict) → Is o → Is p → settled o ≡ settled p
+Settles Is = (o p : Verdict) → Is o → Is p → o ≡ p
 
 asked-settled : (Question : Type 0) (refusal : Verdict) {After : Verdict → Type 0} → Settles After
     → Settles (Asked Question refusal After)
 asked-settled Question refusal s o p (Asked.answered-yes q a) b = s o p a (passed b q)
-asked-settled Question refusal s o p (Asked.answered-no n) b = ap settled (sym (first-refusal b n))
+asked-settled Question refusal s o p (Asked.answered-no n) b = sym (first-refusal b n)
 
-witness-settled : {t : Table} {a b c d : ℕ} {xs ys : List ℕ} → Witness t a b xs → Witness t c d ys → (a ≡ c) × (b ≡ d)
+-- Theorem: there is one witness, with its run.
+pub one-witness : {t : Table} {a b c d : ℕ} {xs ys : List ℕ} (w : Witness t a b xs) (u : Witness t c d ys)
+    → (w .there ≡ u .there) × (w .around ≡ u .around)
+one-witness {t} w u = one-foremost t (AcceptingCycle t) (λ v ss c. run-along t (c .run)) (w .foremost) (u .foremost)
+
+witness-settled : {t : Table} {a b c d : ℕ} {xs ys : List ℕ} → Witness t a b xs → Witness t c d ys → (a ≡ c) × (b ≡ d) × (xs ≡ ys)
 witness-settled w u =
-    let e = one-shortest (witness-shortest w) (witness-shortest u) in
-    let p = w .stem-fewest (u .node) (u .around) (u .there) (u .accepted) (sym (u .cycle-is) ∙ sym e) (u .leads) in
-    let q = u .stem-fewest (w .node) (w .around) (w .there) (w .accepted) (sym (w .cycle-is) ∙ e) (w .leads) in
-    (omega (arith, w .stem-is, u .stem-is), e)
+    let (p, q) = one-witness w u in (
+      w .stem-is ∙ ap length p ∙ sym (u .stem-is),
+      w .cycle-is ∙ ap length q ∙ sym (u .cycle-is),
+      w .letters-are ∙ (λ i. map letter (p i ++ q i)) ∙ sym (u .letters-are),
+    )
 
 concluded-settled : (t : Table) → Settles (Concluded t)
 concluded-settled t o p (met w) (met u) =
-    let (a, b) = witness-settled w u in
-    λ i. Verdict.satisfiable (a i) (b i) (node-count t) (profile-count-within t (b i)) []
-concluded-settled t o p (met w) (unmet n) = absurd (n (w .node) (w .around) (w .accepted))
-concluded-settled t o p (unmet n) (met u) = absurd (n (u .node) (u .around) (u .accepted))
+    let (a, b, e) = witness-settled w u in
+    λ i. Verdict.satisfiable (a i) (b i) (node-count t) (profile-count-within t (b i)) (e i)
+concluded-settled t o p (met w) (unmet n) = absurd (n _ _ (witness-cycle w))
+concluded-settled t o p (unmet n) (met u) = absurd (n _ _ (witness-cycle u))
 concluded-settled t o p (unmet n) (unmet m) = refl
 
--- Theorem (MEANING 5.8): two verdicts that answer the questions for the same inputs differ at most in the letters.
+-- Theorem (MEANING 5.8): two verdicts that answer the questions for the same inputs are one.
 pub answered-settled : (N M workspace buffer : ℕ) (r : Reading Formula) → Settles (Verdict-cases N M workspace buffer r)
 answered-settled N M workspace buffer r o p unread unread = refl
 answered-settled N M workspace buffer r o p (read {f} a) (read b) =
     asked-settled _ _ (asked-settled _ _ (asked-settled _ _ (asked-settled _ _ (asked-settled _ _ (concluded-settled (table f)))))) o p a b
+
+-- Theorem: so the verdict is the only one that answers them.
+pub verdict-only : (N M workspace buffer : ℕ) (bytes : List ℕ) (o : Verdict)
+    → Verdict-cases N M workspace buffer (parse bytes) o → o ≡ verdict N M workspace buffer bytes
+verdict-only N M workspace buffer bytes o a =
+    answered-settled N M workspace buffer (parse bytes) o (verdict N M workspace buffer bytes) a
+    (verdict-answered N M workspace buffer bytes)

@@ -1,141 +1,74 @@
--- What the decision hands back beside its counts. The profiles stand by rank: by the length of the run, and at equal length by the distance
--- of the first node from the root. So the first accepting one is that of an accepting cycle with the fewest transitions, at a node that is
--- nearest to the root of all that have such a cycle; and where there is none, there is no accepting cycle. Assumes nothing.
-use mathlib.Core.Path.{_≡_, refl, sym, ap, subst, subst⁻¹}
+-- The witness is the first of all runs in the shape of a lasso whose cycle is accepting. The profiles stand in the order of MEANING 5.4, each
+-- with the first of the runs that have it, and each node with the first of the runs to it. So the first accepting profile, with the way to
+-- its first node, stands before every accepting cycle with whatever stem; and where no profile is accepting, there is no accepting cycle.
+-- Assumes nothing.
+use mathlib.Core.Path.{_≡_, refl, ap}
 use mathlib.Core.Logic.{inl, inr}
-use mathlib.Core.Bool.{cond}
 use mathlib.Core.Option.{none, some}
-use mathlib.Core.List.{List, [], _∷_, _++_, map, List·Memᴰ, List·Memᴰ·head, List·Memᴰ·tail, List·Memᴰ·not-nil, List·Memᴰ·cases-cons}
-use Prim.Native.Nat.{ℕ, _+_, _*_, _≤_, _<_}
-use native.Mathlib.Omega.{arith}
-use native.Mathlib.Nat.{add-mul, one-mul, mul-le-mul-right}
-use native.Mathlib.Decide.{decLe}
-use lib.Dec.{T}
+use mathlib.Core.List.{List, _++_, map, List·Memᴰ}
 use lib.ListN.{length}
-use Rattle.base.specs.Lists.{first, tail}
+use Rattle.base.specs.Lists.{first}
 use Rattle.base.specs.Search.{Item}
-use Rattle.base.proofs.BoolLaws.{by-test}
-use Rattle.base.proofs.SearchLaws.{Distinct}
-use Rattle.base.proofs.SearchOrder.{Sorted}
 use Rattle.base.proofs.FirstLaws.{first-none, Least, first-some}
+use Rattle.base.proofs.OrderLaws.{no-later-trans}
 use Rattle.formula.specs.Table.{Table}
-use Rattle.tableau.specs.Saturation.{Subset, same-subset}
+use Rattle.tableau.specs.Saturation.{Subset}
 use Rattle.tableau.specs.Transition.{Transition, letter, transitions}
 use Rattle.tableau.specs.Nodes.{root, nodes}
-use Rattle.tableau.proofs.SaturationLaws.{subset-sound, subset-refl}
-use Rattle.tableau.proofs.NodeLaws.{nodes-all, nodes-distinct, nodes-first, others-in, nodes-sorted, nodes-near, nodes-along, nodes-short}
+use Rattle.tableau.specs.Foremost.{Foremost, standing}
+use Rattle.tableau.proofs.NodeLaws.{stem, stem-leads, stem-short, stem-first}
+use Rattle.tableau.proofs.ForemostLaws.{Stands-first, foremost-of, standing-by-stem}
 use Rattle.profile.specs.Profiles.{Profile, profiles, accepting}
-use Rattle.profile.proofs.ProfileLaws.{rank, profiles-sorted, profiles-short}
-use Rattle.profile.proofs.CycleLaws.{accepting-cycle, Accepting-listed, cycle-accepting}
-use Rattle.decision.specs.Verdict.{stem-to}
-use Rattle.decision.specs.Contract.{node-count, Witness}
-use Rattle.tableau.specs.Run.{Reachable, Along}
 use Rattle.profile.specs.Cycle.{Run, AcceptingCycle}
+use Rattle.profile.proofs.ProfileLaws.{run-standing, Sooner, profiles-sorted, profiles-short}
+use Rattle.profile.proofs.CycleLaws.{accepting-cycle, Accepting-listed, cycle-accepting}
+use Rattle.decision.specs.Contract.{Witness}
 
--- the stem to a node is the way that the node comes with
-pub stem-of : (ns : List (Item Transition Subset)) → Distinct ns → {x : Item Transition Subset} → List·Memᴰ x ns
-    → stem-to (x .at) ns ≡ x .way
-stem-of [] d m = absurd (List·Memᴰ·not-nil m)
-stem-of (n ∷ ns) (Distinct.more f d) {x} m =
-    by-test (same-subset (x .at) (n .at)) (λ b. cond b (n .way) (stem-to (x .at) ns) ≡ x .way)
-    (λ h.
-    elim (List·Memᴰ·cases-cons m) [
-      | inl e ↦ ap (λ (y : Item Transition Subset). y .way) (sym e)
-      | inr r ↦ absurd (f (x, r, sym (subset-sound (x .at) (n .at) h)))
-    ])
-    (λ h.
-    elim (List·Memᴰ·cases-cons m) [
-      | inl e ↦ absurd (h (subst (λ (y : Item Transition Subset). T (same-subset (x .at) (y .at))) e (subset-refl (x .at))))
-      | inr r ↦ stem-of ns d r
-    ])
+module _ (t : Table) (apart : (v : Subset) (s : Transition) → List·Memᴰ s (transitions t v) → s .to ≡ root t → ⊥) where
+  run-apart : {p : Profile} {ss : List Transition} → Run t p ss → p .last ≡ root t → ⊥
+  run-apart (Run.one {v} {s} m) e = apart v s m e
+  run-apart (Run.more {p} {s = s} r m) e = apart (p .last) s m e
 
-re-rank : {L K : Type 0} (r q : Item L K → ℕ) {xs : List (Item L K)} → Sorted r xs → ((x : Item L K) → List·Memᴰ x xs → r x ≡ q x)
-    → Sorted q xs
-re-rank r q Sorted.none f = Sorted.none
-re-rank r q (Sorted.more {x} {xs} g s) f =
-    Sorted.more {x = x} {xs = xs} (λ y m. omega (arith, g y m, f x (List·Memᴰ·head refl), f y (List·Memᴰ·tail m)))
-    (re-rank r q s (λ y m. f y (List·Memᴰ·tail m)))
+  listed : {v : Subset} {ss : List Transition} → AcceptingCycle t v ss → Accepting-listed t v ss
+  listed c = cycle-accepting t c (run-apart (c .run))
 
--- of two ranks the lower has the lower number in front, whatever follows it below d
-front : (a b x y d : ℕ) → y < d → a * d + x ≤ b * d + y → a ≤ b
-front a b x y d h l =
-    elim (decLe a b) [
-      | yes p ↦ p
-      | no n ↦ absurd (let m : (b + 1) * d ≤ a * d = mul-le-mul-right d (omega arith) in omega (arith, add-mul b 1 d, one-mul d))
-    ]
+  -- Theorem: where no profile is accepting, there is no accepting cycle.
+  pub no-cycle : first (accepting t) (profiles t (nodes t)) ≡ none → (v : Subset) (ss : List Transition) → AcceptingCycle t v ss → ⊥
+  no-cycle e v ss c = let k = listed c in first-none (accepting t) (profiles t (nodes t)) e (k .present) (k .accepted)
 
-module _ (t : Table) where
-  abbrev distance : Subset → ℕ
-  distance v = length (stem-to v (nodes t))
+  module _ {x : Item Transition Profile} (found : first (accepting t) (profiles t (nodes t)) ≡ some x) where
+    least : Least (accepting t) (Sooner t) (profiles t (nodes t)) x
+    least = first-some (accepting t) (Sooner t) (profiles-sorted t) found
 
-  distance-is : (n : Item Transition Subset) → List·Memᴰ n (nodes t) → length (n .way) ≡ distance (n .at)
-  distance-is n m = ap length (sym (stem-of (nodes t) (nodes-distinct t) m))
+    cycle : AcceptingCycle t (x .at .first) (x .way)
+    cycle = accepting-cycle t (least .present) (least .passes)
 
-  rising : Sorted (λ (n : Item Transition Subset). distance (n .at)) (tail (nodes t))
-  rising =
-      re-rank (λ n. length (n .way)) (λ n. distance (n .at)) (rest (subst (Sorted (λ n. length (n .way))) (nodes-first t) (nodes-sorted t)))
-      (λ n m. distance-is n (others-in t m))
-    where
-      rest : {x : Item Transition Subset} {xs : List (Item Transition Subset)} → Sorted (λ n. length (n .way)) (x ∷ xs)
-          → Sorted (λ n. length (n .way)) xs
-      rest (Sorted.more f s) = s
+    -- it stands before the profile of a cycle, this before the cycle with the stem to its node, and that before the cycle with any stem
+    stands-first : Stands-first t (AcceptingCycle t) (stem t (x .at .first)) (x .way)
+    stands-first rs ss r =
+        let k = listed (r .counts) in
+        no-later-trans (run-standing t x) (run-standing t (k .item)) (standing t rs ss)
+        (elim (least .ahead (k .item) (k .present) (k .accepted)) [ inl e ↦ inl (ap (run-standing t) e) | inr h ↦ inr h ])
+        (no-later-trans (run-standing t (k .item)) (standing t (stem t (r .node)) ss) (standing t rs ss) (k .stands)
+        (standing-by-stem t (stem t (r .node)) rs ss (stem-first t (r .leads))))
 
-  near : (n : Item Transition Subset) → List·Memᴰ n (nodes t) → distance (n .at) < node-count t
-  near n m = omega (arith, distance-is n m, nodes-short t m)
+    -- Theorem: the first accepting profile gives the first run in the shape of a lasso,
+    pub first-foremost : Foremost t (AcceptingCycle t) (stem t (x .at .first)) (x .way)
+    first-foremost =
+        foremost-of t (AcceptingCycle t)
+        (record { node = x .at .first; leads = stem-leads t (cycle .reachable); counts = cycle }) stands-first
 
-  abbrev by-rank : Item Transition Profile → ℕ
-  by-rank = rank t distance (node-count t) rising (λ n m. near n (others-in t m))
-
-  -- how far a reachable node is, and no way to it is shorter
-  distance-less : {v : Subset} → Reachable t v → distance v < node-count t
-  distance-less r = let (n, m, e) = nodes-all t r in omega (arith, near n m, ap distance e)
-
-  distance-least : {v : Subset} {ss : List Transition} → Along t (root t) ss v → distance v ≤ length ss
-  distance-least a = let (n, m, e, h) = nodes-near t a in omega (arith, distance-is n m, ap distance e)
-
-  stem-leads : {v : Subset} → Reachable t v → Along t (root t) (stem-to v (nodes t)) v
-  stem-leads {v} r =
-      let (n, m, e) = nodes-all t r in
-      subst⁻¹ (λ (u : Subset). Along t (root t) (stem-to u (nodes t)) u) e
-      (subst⁻¹ (λ (ss : List Transition). Along t (root t) ss (n .at)) (stem-of (nodes t) (nodes-distinct t) m) (nodes-along t m))
-
-  module _ (apart : (v : Subset) (s : Transition) → List·Memᴰ s (transitions t v) → s .to ≡ root t → ⊥) where
-    run-apart : {p : Profile} {ss : List Transition} → Run t p ss → p .last ≡ root t → ⊥
-    run-apart (Run.one {v} {s} m) e = apart v s m e
-    run-apart (Run.more {p} {s = s} r m) e = apart (p .last) s m e
-
-    kept : {v : Subset} {ss : List Transition} → AcceptingCycle t v ss → Accepting-listed t by-rank (length ss * node-count t + distance v)
-    kept c = cycle-accepting t distance (node-count t) rising (λ n m. near n (others-in t m)) c (run-apart (c .run))
-
-    -- Theorem: where no profile is accepting, there is no accepting cycle.
-    pub no-cycle : first (accepting t) (profiles t (nodes t)) ≡ none → (v : Subset) (ss : List Transition) → AcceptingCycle t v ss → ⊥
-    no-cycle e v ss c = let k = kept c in first-none (accepting t) (profiles t (nodes t)) e (k .present) (k .accepted)
-
-    -- Theorem: the first accepting profile gives a witness.
-    pub first-witness : {x : Item Transition Profile} → first (accepting t) (profiles t (nodes t)) ≡ some x
-        → let there = stem-to (x .at .first) (nodes t) in
+    -- and so the witness.
+    pub first-witness : let there = stem t (x .at .first) in
         Witness t (length there) (length (x .way)) (map letter (there ++ x .way))
-    first-witness {x} e =
-        let l : Least (accepting t) by-rank (profiles t (nodes t)) x =
-        first-some (accepting t) by-rank (profiles-sorted t distance (node-count t) rising (λ n m. near n (others-in t m))) e in
-        let c : AcceptingCycle t (x .at .first) (x .way) = accepting-cycle t (l .present) (l .passes) in
+    first-witness =
         record {
-          node = x .at .first;
-          there = stem-to (x .at .first) (nodes t);
+          there = stem t (x .at .first);
           around = x .way;
-          leads = stem-leads (c .reachable);
-          accepted = c;
+          foremost = first-foremost;
           stem-is = refl;
           cycle-is = refl;
           letters-are = refl;
-          cycle-fewest = λ v ss a.
-              let k = kept a in
-              front (length (x .way)) (length ss) (distance (x .at .first)) (distance v) (node-count t) (distance-less (a .reachable))
-              (omega (arith, l .lowest (k .item) (k .present) (k .accepted), k .low));
-          stem-fewest = λ v ss rs a q r.
-              let k = kept a in
-              let z : length ss * node-count t ≡ length (x .way) * node-count t = ap (λ (i : ℕ). i * node-count t) q in
-              omega (arith, l .lowest (k .item) (k .present) (k .accepted), k .low, distance-least r);
-          stem-short = distance-less (c .reachable);
-          cycle-short = profiles-short t (l .present);
+          stem-short = stem-short t (cycle .reachable);
+          cycle-short = profiles-short t (least .present);
         }

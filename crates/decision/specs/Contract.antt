@@ -1,8 +1,8 @@
--- What the decision promises: its answer, the witness, and what the workspace and the witness buffer hold afterwards, in every case.
--- `Decided` is the whole of MEANING 5. Assumes nothing.
+-- What the decision promises: its answer, and what the workspace and the witness buffer hold afterwards, in every case, as equations
+-- (`Decided`); and what a verdict says of the formula (`Met`, `Unmet`), which proofs/Answer.antt proves of every verdict. Assumes nothing.
 use mathlib.Core.Path.{_≡_}
 use mathlib.Core.Bool.{true, cond}
-use mathlib.Core.List.{List, _++_, map}
+use mathlib.Core.List.{List, [], _++_, map}
 use Prim.Native.Nat.{ℕ, _+_, _≤_, _<_}
 use lib.Dec.{leb}
 use lib.ListN.{length, drop, replicate}
@@ -11,10 +11,9 @@ use Rattle.formula.specs.Formula.{Formula}
 use Rattle.formula.specs.Table.{Table, table}
 use Rattle.formula.specs.Reading.{Reading, parse}
 use Rattle.lasso.specs.Lasso.{Lasso, over-alphabet, meets}
-use Rattle.tableau.specs.Saturation.{Subset}
 use Rattle.tableau.specs.Transition.{Transition, letter}
-use Rattle.tableau.specs.Nodes.{root, nodes}
-use Rattle.tableau.specs.Run.{Along}
+use Rattle.tableau.specs.Nodes.{nodes}
+use Rattle.tableau.specs.Foremost.{Foremost}
 use Rattle.profile.specs.Profiles.{profiles}
 use Rattle.profile.specs.Cycle.{AcceptingCycle}
 use Rattle.decision.specs.Verdict.{Verdict, workspace-size, verdict}
@@ -40,21 +39,15 @@ profile-count t = length (profiles t (nodes t))
 abbrev pub profile-count-within : Table → (l : ℕ) → ℕ
 profile-count-within t l = length (within l (profiles t (nodes t)))
 
--- MEANING 5.4 and 5.6: a run to a node, an accepting cycle of this node, their letters; no accepting cycle has fewer transitions, and no
--- node with one as short is nearer; the stem has fewer letters than K, the cycle at most c of its length. Which of the witnesses it is
--- stays free (5.8).
+-- MEANING 5.4 and 5.6: a run to a node and an accepting cycle of this node, the first of all such, with their letters; the stem has fewer
+-- letters than K, the cycle at most c of its length.
 pub record Witness (t : Table) (stem cycle : ℕ) (letters : List ℕ) : Type 0 where
-  pub node : Subset
   pub there : List Transition
   pub around : List Transition
-  pub leads : Along t (root t) there node
-  pub accepted : AcceptingCycle t node around
+  pub foremost : Foremost t (AcceptingCycle t) there around
   pub stem-is : stem ≡ length there
   pub cycle-is : cycle ≡ length around
   pub letters-are : letters ≡ map letter (there ++ around)
-  pub cycle-fewest : (v : Subset) (ss : List Transition) → AcceptingCycle t v ss → cycle ≤ length ss
-  pub stem-fewest : (v : Subset) (ss rs : List Transition) → AcceptingCycle t v ss → length ss ≡ cycle → Along t (root t) rs v
-      → stem ≤ length rs
   pub stem-short : stem < node-count t
   pub cycle-short : cycle ≤ profile-count-within t cycle
 
@@ -76,18 +69,19 @@ pub record Unmet (bytes : List ℕ) (K P : ℕ) : Type 0 where
   pub nodes-counted : K ≡ node-count (table formula)
   pub profiles-counted : P ≡ profile-count (table formula)
 
--- the witness buffer before MET and after it: the letters first, then what was there
-pub record Filled (bytes : List ℕ) (stem cycle K c : ℕ) (before after : List ℕ) : Type 0 where
-  pub letters : List ℕ
-  pub met : Met bytes stem cycle K c letters
-  pub filled : after ≡ letters ++ drop (stem + cycle) before
+-- the letters of the witness; without one there are none
+abbrev pub letters-of : Verdict → List ℕ
+letters-of (Verdict.unread why) = []
+letters-of (Verdict.refused c) = []
+letters-of (Verdict.satisfiable stem cycle K c letters) = letters
+letters-of (Verdict.unsatisfiable K P) = []
 
--- the witness buffer for each verdict (MEANING 5.5), with what MET and NOT say
-abbrev pub Buffered : List ℕ → Verdict → (before after : List ℕ) → Type 0
-Buffered bytes (Verdict.unread why) before after = after ≡ before
-Buffered bytes (Verdict.refused c) before after = after ≡ before
-Buffered bytes (Verdict.satisfiable stem cycle K c _) before after = Filled bytes stem cycle K c before after
-Buffered bytes (Verdict.unsatisfiable K P) before after = Unmet bytes K P × (after ≡ before)
+-- the witness buffer after each verdict (MEANING 5.5): for MET the letters first, then what was there
+abbrev pub leaves : Verdict → List ℕ → List ℕ
+leaves (Verdict.unread why) l = l
+leaves (Verdict.refused c) l = l
+leaves (Verdict.satisfiable stem cycle K c letters) l = letters ++ drop (stem + cycle) l
+leaves (Verdict.unsatisfiable K P) l = l
 
 -- a workspace with the bytes that question 12 asks for 0, and the others as they were
 abbrev pub zeroed : (N M : ℕ) → List ℕ → List ℕ
@@ -103,5 +97,5 @@ cleared N M (Verdict.unsatisfiable K P) w = zeroed N M w
 -- The whole promise: a formula's bytes, the capacities, the workspace and the buffer before and after, the answer.
 pub record Decided (bytes : List ℕ) (N M : ℕ) (workspace workspace′ buffer buffer′ : List ℕ) (answer : code.Verdict) : Type 0 where
   pub answered : answer ≡ says (verdict N M (length workspace) (length buffer) bytes)
-  pub buffered : Buffered bytes (verdict N M (length workspace) (length buffer) bytes) buffer buffer′
+  pub buffered : buffer′ ≡ leaves (verdict N M (length workspace) (length buffer) bytes) buffer
   pub worked : workspace′ ≡ cleared N M (verdict N M (length workspace) (length buffer) bytes) workspace

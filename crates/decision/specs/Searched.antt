@@ -1,9 +1,9 @@
 -- What the functions promise that build the tableau, search the profiles and answer. A reader of the decision's contract need not read
 -- it. Assumes nothing.
 use mathlib.Core.Path.{_≡_}
-use mathlib.Core.List.{List, _++_}
+use mathlib.Core.List.{List}
 use mathlib.Core.Option.{Option}
-use Prim.Native.Nat.{ℕ, _+_, _*_, _≤_}
+use Prim.Native.Nat.{ℕ, _*_, _≤_}
 use lib.ListN.{length, drop}
 use Rattle.base.specs.Lists.{first}
 use Rattle.base.specs.Search.{Item}
@@ -26,7 +26,7 @@ use Rattle.cycle_search.specs.declared.Sought.the-variants as sought
 use Rattle.witness.specs.Letters.{Witness-ready, Witness-written}
 use Rattle.witness.specs.declared.Lengths.{Lengths}
 use Rattle.decision.specs.Verdict.{Verdict, counted, conclude, decide, workspace-size, ask-capacities}
-use Rattle.decision.specs.Contract.{says, node-count, cleared}
+use Rattle.decision.specs.Contract.{says, node-count, leaves, cleared}
 use Rattle.decision.specs.declared.Verdict as code
 use Rattle.decision.specs.declared.Verdict.the-variants.{Satisfiable, Unsatisfiable, Refused}
 
@@ -66,13 +66,6 @@ Told origins s area K (sought.Accepting p count) before after r =
     (w : Lengths) × Witness-written origins s area p before after w × (r ≡ Satisfiable (w .stem) (w .cycle) K count)
 Told origins s area K (sought.Nowhere count) before after r = (after ≡ before) × (r ≡ Unsatisfiable K count)
 Told origins s area K sought.NoRoom before after r = (after ≡ before) × (r ≡ Refused 15)
-
--- the witness buffer after a verdict: for MET its letters, then what was there
-abbrev pub leaves : Verdict → List ℕ → List ℕ
-leaves (Verdict.unread why) l = l
-leaves (Verdict.refused c) l = l
-leaves (Verdict.satisfiable stem cycle K c letters) l = letters ++ drop (stem + cycle) l
-leaves (Verdict.unsatisfiable K P) l = l
 
 -- The answer to a verdict, and what it leaves in the witness buffer.
 pub record Answers (v : Verdict) (before after : List ℕ) (r : code.Verdict) : Type 0 where

@@ -1,7 +1,7 @@
--- The decision: MEANING 5. Of several witnesses as short it takes the first in the order of the search; a caller may count on
--- MEANING 5.4 and on nothing more. Assumes nothing.
-use mathlib.Core.Bool.{Bool, cond, _&&_}
-use mathlib.Core.List.{List, [], _∷_, _++_, map}
+-- The decision: MEANING 5. The witness is the way to the first node of the first accepting profile, and its run: of all that there are,
+-- the one that MEANING 5.4 puts first (proofs/WitnessLaws.antt). Assumes nothing.
+use mathlib.Core.Bool.{Bool, _&&_}
+use mathlib.Core.List.{List, _++_, map}
 use mathlib.Core.Option.{Option, none, some}
 use Prim.Native.Nat.{ℕ, _+_, _*_}
 use lib.Dec.{leb}
@@ -14,9 +14,9 @@ use Rattle.formula.specs.Formula.{Formula}
 use Rattle.formula.specs.Table.{Table, table}
 use Rattle.formula.specs.Reading.{Reading, parse}
 use Rattle.formula.specs.declared.Refusal.{Refusal}
-use Rattle.tableau.specs.Saturation.{Subset, same-subset}
+use Rattle.tableau.specs.Saturation.{Subset}
 use Rattle.tableau.specs.Transition.{Transition, letter}
-use Rattle.tableau.specs.Nodes.{nodes}
+use Rattle.tableau.specs.Nodes.{nodes, stem-to}
 use Rattle.profile.specs.Profiles.{Profile, profiles, rejecting, accepting}
 
 -- A refusal of reading; 11 to 15; MET with the lengths of stem and cycle, K, c of the cycle's length and the letters; NOT with K and P.
@@ -25,11 +25,6 @@ pub data Verdict : Type 0 where
   refused : (code : ℕ) → Verdict
   satisfiable : (stem cycle K c : ℕ) (letters : List ℕ) → Verdict
   unsatisfiable : (K P : ℕ) → Verdict
-
--- the way by which the search came to a node: none is shorter
-abbrev pub stem-to : Subset → List (Item Transition Subset) → List Transition
-stem-to v [] = []
-stem-to v (n ∷ ns) = let r = stem-to v ns in cond (same-subset v (n .at)) (n .way) r
 
 -- The profiles that a verdict counts, and needs room for: all of them, or where an accepting one was found, those of runs that are no
 -- longer than the cycle; their number is then c of l (document 02), l being the cycle's length.
@@ -44,7 +39,7 @@ conclude ns qs (some x) =
     let stem = stem-to (x .at .first) ns in
     Verdict.satisfiable (length stem) (length (x .way)) (length ns) (length qs) (map letter (stem ++ x .way))
 
--- The questions 14 and 15, and then the first accepting profile. Profiles come in order of their runs' lengths, so its cycle is a shortest.
+-- The questions 14 and 15, and then the first accepting profile.
 unfoldable pub decide : (N M : ℕ) → Table → Verdict
 unfolding letter-of nodes profiles rejecting
 decide N M t =

@@ -1,30 +1,38 @@
 -- The profiles are exactly those of runs of one or more transitions whose first node is reachable and not the root, each once, so
 -- that P is their number; `Run` says it without search and fuel. A profile's nodes are reachable and its triples are a part of all
--- triples, so the search's fuel is enough. The search goes by rising rank: the length of the run first, then how far its first node is
--- from the root; so each profile comes with the transitions of a shortest run that has it. Those with runs of at most l transitions are
--- therefore the profiles of such runs, c of l in number, and c of l is at least l where a listed run has l transitions. Assumes nothing.
+-- triples, so the search's fuel is enough. The profiles stand in the order of MEANING 5.4, and each comes with the first of the runs that
+-- have it, in particular with a shortest. Those with runs of at most l transitions are therefore the profiles of such runs, c of l in number,
+-- and c of l is at least l where a listed run has l transitions. Assumes nothing.
 use mathlib.Core.Path.{_≡_, refl, sym, ap, subst, subst⁻¹, _∙_}
 use mathlib.Core.Bool.{_&&_}
-use mathlib.Core.List.{List, [], _∷_, _++_, map, List·Memᴰ, Memᴰ·map, Memᴰ·of-map, Memᴰ·cast}
+use mathlib.Core.Logic.{inl, inr}
+use mathlib.Core.List.{List, [], _∷_, _++_, map, map-append, append-assoc, List·Memᴰ, Memᴰ·map, Memᴰ·of-map, Memᴰ·cast}
 use Prim.Native.Nat.{ℕ, _+_, _*_, _^_, _≤_, _<_}
 use native.Mathlib.Omega.{arith}
-use native.Mathlib.Nat.{mul-assoc, add-mul, one-mul, mul-one}
+use native.Mathlib.Nat.{mul-assoc, le-of-eq}
 use lib.Dec.{T}
-use lib.ListN.{length, length-append, length-map}
+use lib.ListN.{length, length-map}
 use Rattle.base.specs.Lists.{flat-map, alike, tail}
+use Rattle.base.specs.Order.{Before}
 use Rattle.base.specs.Search.{Edge, Item, onward, within}
 use Rattle.base.proofs.BoolLaws.{and-left, and-right, and-both}
 use Rattle.base.proofs.MemberLaws.{flat-map-of, flat-map-in, length-flat-map, alike-sound, alike-refl, parts, parts-length, parts-in}
 use Rattle.base.proofs.MemberLaws.{filter-part}
 use Rattle.base.proofs.SearchLaws.{Visits, Distinct, same-number, Reachable-by, search-found, search-few, search-distinct}
 use Rattle.base.proofs.WithinLaws.{within-of, within-in, within-distinct, search-short-within}
-use Rattle.base.proofs.SearchOrder.{Sorted, sorted-same, sorted-append, Rank-within, Far, search-sorted, search-near}
+use Rattle.base.proofs.SortedLaws.{Sorted, sorted-tail, sorted-map, sorted-flat-map}
+use Rattle.base.proofs.SearchOrder.{Led}
+use Rattle.base.proofs.WayOrder.{Rising, ways-sorted, ways-first}
+use Rattle.base.proofs.OrderLaws.{before-front, before-behind}
 use Rattle.formula.specs.Table.{Table}
 use Rattle.tableau.specs.Saturation.{Subset, same-subset}
-use Rattle.tableau.specs.Transition.{Transition, transitions}
+use Rattle.tableau.specs.Transition.{choice-word, Transition, transitions}
 use Rattle.tableau.specs.Nodes.{root, nodes}
 use Rattle.tableau.proofs.SaturationLaws.{subset-sound, subset-refl}
-use Rattle.tableau.proofs.NodeLaws.{by-transition, nodes-all, others-reachable, others-all}
+use Rattle.tableau.specs.Foremost.{choice-words, standing}
+use Rattle.tableau.proofs.ChoiceWords.{Rises, transitions-rising}
+use Rattle.tableau.proofs.NodeLaws.{by-transition, by-way, Nearer, nodes-sorted, nodes-all, nodes-first, stem, stem-of}
+use Rattle.tableau.proofs.NodeLaws.{others-in, others-reachable, others-all}
 use Rattle.profile.specs.Traces.{Triple, same-triple, all-triples, triples, join}
 use Rattle.profile.specs.Profiles.{Profile, same-profile, single, extended, longer, profile-edges, profile-room, profiles}
 use Rattle.profile.specs.Cycle.{Run, Run.one, Run.more}
@@ -156,6 +164,12 @@ module _ (t : Table) where
   unfolding profiles
   profiles-run {x} m = found-run x (search-found same-profile (profile-edges t) room starts m)
 
+  single-way : (y : Item Transition Profile) → List·Memᴰ y starts → length (y .way) ≡ 1
+  single-way y m =
+      let (n, p, q) = start-of m in
+      let (s, r, e) = single-of n q in
+      ap (λ (z : Item Transition Profile). length (z .way)) (sym e)
+
   -- Theorem: a run that comes with a profile has at most as many transitions as there are profiles of runs no longer than it.
   pub profiles-short : {x : Item Transition Profile} → List·Memᴰ x (profiles t (nodes t))
       → length (x .way) ≤ length (within (length (x .way)) (profiles t (nodes t)))
@@ -163,87 +177,110 @@ module _ (t : Table) where
   profiles-short m =
       omega (
         arith,
-        search-short-within same-profile (profile-edges t) 1 room starts
-            (λ y m.
-            let (n, p, q) = start-of m in
-            let (s, r, e) = single-of n q in
-            ap (λ (z : Item Transition Profile). length (z .way)) (sym e)) m,
+        search-short-within same-profile (profile-edges t) 1 room starts single-way m,
       )
 
--- The rank is the length of the run times d, plus the distance of its first node: any distance by which the nodes stand in order, less
--- than d, so that the length comes first.
-module _ (t : Table) (distance : Subset → ℕ) (d : ℕ) (rising : Sorted (λ (n : Item Transition Subset). distance (n .at)) (tail (nodes t)))
-    (near : (n : Item Transition Subset) → List·Memᴰ n (tail (nodes t)) → distance (n .at) < d)
-  where
-    abbrev pub rank : Item Transition Profile → ℕ
-    rank x = length (x .way) * d + distance (x .at .first)
+-- The order in which the profiles stand is that of MEANING 5.4: a run stands as the stem to its first node and the run.
+module _ (t : Table) where
+  abbrev pub run-standing : Item Transition Profile → List ℕ
+  run-standing x = standing t (stem t (x .at .first)) (x .way)
 
-    longer-by : (ss : List Transition) (s : Transition) → length (ss ++ (s ∷ [])) * d ≡ length ss * d + d
-    longer-by ss s =
-        ap (λ (n : ℕ). n * d) (length-append ss (s ∷ [])) ∙ add-mul (length ss) 1 d ∙ ap (λ (n : ℕ). length ss * d + n) (one-mul d)
+  abbrev pub Sooner : Item Transition Profile → Item Transition Profile → Type 0
+  Sooner x y = Before (run-standing x) (run-standing y)
 
-    raised : (x : Item Transition Profile) (e : Edge Transition Profile) → List·Memᴰ e (profile-edges t (x .at))
-        → rank (onward same-profile (profile-edges t) x e) ≡ rank x + d
-    raised x e m =
-        let (s, r, q) = edges-of t (x .at) m in
-        let f : distance (e .to .first) ≡ distance (x .at .first) = ap (λ (d : Edge Transition Profile). distance (d .to .first)) (sym q) in
-        omega (arith, longer-by (x .way) (e .label))
+  abbrev word : Transition → ℕ
+  word s = choice-word t (s .choice)
 
-    single-rank : (n : Item Transition Subset) (y : Item Transition Profile) → List·Memᴰ y (singles t n) → rank y ≡ d + distance (n .at)
-    single-rank n y m =
-        let (s, r, q) = single-of t n m in
-        subst (λ (z : Item Transition Profile). rank z ≡ d + distance (n .at)) q (ap (λ (k : ℕ). k + distance (n .at)) (one-mul d))
+  abbrev words : Item Transition Profile → List ℕ
+  words x = let ss = stem t (x .at .first) in length ss ∷ choice-words t (ss ++ x .way)
 
-    singles-sorted : (ns : List (Item Transition Subset)) → Sorted (λ (n : Item Transition Subset). distance (n .at)) ns
-        → Sorted rank (flat-map (singles t) ns)
-    singles-sorted [] s = Sorted.none
-    singles-sorted (n ∷ ns) (Sorted.more g s) =
-        sorted-append rank (sorted-same rank (d + distance (n .at)) (singles t n) (single-rank n)) (singles-sorted ns s)
-        (λ x y p q.
-        let (k, i, j) = flat-map-of (singles t) ns q in
-        omega (arith, single-rank n x p, single-rank k y j, g k i))
+  -- a run with one transition more has one choice word more
+  adds : (x : Item Transition Profile) (e : Edge Transition Profile) → List·Memᴰ e (profile-edges t (x .at))
+      → words (onward same-profile (profile-edges t) x e) ≡ words x ++ (word (e .label) ∷ [])
+  adds x e m =
+      let (s, r, q) = edges-of t (x .at) m in
+      let ss = stem t (x .at .first) in
+      ap (λ (d : Edge Transition Profile). words (record { way = x .way ++ (e .label ∷ []); at = d .to })) (sym q)
+      ∙ ap (λ (l : List Transition). length ss ∷ choice-words t l) (sym (append-assoc ss (x .way) (e .label ∷ [])))
+      ∙ ap (λ (l : List ℕ). length ss ∷ l) (map-append word (ss ++ x .way) (e .label ∷ []))
 
-    starts-tight : (y z : Item Transition Profile) → List·Memᴰ y (starts t) → List·Memᴰ z (starts t) → rank z ≤ rank y + d
-    starts-tight y z p q =
-        let (a, i, j) = start-of t p in
-        let (b, k, l) = start-of t q in
-        omega (arith, single-rank a y j, single-rank b z l, near b k)
+  edges-rising : (p : Profile) → Sorted (Rising same-profile (profile-edges t) word words) (profile-edges t p)
+  unfolding triples join
+  edges-rising p =
+      sorted-map (Rises t) (Rising same-profile (profile-edges t) word words) (longer t p) (transitions t (p .last))
+      (transitions-rising t (p .last)) (λ s r m n l. l)
 
-    -- Theorem: the profiles stand by rising rank,
-    pub profiles-sorted : Sorted rank (profiles t (nodes t))
-    unfolding profiles
-    profiles-sorted =
-        search-sorted same-profile (profile-edges t) rank d profile-sound raised (starts t) (singles-sorted (tail (nodes t)) rising)
-        starts-tight (room t)
+  -- what a run of one transition from node n stands by
+  single-words : (n : Item Transition Subset) → List·Memᴰ n (nodes t) → (s : Transition) → words (begun t (n .at) s) ≡ by-way t n ++ (word s ∷ [])
+  single-words n m s =
+      ap (λ (ss : List Transition). length ss ∷ choice-words t (ss ++ (s ∷ []))) (stem-of t m)
+      ∙ ap (λ (l : List ℕ). length (n .way) ∷ l) (map-append word (n .way) (s ∷ []))
 
-    run-far : {p : Profile} {ss : List Transition} → Run t p ss → Begins t (p .first)
-        → Far same-profile (profile-edges t) rank d (starts t) p (length ss * d + distance (p .first))
-    run-far (Run.one {v} {s} m) b =
-        let (x, q, e) = others-all t (b .reachable) (b .no-root) in
-        Far.start {x = begun t v s}
-        (flat-map-in (singles t) q
-        (subst (λ (u : Subset). List·Memᴰ (begun t v s) (map (begun t u) (transitions t u))) e (Memᴰ·map (begun t v) m)))
-    run-far (Run.more {p} {ss} {s} r m) b =
-        subst (Far same-profile (profile-edges t) rank d (starts t) (extended t p s)) (omega (arith, longer-by ss s))
-        (Far.go {e = record { label = s; to = extended t p s }} (run-far r b) (edges-in t p m))
+  singles-before : (n k : Item Transition Subset) → List·Memᴰ n (nodes t) → List·Memᴰ k (nodes t) → (s r : Transition)
+      → Before (by-way t n ++ (word s ∷ [])) (by-way t k ++ (word r ∷ [])) → Sooner (begun t (n .at) s) (begun t (k .at) r)
+  singles-before n k i j s r h =
+      inr (
+        refl,
+        subst⁻¹ (λ (l : List ℕ). Before l (words (begun t (k .at) r))) (single-words n i s)
+            (subst⁻¹ (Before (by-way t n ++ (word s ∷ []))) (single-words k j r) h),
+      )
 
-    -- and each run's profile is listed, at a rank as low as any run gives it.
-    pub profiles-near : {p : Profile} {ss : List Transition} → Run t p ss → Begins t (p .first)
-        → Rank-within rank (profiles t (nodes t)) p (length ss * d + distance (p .first))
-    unfolding profiles
-    profiles-near r b =
-        search-near same-profile (profile-edges t) rank d profile-sound raised (starts t) (singles-sorted (tail (nodes t)) rising)
-        starts-tight (room t)
-        (omega (arith, few t)) (run-far r b)
+  -- those from one node, and those from two of which one is nearer
+  singles-sorted : (n : Item Transition Subset) → List·Memᴰ n (nodes t) → Sorted Sooner (singles t n)
+  singles-sorted n i =
+      sorted-map (Rises t) Sooner (begun t (n .at)) (transitions t (n .at)) (transitions-rising t (n .at))
+      (λ s r m k l. singles-before n n i i s r (before-behind (by-way t n) (word s ∷ []) (word r ∷ []) (inl l)))
 
--- Theorem: each run's profile is listed, with a run that is no longer.
-pub profiles-all : (t : Table) {p : Profile} {ss : List Transition} → Run t p ss → Begins t (p .first)
-    → Rank-within (λ (x : Item Transition Profile). length (x .way)) (profiles t (nodes t)) p (length ss)
-profiles-all t {p} {ss} r b =
-    let (x, m, e, h) =
-    profiles-near t (λ v. 0) 1 (sorted-same (λ (n : Item Transition Subset). 0) 0 (tail (nodes t)) (λ y m. refl)) (λ n m. omega arith) r
-    b in
-    (x, m, e, omega (arith, mul-one (length ss), mul-one (length (x .way))))
+  starts-sorted : Sorted Sooner (starts t)
+  starts-sorted =
+      sorted-flat-map (Nearer t) Sooner (singles t) (tail (nodes t))
+      (sorted-tail (Nearer t) (subst (Sorted (Nearer t)) (nodes-first t) (nodes-sorted t)))
+      (λ n i. singles-sorted n (others-in t i))
+      (λ n k i j h x y p q.
+      let (s, a, e) = single-of t n p in
+      let (r, b, f) = single-of t k q in
+      subst (λ (z : Item Transition Profile). Sooner z y) e
+      (subst (Sooner (begun t (n .at) s)) f
+      (singles-before n k (others-in t i) (others-in t j) s r (before-front (by-way t n) (by-way t k) (word s ∷ []) (word r ∷ []) h))))
+
+  -- Theorem: the profiles stand in that order,
+  pub profiles-sorted : Sorted Sooner (profiles t (nodes t))
+  unfolding profiles
+  profiles-sorted =
+      ways-sorted same-profile (profile-edges t) word words adds edges-rising profile-sound (starts t) starts-sorted 1 (single-way t) (room t)
+
+  run-found : {p : Profile} {ss : List Transition} → Run t p ss → Begins t (p .first)
+      → Reachable-by same-profile (profile-edges t) (starts t) (record { way = ss; at = p })
+  run-found (Run.one {v} {s} m) b =
+      let (x, q, e) = others-all t (b .reachable) (b .no-root) in
+      Reachable-by.start {x = begun t v s}
+      (flat-map-in (singles t) q
+      (subst (λ (u : Subset). List·Memᴰ (begun t v s) (map (begun t u) (transitions t u))) e (Memᴰ·map (begun t v) m)))
+  run-found (Run.more {p} {s} r m) b =
+      Reachable-by.go {e = record { label = s; to = extended t p s }} (run-found r b) (edges-in t p m)
+
+  -- and each run's profile is listed, with the first of the runs that have it,
+  pub profiles-led : {p : Profile} {ss : List Transition} → Run t p ss → Begins t (p .first)
+      → Led same-profile (profile-edges t) Sooner (profiles t (nodes t)) (record { way = ss; at = p })
+  unfolding profiles
+  profiles-led r b =
+      ways-first same-profile (profile-edges t) word words adds edges-rising profile-sound (starts t) starts-sorted 1 (single-way t) (room t)
+      (omega (arith, few t)) (run-found r b)
+
+  -- which is no longer than any of them.
+  pub profiles-all : {p : Profile} {ss : List Transition} → Run t p ss → Begins t (p .first)
+      → (x : Item Transition Profile) × List·Memᴰ x (profiles t (nodes t)) × (p ≡ x .at) × (length (x .way) ≤ length ss)
+  profiles-all r b =
+      let (x, m, e, l) = profiles-led r b in (
+        x,
+        m,
+        e,
+        elim l [
+          | inl q ↦ le-of-eq (ap (λ (y : Item Transition Profile). length (y .way)) q)
+          | inr (inl h) ↦ omega arith
+          | inr (inr (h, k)) ↦ omega arith
+        ],
+      )
 
 -- MEANING 4.3: a run that begins at a node which counts has this profile.
 abbrev pub IsProfile : Table → Profile → Type 0

@@ -9,7 +9,6 @@ use Prim.Native.Nat.{ℕ, zero, suc, _+_, _*_, _/_, _%_, _^_, _<_}
 use native.Mathlib.Omega.{arith}
 use lib.Dec.{T, eqb}
 use lib.ListN.{length}
-use lib.Pow.{pow-add}
 use Rattle.base.specs.Lists.{range}
 use Rattle.base.specs.Sets.{Inside}
 use Rattle.base.proofs.BoolLaws.{by-test, of-T, and-right}
@@ -18,8 +17,9 @@ use Rattle.base.proofs.Inside.{inside-both}
 use Rattle.letters.specs.Alphabet.{in-alphabet}
 use Rattle.formula.specs.Table.{Operator, Table, operator, is-or}
 use Rattle.tableau.specs.Saturation.{Subset, has, moves, saturate}
-use Rattle.tableau.specs.Transition.{ors, choice-of, choices, Transition, transitions}
+use Rattle.tableau.specs.Transition.{ors, choice-of, choice-word, choices, Transition, transitions}
 use Rattle.tableau.proofs.SaturationLaws.{inside-has, subset-ext, saturate-holds, saturate-closed, saturate-least}
+use Rattle.tableau.proofs.ChoiceWords.{choice-word-lt}
 use Rattle.tableau.proofs.TransitionLaws.{asks, facts, transition-with, transition-is, transition-in}
 
 -- The choice that picks by a function, at the or operators of a table whose first subformula is e.
@@ -36,25 +36,11 @@ choice-by-from (o ∷ t) e f (suc i) = choice-by-from t (suc e) f i ∙ ap (λ (
 choice-by-has : (t : Table) (f : ℕ → Bool) (e : ℕ) → has (choice-by t 0 f) e ≡ (is-or (operator t e) && f e)
 choice-by-has t f e = choice-by-from t 0 f e ∙ ap (λ (k : ℕ). is-or (operator t e) && f k) {x = 0 + e} {y = e} (omega arith)
 
--- its choice word
-choice-word : Table → ℕ → (ℕ → Bool) → ℕ
-choice-word [] e f = 0
-choice-word (o ∷ t) e f = cond (is-or o) (cond (f e) 1 0 + 2 * choice-word t (suc e) f) (choice-word t (suc e) f)
-
-choice-word-lt : (t : Table) (e : ℕ) (f : ℕ → Bool) → choice-word t e f < 2 ^ ors t
-unfolding choice-word
-choice-word-lt [] e f = omega arith
-choice-word-lt (o ∷ t) e f = go (is-or o) (f e) (choice-word t (suc e) f) (choice-word-lt t (suc e) f)
-  where
-    go : (a b : Bool) (x : ℕ) → x < 2 ^ ors t → cond a (cond b 1 0 + 2 * x) x < 2 ^ (cond a 1 0 + ors t)
-    go true true x h = omega (arith, pow-add 2 1 (ors t))
-    go true false x h = omega (arith, pow-add 2 1 (ors t))
-    go false b x h = omega (arith, pow-add 2 0 (ors t))
-
-choice-by-word : (t : Table) (e : ℕ) (f : ℕ → Bool) → choice-by t e f ≡ choice-of t (choice-word t e f)
-unfolding choice-by choice-word
+-- it is read from its choice word
+choice-by-word : (t : Table) (e : ℕ) (f : ℕ → Bool) → choice-by t e f ≡ choice-of t (choice-word t (choice-by t e f))
+unfolding choice-by
 choice-by-word [] e f = refl
-choice-by-word (o ∷ t) e f = go (is-or o) (f e) (choice-word t (suc e) f) (choice-by-word t (suc e) f)
+choice-by-word (o ∷ t) e f = go (is-or o) (f e) (choice-word t (choice-by t (suc e) f)) (choice-by-word t (suc e) f)
   where
     -- the last digit of the word is the pick, and the rest its half
     odd : (b : Bool) (x : ℕ) → eqb ((cond b 1 0 + 2 * x) % 2) 1 ≡ b
@@ -67,15 +53,16 @@ choice-by-word (o ∷ t) e f = go (is-or o) (f e) (choice-word t (suc e) f) (cho
 
     go : (a b : Bool) (x : ℕ) → choice-by t (suc e) f ≡ choice-of t x
         → (a && b) ∷ choice-by t (suc e) f
-        ≡ cond a (eqb (cond a (cond b 1 0 + 2 * x) x % 2) 1 ∷ choice-of t (cond a (cond b 1 0 + 2 * x) x / 2))
-        (false ∷ choice-of t (cond a (cond b 1 0 + 2 * x) x))
+        ≡ cond a (eqb (cond a (cond (a && b) 1 0 + 2 * x) x % 2) 1 ∷ choice-of t (cond a (cond (a && b) 1 0 + 2 * x) x / 2))
+        (false ∷ choice-of t (cond a (cond (a && b) 1 0 + 2 * x) x))
     go true b x h = cc (h, odd b x, ap (choice-of t) (half b x))
     go false b x h = ap (λ (l : Subset). false ∷ l) h
 
 choice-by-in : (t : Table) (f : ℕ → Bool) → List·Memᴰ (choice-by t 0 f) (choices t)
 choice-by-in t f =
-    rw choice-by-word
-    (Memᴰ·map (choice-of t) (range-in 0 (2 ^ ors t) (choice-word t 0 f) (omega arith) (omega (arith, choice-word-lt t 0 f))))
+    let w = choice-by t 0 f in
+    subst⁻¹ (λ (c : Subset). List·Memᴰ c (choices t)) (choice-by-word t 0 f)
+    (Memᴰ·map (choice-of t) (range-in 0 (2 ^ ors t) (choice-word t w) (omega arith) (omega (arith, choice-word-lt t w))))
 
 -- only an or asks for the pick
 moves-pick : (o : Operator) (a b : Bool) → (T (is-or o) → a ≡ b) → moves o a ≡ moves o b

@@ -2,8 +2,10 @@ pub mod SaturationLaws
 pub mod RequirementLaws
 pub mod TransitionLaws
 pub mod EmptyNode
+pub mod ChoiceWords
 pub mod ChoiceLaws
 pub mod NodeLaws
+pub mod ForemostLaws
 pub mod WordSets
 pub mod RowLaws
 pub mod LoopLaws

@@ -5,28 +5,36 @@
 -- bound is below the search's fuel, so the laws of the search apply. Assumes nothing.
 use mathlib.Core.Path.{_≡_, refl, sym, ap, subst, subst⁻¹, _∙_}
 use mathlib.Core.Logic.{inl, inr}
-use mathlib.Core.List.{List, [], _∷_, _++_, map, List·Memᴰ, List·Memᴰ·head, List·Memᴰ·tail, List·Memᴰ·eq-of-singleton, Memᴰ·map}
-use mathlib.Core.List.{Memᴰ·of-map, Memᴰ·cast}
+use mathlib.Core.Bool.{cond}
+use mathlib.Core.List.{List, [], _∷_, _++_, map, map-append, List·Memᴰ, List·Memᴰ·head, List·Memᴰ·tail, List·Memᴰ·not-nil}
+use mathlib.Core.List.{List·Memᴰ·cases-cons, List·Memᴰ·eq-of-singleton, Memᴰ·map, Memᴰ·of-map, Memᴰ·cast}
 use Prim.Native.Nat.{ℕ, suc, _+_, _^_, _≤_, _<_}
 use native.Mathlib.Omega.{arith}
-use lib.ListN.{length, length-map, length-append}
+use lib.Dec.{T}
+use lib.ListN.{length, length-map}
 use Rattle.base.specs.Lists.{tail}
+use Rattle.base.specs.Order.{Before, NoLater}
 use Rattle.base.specs.Search.{Edge, Item, onward}
+use Rattle.base.proofs.BoolLaws.{by-test}
 use Rattle.base.proofs.MemberLaws.{parts, parts-length, parts-in}
 use Rattle.base.proofs.SearchLaws.{Visits, visits-cons, Distinct, Reachable-by, same-number, search-found, search-first, search-distinct}
 use Rattle.base.proofs.SearchLaws.{search-few}
 use Rattle.base.proofs.WithinLaws.{search-short}
-use Rattle.base.proofs.SearchOrder.{Sorted, sorted-same, Rank-within, Far, search-sorted, search-near}
+use Rattle.base.proofs.SortedLaws.{Sorted, sorted-map}
+use Rattle.base.proofs.SearchOrder.{Led}
+use Rattle.base.proofs.WayOrder.{Rising, ways-sorted, ways-first}
 use Rattle.base.proofs.Inside.{inside-length}
 use Rattle.formula.specs.Formula.{Formula}
 use Rattle.formula.specs.Table.{Operator, Table, table, is-next}
 use Rattle.formula.proofs.Limits.{nexts, how-many, table-nexts}
 use Rattle.tableau.specs.Saturation.{Subset, same-subset, nothing, add}
-use Rattle.tableau.specs.Transition.{Transition, transitions}
-use Rattle.tableau.specs.Nodes.{root, edges, operands, nodes}
+use Rattle.tableau.specs.Transition.{choice-word, Transition, transitions}
+use Rattle.tableau.specs.Nodes.{root, edges, operands, nodes, stem-to}
 use Rattle.tableau.specs.Run.{Along, Reachable}
+use Rattle.tableau.specs.Foremost.{choice-words}
 use Rattle.tableau.proofs.SaturationLaws.{subset-sound, subset-refl, add-inside}
 use Rattle.tableau.proofs.TransitionLaws.{facts, transition-to}
+use Rattle.tableau.proofs.ChoiceWords.{Rises, transitions-rising}
 
 pub at-root : (t : Table) → Reachable t (root t)
 at-root t = ([], Along.stay)
@@ -60,12 +68,11 @@ module _ (t : Table) where
       let (s, r, q) = Memᴰ·of-map edge-of (transitions t (x .at)) m in
       subst (λ (d : Edge Transition Subset). Along t (root t) (x .way ++ (d .label ∷ [])) (d .to)) q (Along.on (found-along f) r)
 
-  along-far : {v : Subset} {ss : List Transition} → Along t (root t) ss v → Far same-subset (edges t) way-length 1 (starts t) v (length ss)
+  along-found : {v : Subset} {ss : List Transition} → Along t (root t) ss v
+      → Reachable-by same-subset (edges t) (starts t) (record { way = ss; at = v })
   unfolding transitions
-  along-far Along.stay = Far.start (List·Memᴰ·head refl)
-  along-far (Along.on {ss} {s} a m) =
-      subst⁻¹ (Far same-subset (edges t) way-length 1 (starts t) (s .to)) (length-append ss (s ∷ []))
-      (Far.go {e = edge-of s} (along-far a) (Memᴰ·map edge-of m))
+  along-found Along.stay = Reachable-by.start (List·Memᴰ·head refl)
+  along-found (Along.on {s} a m) = Reachable-by.go {e = edge-of s} (along-found a) (Memᴰ·map edge-of m)
 
   along-set : {v : Subset} {ss : List Transition} → Along t (root t) ss v → List·Memᴰ v (node-sets t)
   along-set Along.stay = List·Memᴰ·head refl
@@ -105,29 +112,50 @@ module _ (t : Table) where
         parts-length (operands t),
       )
 
-  raised : (x : Item Transition Subset) (e : Edge Transition Subset) → List·Memᴰ e (edges t (x .at))
-      → way-length (onward same-subset (edges t) x e) ≡ way-length x + 1
-  raised x e m = length-append (x .way) (e .label ∷ [])
-
   start-way : (y : Item Transition Subset) → List·Memᴰ y (starts t) → way-length y ≡ 0
   start-way y m = ap (λ (z : Item Transition Subset). way-length z) (List·Memᴰ·eq-of-singleton m)
 
-  -- Theorem: the nodes stand by rising distance from the root.
-  pub nodes-sorted : Sorted way-length (nodes t)
+  -- The nearer node is ahead, and of two as near the one whose way has the choice words that come first.
+  abbrev word : Transition → ℕ
+  word s = choice-word t (s .choice)
+
+  abbrev words : Item Transition Subset → List ℕ
+  words n = choice-words t (n .way)
+
+  abbrev pub by-way : Item Transition Subset → List ℕ
+  by-way n = length (n .way) ∷ words n
+
+  abbrev pub Nearer : Item Transition Subset → Item Transition Subset → Type 0
+  Nearer n m = Before (by-way n) (by-way m)
+
+  adds : (n : Item Transition Subset) (e : Edge Transition Subset) → List·Memᴰ e (edges t (n .at))
+      → words (onward same-subset (edges t) n e) ≡ words n ++ (word (e .label) ∷ [])
+  adds n e m = map-append word (n .way) (e .label ∷ [])
+
+  edges-rising : (v : Subset) → Sorted (Rising same-subset (edges t) word words) (edges t v)
+  unfolding transitions
+  edges-rising v =
+      sorted-map (Rises t) (Rising same-subset (edges t) word words) edge-of (transitions t v) (transitions-rising t v) (λ s r m n l. l)
+
+  starts-sorted : Sorted Nearer (starts t)
+  starts-sorted = Sorted.more {xs = []} (λ y m. absurd (List·Memᴰ·not-nil m)) Sorted.none
+
+  -- Theorem: the nodes stand in that order.
+  pub nodes-sorted : Sorted Nearer (nodes t)
   unfolding nodes
   nodes-sorted =
-      search-sorted same-subset (edges t) way-length 1 subset-sound raised (starts t) (sorted-same way-length 0 (starts t) start-way)
-      (λ y z p q. omega (arith, start-way z q)) (fuel t)
+      ways-sorted same-subset (edges t) word words adds edges-rising subset-sound (starts t) starts-sorted 0 start-way (fuel t)
 
-  -- Theorem: whatever the root leads to is listed, with a way that is as short as any.
-  pub nodes-near : {v : Subset} {ss : List Transition} → Along t (root t) ss v → Rank-within way-length (nodes t) v (length ss)
+  -- Theorem: whatever the root leads to is listed, by the first of all ways to it.
+  pub nodes-led : {v : Subset} {ss : List Transition} → Along t (root t) ss v
+      → Led same-subset (edges t) Nearer (nodes t) (record { way = ss; at = v })
   unfolding nodes
-  nodes-near a =
-      search-near same-subset (edges t) way-length 1 subset-sound raised (starts t) (sorted-same way-length 0 (starts t) start-way)
-      (λ y z p q. omega (arith, start-way z q)) (fuel t) (omega (arith, nodes-few)) (along-far a)
+  nodes-led a =
+      ways-first same-subset (edges t) word words adds edges-rising subset-sound (starts t) starts-sorted 0 start-way (fuel t)
+      (omega (arith, nodes-few)) (along-found a)
 
   pub nodes-all : {v : Subset} → Reachable t v → Visits v (nodes t)
-  nodes-all (ss, a) = let (x, m, e, l) = nodes-near a in (x, m, e)
+  nodes-all (ss, a) = let (x, m, e, l) = nodes-led a in (x, m, e)
 
   pub nodes-reachable : {v : Subset} → Visits v (nodes t) → Reachable t v
   nodes-reachable (x, m, e) = subst⁻¹ (Reachable t) e (x .way, nodes-along m)
@@ -160,6 +188,48 @@ module _ (t : Table) where
   pub others-all : {v : Subset} → Reachable t v → (v ≡ root t → ⊥) → Visits v (tail (nodes t))
   others-all {v} r n =
       elim (visits-cons (subst (Visits v) nodes-first (nodes-all r))) [ inl e ↦ absurd (n e) | inr h ↦ h ]
+
+  -- the stem to a node is the way that the node comes with
+  stem-in : (ns : List (Item Transition Subset)) → Distinct ns → {x : Item Transition Subset} → List·Memᴰ x ns → stem-to (x .at) ns ≡ x .way
+  stem-in [] d m = absurd (List·Memᴰ·not-nil m)
+  stem-in (n ∷ ns) (Distinct.more f d) {x} m =
+      by-test (same-subset (x .at) (n .at)) (λ b. cond b (n .way) (stem-to (x .at) ns) ≡ x .way)
+      (λ h.
+      elim (List·Memᴰ·cases-cons m) [
+        | inl e ↦ ap (λ (y : Item Transition Subset). y .way) (sym e)
+        | inr r ↦ absurd (f (x, r, sym (subset-sound (x .at) (n .at) h)))
+      ])
+      (λ h.
+      elim (List·Memᴰ·cases-cons m) [
+        | inl e ↦ absurd (h (subst (λ (y : Item Transition Subset). T (same-subset (x .at) (y .at))) e (subset-refl (x .at))))
+        | inr r ↦ stem-in ns d r
+      ])
+
+  abbrev pub stem : Subset → List Transition
+  stem v = stem-to v (nodes t)
+
+  pub stem-of : {n : Item Transition Subset} → List·Memᴰ n (nodes t) → stem (n .at) ≡ n .way
+  stem-of m = stem-in (nodes t) nodes-distinct m
+
+  -- Theorem: the stem to a node leads there from the root, with fewer than K transitions,
+  pub stem-leads : {v : Subset} → Reachable t v → Along t (root t) (stem v) v
+  stem-leads r =
+      let (n, m, e) = nodes-all r in
+      subst⁻¹ (λ (u : Subset). Along t (root t) (stem u) u) e
+      (subst⁻¹ (λ (ss : List Transition). Along t (root t) ss (n .at)) (stem-of m) (nodes-along m))
+
+  pub stem-short : {v : Subset} → Reachable t v → length (stem v) < length (nodes t)
+  stem-short r =
+      let (n, m, e) = nodes-all r in
+      omega (arith, nodes-short m, ap (λ (u : Subset). length (stem u)) e, ap length (stem-of m))
+
+  -- and no run from the root to it comes first.
+  pub stem-first : {v : Subset} {ss : List Transition} → Along t (root t) ss v
+      → NoLater (length (stem v) ∷ choice-words t (stem v)) (length ss ∷ choice-words t ss)
+  stem-first {v} {ss} a =
+      let (n, m, e, l) = nodes-led a in
+      subst⁻¹ (λ (rs : List Transition). NoLater (length rs ∷ choice-words t rs) (length ss ∷ choice-words t ss)) (ap stem e ∙ stem-of m)
+      (elim l [ inl q ↦ inl (ap by-way q) | inr h ↦ inr h ])
 
 -- one operand for each next
 pub operands-count : (t : Table) → length (operands t) ≡ how-many is-next t

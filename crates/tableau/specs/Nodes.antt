@@ -1,5 +1,5 @@
 -- The nodes that the root reaches, each with a shortest run to it: MEANING 3.1 and 3.7. Assumes nothing.
-use mathlib.Core.Bool.{true}
+use mathlib.Core.Bool.{true, cond}
 use mathlib.Core.List.{List, [], _∷_, map}
 use Prim.Native.Nat.{ℕ, _+_, _^_}
 use lib.ListN.{length, set}
@@ -27,3 +27,8 @@ operands t = flat-map next-of t
 unfoldable pub nodes : Table → List (Item Transition Subset)
 unfolding transitions
 nodes t = search-from same-subset (edges t) (2 + 2 ^ length (operands t)) (record { way = []; at = root t } ∷ [])
+
+-- the way by which the search came to a node
+abbrev pub stem-to : Subset → List (Item Transition Subset) → List Transition
+stem-to v [] = []
+stem-to v (n ∷ ns) = let r = stem-to v ns in cond (same-subset v (n .at)) (n .way) r

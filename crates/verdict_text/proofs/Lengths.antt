@@ -1,24 +1,25 @@
 -- How long the text of a verdict is. A number below 1,000 has three digits and a letter four, so a witness takes seven bytes a position;
 -- with room for 256 nodes and 300 profiles every text is shorter than 4,096 bytes. Assumes nothing.
-use mathlib.Core.Path.{_≡_, refl, ap, subst, subst⁻¹, _∙_}
-use mathlib.Core.List.{List, [], _∷_, _++_, append-assoc, List·Memᴰ·head, List·Memᴰ·tail}
+use mathlib.Core.Path.{refl, sym, subst⁻¹}
+use mathlib.Core.List.{List, [], _∷_, _++_, append-nil, List·Memᴰ·head, List·Memᴰ·tail}
 use mathlib.Core.Option.{some}
 use Prim.Native.Nat.{ℕ, _+_, _*_, _≤_, _<_}
 use native.Mathlib.Omega.{arith}
-use lib.ListN.{length, length-append, take, drop}
-use lib.Seq.{take-append-seam, drop-append-seam}
+use lib.ListN.{length, length-append}
 use Rattle.text.specs.Text.{hex, number-text, each, letter-text}
 use Rattle.text.proofs.Numerals.{few-digits}
 use Rattle.formula.specs.Refusal.{code-of, Places-within}
 use Rattle.formula.specs.declared.Refusal.{Refusal}
 use Rattle.formula.specs.declared.Refusal.the-variants.{AtByte, Unguarded}
 use Rattle.decision.specs.Verdict.{Verdict, verdict}
-use Rattle.decision.specs.Contract.{says, Buffered, Decided}
+use Rattle.decision.specs.Contract.{says}
 use Rattle.decision.specs.declared.Verdict as code
 use Rattle.decision.specs.declared.Verdict.the-variants.{Satisfiable, Unsatisfiable, Refused, Unread}
-use Rattle.decision.proofs.Bounds.{Bounded, decided-bounded, Letters-small, Letters-parted, witness-parted}
+use Rattle.decision.proofs.Answer.{Says, verdict-says}
+use Rattle.decision.proofs.Bounds.{Bounded, verdict-bounded, Letters-small, Letters-parted, witness-parted}
 use Rattle.verdict_text.specs.Texts.{worded-text, refused-text, placed-text, from-text, unread-text, verdict-text, lasso-text}
-use Rattle.verdict_text.specs.Texts.{program-text}
+use Rattle.verdict_text.specs.Texts.{shown-text}
+use Rattle.verdict_text.proofs.Showing.{lasso-parts}
 
 -- a number behind a text
 numbered : (k : ℕ) (text : List ℕ) (n : ℕ) → length text ≤ k → n < 1000 → length (text ++ number-text n) ≤ k + 4
@@ -84,19 +85,13 @@ module _ (front back : List ℕ) (h : length front + length back ≤ 3) where
         length-append (letter-text front back x) (each (letter-text front back) xs),
       )
 
--- the two parts of the witness in the buffer
-parts : (f g : ℕ → List ℕ) (xs ys zs : List ℕ) {stem cycle : ℕ} {l : List ℕ} → stem ≡ length xs → cycle ≡ length ys → l ≡ xs ++ (ys ++ zs)
-    → each f (take stem (drop 0 l)) ++ each g (take cycle (drop stem l)) ≡ each f xs ++ each g ys
-parts f g xs ys zs p q e = rw (p, q, e, take-append-seam xs (ys ++ zs), drop-append-seam xs (ys ++ zs), take-append-seam ys zs) refl
-
-lasso-short : {stem cycle : ℕ} (K P : ℕ) {letters l : List ℕ} (rest : List ℕ) → Letters-parted stem cycle letters → l ≡ letters ++ rest
-    → length (lasso-text (Satisfiable stem cycle K P) l (83 ∷ 32 ∷ []) (76 ∷ 32 ∷ []) (10 ∷ [])) ≤ 7 * (stem + cycle)
-lasso-short {stem} {cycle} K P rest w e =
+lasso-short : {stem cycle : ℕ} (K P : ℕ) (letters : List ℕ) → Letters-parted stem cycle letters
+    → length (lasso-text (Satisfiable stem cycle K P) letters (83 ∷ 32 ∷ []) (76 ∷ 32 ∷ []) (10 ∷ [])) ≤ 7 * (stem + cycle)
+lasso-short {stem} {cycle} K P letters w =
     let xs = w .before in
     let ys = w .around in
     subst⁻¹ (λ (m : List ℕ). length m ≤ 7 * (stem + cycle))
-    (parts (letter-text (83 ∷ 32 ∷ []) (10 ∷ [])) (letter-text (76 ∷ 32 ∷ []) (10 ∷ [])) xs ys rest (w .stem-is) (w .cycle-is)
-    (e ∙ ap (λ (m : List ℕ). m ++ rest) (w .parts) ∙ append-assoc xs ys rest))
+    (lasso-parts K P [] w (sym (append-nil letters)) (83 ∷ 32 ∷ []) (76 ∷ 32 ∷ []) (10 ∷ []))
     (omega (
       arith,
       w .stem-is,
@@ -109,19 +104,17 @@ lasso-short {stem} {cycle} K P rest w e =
 line-and : (line rest : List ℕ) → length line ≤ 27 → length rest ≤ 3885 → length (line ++ (10 ∷ []) ++ rest) ≤ 4095
 line-and line rest h k = omega (arith, length-append (line ++ (10 ∷ [])) rest, length-append line (10 ∷ []))
 
-program-by : (bytes b b′ : List ℕ) (o : Verdict) → Bounded 256 300 (says o) → Buffered bytes o b b′ → length (program-text (says o) b′)
-    ≤ 4095
-program-by bytes b b′ (Verdict.unread why) h k = line-and (verdict-text (Unread why)) [] (verdict-short (Unread why) h) (omega arith)
-program-by bytes b b′ (Verdict.refused c) h k = line-and (verdict-text (Refused c)) [] (verdict-short (Refused c) h) (omega arith)
-program-by bytes b b′ (Verdict.satisfiable stem cycle K P letters) h k =
+shown-short : (bytes : List ℕ) (o : Verdict) → Bounded 256 300 (says o) → Says bytes o → length (shown-text o) ≤ 4095
+shown-short bytes (Verdict.unread why) h k = line-and (verdict-text (Unread why)) [] (verdict-short (Unread why) h) (omega arith)
+shown-short bytes (Verdict.refused c) h k = line-and (verdict-text (Refused c)) [] (verdict-short (Refused c) h) (omega arith)
+shown-short bytes (Verdict.satisfiable stem cycle K P letters) h k =
     line-and (verdict-text (Satisfiable stem cycle K P)) _ (verdict-short (Satisfiable stem cycle K P) h)
-    (omega (arith, h .stem-few, h .cycle-few, lasso-short K P (drop (stem + cycle) b) (witness-parted (k .met .witness)) (k .filled)))
-program-by bytes b b′ (Verdict.unsatisfiable K P) h k = line-and (verdict-text (Unsatisfiable K P)) []
-    (verdict-short (Unsatisfiable K P) h) (omega arith)
+    (omega (arith, h .stem-few, h .cycle-few, lasso-short K P letters (witness-parted (k .witness))))
+shown-short bytes (Verdict.unsatisfiable K P) h k =
+    line-and (verdict-text (Unsatisfiable K P)) [] (verdict-short (Unsatisfiable K P) h) (omega arith)
 
--- Theorem: what the program prints has fewer than 4,096 bytes.
-pub program-short : {bytes w w′ b b′ : List ℕ} {v : code.Verdict} → Decided bytes 256 300 w w′ b b′ v → length (program-text v b′) ≤ 4095
-program-short {bytes} {w} {b} {b′} d =
-    subst⁻¹ (λ (v : code.Verdict). length (program-text v b′) ≤ 4095) (d .answered)
-    (program-by bytes b b′ (verdict 256 300 (length w) (length b) bytes) (subst (Bounded 256 300) (d .answered) (decided-bounded d))
-    (d .buffered))
+-- Theorem: the text of every verdict with this room has fewer than 4,096 bytes.
+pub verdict-shown-short : (room places : ℕ) (bytes : List ℕ) → length (shown-text (verdict 256 300 room places bytes)) ≤ 4095
+verdict-shown-short room places bytes =
+    shown-short bytes (verdict 256 300 room places bytes) (verdict-bounded 256 300 room places bytes)
+    (verdict-says 256 300 room places bytes)

@@ -1,24 +1,46 @@
--- What a program shows of a formula, from the decision's promise and the text that was written. Assumes nothing.
-use mathlib.Core.Path.{_≡_}
-use mathlib.Core.List.{List}
-use Prim.Native.Nat.{ℕ}
-use lib.ListN.{length}
-use Rattle.text.specs.Text.{Buffer, Wrote}
-use Rattle.decision.specs.Contract.{Decided}
-use Rattle.decision.specs.declared.Verdict.{Verdict}
-use Rattle.verdict_text.specs.Shown.{Shown}
+-- What is shown of a formula is settled by its bytes and by how much is lent: the text of the decision's answer and of what it leaves in the
+-- witness buffer is that of the verdict which the definition gives, since of the buffer the witness's letters alone are shown.
+-- Assumes nothing.
+use mathlib.Core.Path.{_≡_, refl, sym, ap, _∙_}
+use mathlib.Core.List.{List, [], _∷_, _++_, append-assoc, append-nil}
+use Prim.Native.Nat.{ℕ, _+_}
+use lib.ListN.{length, take, drop}
+use lib.Seq.{take-append-seam, drop-append-seam}
+use Rattle.text.specs.Text.{each, letter-text}
+use Rattle.decision.specs.Verdict.{Verdict, verdict}
+use Rattle.decision.specs.Contract.{says, leaves, Decided}
+use Rattle.decision.specs.declared.Verdict as code
+use Rattle.decision.specs.declared.Verdict.the-variants.{Satisfiable}
+use Rattle.decision.proofs.Answer.{Says, verdict-says}
+use Rattle.decision.proofs.Bounds.{Letters-parted, witness-parted}
+use Rattle.verdict_text.specs.Texts.{verdict-text, lasso-text, program-text, shown-text}
 
-pub shows : (text : Verdict → List ℕ → List ℕ) {bytes : List ℕ} {N M room places : ℕ} {w w′ b b′ : List ℕ} {v : Verdict} {s t : Buffer}
-    → Decided bytes N M w w′ b b′ v → length w ≡ room → length b ≡ places → Wrote s (text v b′) t → Shown text bytes N M room places s t
-shows text {w} {w′} {b} {b′} {v} d h k p =
-    record {
-      workspace = w;
-      workspace′ = w′;
-      witness = b;
-      witness′ = b′;
-      answer = v;
-      bytes-lent = h;
-      letters-lent = k;
-      decided = d;
-      wrote = p;
-    }
+-- the texts of the two parts of a witness that stands at a buffer's start
+parts : (f g : ℕ → List ℕ) (xs ys zs : List ℕ) {stem cycle : ℕ} {l : List ℕ} → stem ≡ length xs → cycle ≡ length ys → l ≡ xs ++ (ys ++ zs)
+    → each f (take stem (drop 0 l)) ++ each g (take cycle (drop stem l)) ≡ each f xs ++ each g ys
+parts f g xs ys zs p q e = rw (p, q, e, take-append-seam xs (ys ++ zs), drop-append-seam xs (ys ++ zs), take-append-seam ys zs) refl
+
+pub lasso-parts : {stem cycle : ℕ} (K c : ℕ) {letters l : List ℕ} (rest : List ℕ) (w : Letters-parted stem cycle letters)
+    → l ≡ letters ++ rest → (stem-front cycle-front back : List ℕ)
+    → lasso-text (Satisfiable stem cycle K c) l stem-front cycle-front back
+    ≡ each (letter-text stem-front back) (w .before) ++ each (letter-text cycle-front back) (w .around)
+lasso-parts K c rest w e stem-front cycle-front back =
+    parts (letter-text stem-front back) (letter-text cycle-front back) (w .before) (w .around) rest (w .stem-is) (w .cycle-is)
+    (e ∙ ap (λ (m : List ℕ). m ++ rest) (w .parts) ∙ append-assoc (w .before) (w .around) rest)
+
+shown-by : (bytes b : List ℕ) (o : Verdict) → Says bytes o → program-text (says o) (leaves o b) ≡ shown-text o
+shown-by bytes b (Verdict.unread why) h = refl
+shown-by bytes b (Verdict.refused code) h = refl
+shown-by bytes b (Verdict.satisfiable stem cycle K c letters) h =
+    let w = witness-parted (h .witness) in
+    ap (λ (m : List ℕ). verdict-text (Satisfiable stem cycle K c) ++ (10 ∷ []) ++ m)
+    (lasso-parts K c (drop (stem + cycle) b) w refl (83 ∷ 32 ∷ []) (76 ∷ 32 ∷ []) (10 ∷ [])
+    ∙ sym (lasso-parts K c [] w (sym (append-nil letters)) (83 ∷ 32 ∷ []) (76 ∷ 32 ∷ []) (10 ∷ [])))
+shown-by bytes b (Verdict.unsatisfiable K P) h = refl
+
+-- Theorem: the text of what the decision answers and leaves is that of the verdict.
+pub shows : {bytes : List ℕ} {N M : ℕ} {w w′ b b′ : List ℕ} {v : code.Verdict} → Decided bytes N M w w′ b b′ v
+    → program-text v b′ ≡ shown-text (verdict N M (length w) (length b) bytes)
+shows {bytes} {N} {M} {w} {b} d =
+    (λ i. program-text (d .answered i) (d .buffered i))
+    ∙ shown-by bytes b (verdict N M (length w) (length b) bytes) (verdict-says N M (length w) (length b) bytes)

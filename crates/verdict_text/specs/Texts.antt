@@ -6,6 +6,8 @@ use lib.ListN.{take, drop}
 use Rattle.text.specs.Text.{number-text, each, letter-text}
 use Rattle.formula.specs.Refusal.{code-of, place-of, binder-place-of}
 use Rattle.formula.specs.declared.Refusal.{Refusal}
+use Rattle.decision.specs.Verdict as meaning
+use Rattle.decision.specs.Contract.{says, letters-of}
 use Rattle.decision.specs.declared.Verdict.{Verdict}
 use Rattle.decision.specs.declared.Verdict.the-variants.{Satisfiable, Unsatisfiable, Refused, Unread}
 
@@ -54,6 +56,10 @@ lasso-text (Unsatisfiable K P) letters stem-front cycle-front back = []
 lasso-text (Refused code) letters stem-front cycle-front back = []
 lasso-text (Unread why) letters stem-front cycle-front back = []
 
--- All that the program prints: the line of the verdict, and one for each letter of a witness.
+-- The line of a verdict, and one for each letter of a witness.
 abbrev pub program-text : Verdict → List ℕ → List ℕ
 program-text v letters = verdict-text v ++ (10 ∷ []) ++ lasso-text v letters (83 ∷ 32 ∷ []) (76 ∷ 32 ∷ []) (10 ∷ [])
+
+-- That of the verdict that the definition gives: all that the program prints.
+abbrev pub shown-text : meaning.Verdict → List ℕ
+shown-text v = program-text (says v) (letters-of v)

@@ -1,17 +1,30 @@
 -- The program's buffer has room for the text of every verdict, so that what it prints is the text and nothing of it is lost. Assumes
 -- nothing.
-use mathlib.Core.Path.{_≡_}
+use mathlib.Core.Path.{_≡_, subst, _∙_}
 use mathlib.Core.List.{List}
-use Prim.Native.Nat.{ℕ, _≤_}
+use Prim.Native.Nat.{ℕ}
 use native.Mathlib.Omega.{arith}
-use lib.ListN.{length, take}
-use Rattle.text.specs.Text.{buffer}
-use Rattle.verdict_text.specs.Texts.{program-text}
-use Rattle.verdict_text.specs.Shown.{Shown}
+use lib.ListN.{length}
+use Rattle.text.specs.Text.{buffer, Wrote}
 use Rattle.text.proofs.Writing.{stands}
-use Rattle.verdict_text.proofs.Lengths.{program-short}
+use Rattle.decision.specs.Verdict.{workspace-size, witness-size, verdict}
+use Rattle.decision.specs.Contract.{Decided}
+use Rattle.decision.specs.declared.Verdict.{Verdict}
+use Rattle.verdict_text.specs.Texts.{program-text, shown-text}
+use Rattle.verdict_text.proofs.Showing.{shows}
+use Rattle.verdict_text.proofs.Lengths.{verdict-shown-short}
+use Rattle.yuktrob.specs.Printed.{nodes, profiles, Printed}
 
--- Theorem: the bytes in front of the end are the text of the verdict and the witness, whole.
-pub prints : {bytes out out′ : List ℕ} {room places r : ℕ} (d : Shown program-text bytes 256 300 room places (buffer out 0) (buffer out′ r))
-    → 4096 ≤ length out → take r out′ ≡ program-text (d .answer) (d .witness′)
-prints d h = stands (d .wrote) (omega (arith, program-short (d .decided)))
+-- Theorem: the text of what the decision answered, with areas of these lengths, is what the program is to print, and stands whole.
+pub prints : {bytes out out′ w w′ b b′ : List ℕ} {v : Verdict} {end : ℕ} → Decided bytes nodes profiles w w′ b b′ v
+    → length w ≡ workspace-size nodes profiles → length b ≡ witness-size nodes profiles
+    → Wrote (buffer out 0) (program-text v b′) (buffer out′ end) → Printed bytes out out′ end
+prints {bytes} {out} {out′} {end = end} d h k p =
+    let e = shows d ∙ (λ i. shown-text (verdict nodes profiles (h i) (k i) bytes)) in
+    let wrote = subst (λ (text : List ℕ). Wrote (buffer out 0) text (buffer out′ end)) e p in
+    record {
+      wrote = wrote;
+      whole = λ l.
+          stands wrote
+          (omega (arith, verdict-shown-short (workspace-size nodes profiles) (witness-size nodes profiles) bytes));
+    }

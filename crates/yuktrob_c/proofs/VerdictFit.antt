@@ -1,6 +1,5 @@
 -- The sizes of a verdict are small, as N is at most 1,024 and M at most 4,096 where it is given, and a refusal of reading is early
 -- (Bounds); so the number of every verdict fits. Assumes nothing.
-use mathlib.Core.Path.{_≡_, refl, ap, _∙_}
 use mathlib.Core.List.{List}
 use Prim.Native.Nat.{ℕ}
 use native.Mathlib.Omega.{arith}
@@ -8,7 +7,7 @@ use Rattle.decision.specs.Contract.{Decided}
 use Rattle.decision.specs.declared.Verdict as code
 use Rattle.decision.specs.declared.Verdict.the-variants.{Satisfiable, Unsatisfiable, Refused, Unread}
 use Rattle.decision.proofs.Bounds.{Answer-sized, Bounded, decided-bounded}
-use Rattle.yuktrob_c.specs.Numbers.{Letters-16, VerdictFits, verdict-number, answer-of}
+use Rattle.yuktrob_c.specs.Numbers.{Letters-16, VerdictFits}
 
 small : {N M stem cycle K P : ℕ} → Answer-sized N M stem cycle K P → Letters-16 stem cycle K P
 small s =
@@ -26,11 +25,5 @@ bounded-fits N M (Unsatisfiable K P) s = small s
 bounded-fits N M (Refused code) h = tt
 bounded-fits N M (Unread why) (h, k) = k
 
--- what the decision promises of its answer
-module _ {bytes : List ℕ} {N M : ℕ} {w w′ b b′ : List ℕ} {v : code.Verdict} (d : Decided bytes N M w w′ b b′ v) where
-  pub decided-fits : VerdictFits v
-  decided-fits = bounded-fits N M v (decided-bounded d)
-
-  pub decided-number : {n : ℕ} → n ≡ verdict-number v → (n ≡ verdict-number (answer-of bytes N M w b)) × Decided bytes N M w w′ b b′
-      (answer-of bytes N M w b)
-  decided-number e = (e ∙ ap verdict-number (d .answered), record { answered = refl; buffered = d .buffered; worked = d .worked })
+pub decided-fits : {bytes : List ℕ} {N M : ℕ} {w w′ b b′ : List ℕ} {v : code.Verdict} → Decided bytes N M w w′ b b′ v → VerdictFits v
+decided-fits {N} {M} {v} d = bounded-fits N M v (decided-bounded d)

@@ -12,7 +12,7 @@ use Rattle.formula.specs.declared.Refusal.{Refusal}
 use Rattle.lasso.specs.declared.Truth.{Truth}
 use Rattle.lasso.specs.declared.Truth.the-variants as truth
 use Rattle.decision.specs.Verdict.{max-nodes, max-profiles, verdict}
-use Rattle.decision.specs.Contract.{says}
+use Rattle.decision.specs.Verdict as meaning
 use Rattle.decision.specs.declared.Verdict.{Verdict}
 use Rattle.decision.specs.declared.Verdict.the-variants as decision
 
@@ -51,9 +51,9 @@ verdict-number (decision.Unsatisfiable K P) = number 0 (found 0 0 0 K P)
 verdict-number (decision.Refused code) = number code 0
 verdict-number (decision.Unread why) = refusal-number why
 
--- the decision's answer, by the formula's bytes, the capacities and the lent areas
-abbrev pub answer-of : (bytes : List ℕ) (N M : ℕ) (workspace buffer : List ℕ) → Verdict
-answer-of bytes N M workspace buffer = says (verdict N M (length workspace) (length buffer) bytes)
+-- the definition's verdict, by the formula's bytes, the capacities and the lent areas
+abbrev pub verdict-of : (bytes : List ℕ) (N M : ℕ) (workspace buffer : List ℕ) → meaning.Verdict
+verdict-of bytes N M workspace buffer = verdict N M (length workspace) (length buffer) bytes
 
 -- Why the numbers fit into 64 bits: by question 11 and MEANING 5.6 the sizes of a verdict have room in 13 bits each.
 pub record Letters-16 (stem cycle K c : ℕ) : Type 0 where

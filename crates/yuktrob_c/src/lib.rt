@@ -14,9 +14,9 @@ ghost use Rattle.formula.specs.Rows.{entries-of};
 ghost use Rattle.formula.specs.Access.{decoded, Fits, Readable};
 ghost use Rattle.lasso.specs.Truth.{truth, written};
 ghost use Rattle.lasso.specs.Contract.{lasso, answer};
-ghost use Rattle.decision.specs.Contract.{Decided};
+ghost use Rattle.decision.specs.Contract.{says, leaves, cleared};
 ghost use Rattle.yuktrob_c.specs.Numbers.{number, refusal-number, Letters-16, Early, TruthFits, VerdictFits};
-ghost use Rattle.yuktrob_c.specs.Numbers.{reading-number, truth-number, found, verdict-number, answer-of};
+ghost use Rattle.yuktrob_c.specs.Numbers.{reading-number, truth-number, found, verdict-number, verdict-of};
 ghost use Rattle.yuktrob_c.specs.Entry.{argument-of, packed, entry-number};
 
 // The lowest byte is a refusal's code or 0; what the answer carries stands above it.
@@ -168,9 +168,11 @@ pub extern "C" fn yuktrob_decide(
     course: &mut [u16],
 ) -> u64
     ensures numbered { λ r. ⌜ r ≡ verdict-number
-        (answer-of (now (rule .entry)) nodes profiles (now (work .entry)) (now (course .entry))) ⌝ }
-    ensures decided { λ _. ⌜ Decided (now (rule .entry)) nodes profiles (now (work .entry)) (now (work .exit)) (now (course .entry))
-        (now (course .exit)) (answer-of (now (rule .entry)) nodes profiles (now (work .entry)) (now (course .entry))) ⌝ }
+        (says (verdict-of (now (rule .entry)) nodes profiles (now (work .entry)) (now (course .entry)))) ⌝ }
+    ensures filled { λ _. ⌜ now (course .exit) ≡ leaves
+        (verdict-of (now (rule .entry)) nodes profiles (now (work .entry)) (now (course .entry))) (now (course .entry)) ⌝ }
+    ensures emptied { λ _. ⌜ now (work .exit) ≡ cleared nodes profiles
+        (verdict-of (now (rule .entry)) nodes profiles (now (work .entry)) (now (course .entry))) (now (work .entry)) ⌝ }
 {
     verdict_number(decision::decide(rule, nodes, profiles, work, course))
 }

@@ -1,9 +1,7 @@
--- yuktrob::decided meets its contract: the decision's promise, and the text of what it answered, whole where there is room. Assumes
--- nothing.
+-- yuktrob::decided meets its contract: the text of what the decision answered is that of the verdict, whole where there is room.
+-- Assumes nothing.
 use borrow.Author.Needs.{needs}
 use Rattle.text.proofs.Writing.{place-within}
-use Rattle.verdict_text.specs.Texts.{program-text}
-use Rattle.verdict_text.proofs.Showing.{shows}
 use Prim.Native.Nat.{ℕ, zero-le}
 use Rattle.io.proofs.Counting.{counts}
 use lib.ListN.{length-replicate}
@@ -33,10 +31,11 @@ same-length c = search needs
 
 returns : tie.Need-returns
 returns c =
-    let wrote = c .before .before .program-text .ensures in
-    let d = shows program-text (c .before .before .before .before .before .before .before .decide .ensures)
-    (length-replicate {A = ℕ} (workspace-size nodes profiles) 0) (length-replicate {A = ℕ} (witness-size nodes profiles) 0) wrote in
-    (counts _ _ (place-within wrote zero-le), record { shown = d; whole = prints d })
+    let wrote = c .before .before .program-text .ensures in (
+      counts _ _ (place-within wrote zero-le),
+      prints (c .before .before .before .before .before .before .before .decide .ensures)
+          (length-replicate {A = ℕ} (workspace-size nodes profiles) 0) (length-replicate {A = ℕ} (witness-size nodes profiles) 0) wrote,
+    )
 
 pub decided-spec : {M : Type 1} → statement M
 decided-spec =

@@ -1,5 +1,7 @@
 -- `yuktrob_c::yuktrob_decide`: the answer of the decision becomes its number, and the areas are as it left them. Assumes nothing.
-use Rattle.yuktrob_c.proofs.VerdictFit.{decided-fits, decided-number}
+use mathlib.Core.Path.{ap, _∙_}
+use Rattle.yuktrob_c.specs.Numbers.{verdict-number}
+use Rattle.yuktrob_c.proofs.VerdictFit.{decided-fits}
 use borrow.Author.Needs.{needs}
 use Rattle.yuktrob_c.proofs.yuktrob_decide.Statement.{statement}
 use Rattle.yuktrob_c.proofs.yuktrob_decide.Tie as tie
@@ -17,7 +19,9 @@ same-length-2 : tie.Need-same-length-2
 same-length-2 c = search needs
 
 returns : tie.Need-returns
-returns c = decided-number (c .before .before .before .before .before .decide .ensures) (c .verdict-number .ensures)
+returns c =
+    let decided = c .before .before .before .before .before .decide .ensures in
+    (c .verdict-number .ensures ∙ ap verdict-number (decided .answered), (decided .buffered, decided .worked))
 
 pub yuktrob-decide-spec : {M : Type 1} → statement M
 yuktrob-decide-spec =
