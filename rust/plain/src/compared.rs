@@ -1,10 +1,12 @@
 //! One input through the proved library and the independent implementation: what differs, if anything.
 
+use crate::least::{self, Course};
 use crate::random::{nesting, Random};
 use crate::reading::{self, Unreadable};
 use crate::scale::{is_place, BOTH, CURRENT_SCALE, PREVIOUS_SCALE};
 use crate::truth::{self, Truth};
 use crate::{decision, decision::Verdict};
+use std::cmp::Reverse;
 use yuktrob::{course_len, work_len, Command, Refusal, Rule, MOST_NODES, MOST_PLACES, MOST_PROFILES};
 
 /// A refusal's number, with the byte's place and the fixpoint's where it has them.
@@ -62,8 +64,8 @@ fn each_signal(rule: &mut [u8], mut other: impl FnMut(u8) -> u8) {
     }
 }
 
-/// The rule's bytes: at random, damaged, short, long, with no good loop of one step, or with fixpoints that cross, most of which alternate;
-/// of these some lack a next.
+/// The rule's bytes: at random, damaged, short, long, with no good loop of one step, with many courses as short, or with fixpoints that
+/// cross, most of which alternate; of these some lack a next.
 fn rule(random: &mut Random) -> Vec<u8> {
     let most = [4, 12, 24, 48, 60][random.below(5)];
     let size = 1 + random.below(most);
@@ -72,6 +74,7 @@ fn rule(random: &mut Random) -> Vec<u8> {
         2..=4 => random.crossing(),
         5 => random.unguarded(),
         6 => [vec![7], random.beat(), random.rule(size)].concat(),
+        7 => random.fork(),
         _ => random.rule(size),
     }
 }
@@ -329,11 +332,9 @@ fn zeros(settled: &Settled, lent: Lent) -> usize {
     }
 }
 
-/// How many decisions gave another course, as short; what the scale flags did in those that came to a verdict; and what the room for
-/// profiles did.
+/// What the scale flags did in decisions that came to a verdict, what the room for profiles did, and what the courses were held beside.
 #[derive(Default)]
 pub struct Decisions {
-    pub other: u64,
     /// Of a rule with both flags, and of these with a step missing for the flags alone, as both would be present, as both would be absent.
     pub with_flags: u64,
     pub both_present: u64,
@@ -343,6 +344,7 @@ pub struct Decisions {
     /// Verdicts that were asked for again with more room.
     pub again: u64,
     pub rooms: Rooms,
+    pub courses: Courses,
 }
 
 /// What M, the room for profiles, did in decisions. What is needed are the profiles of runs of at most as many steps as the shortest good
@@ -416,36 +418,81 @@ impl Decisions {
     }
 }
 
-/// Whether a course other than expected meets the rule as well, by steps of its graph.
-fn meets(rule: &[u8], course: &[u16], settled: &Settled) -> bool {
-    let (Settled::Met { lead_len, .. }, Ok(entries)) = (*settled, reading::read(rule)) else { return false };
-    let told = truth::by_laps(rule, course, lead_len, course.len());
-    matches!(told, Truth::Told(true, _)) && decision::has_run(&entries, course, lead_len)
+/// How many courses were given, and how many of them were held beside all that are as short, the rule being small enough for that.
+#[derive(Default)]
+pub struct Courses {
+    pub given: u64,
+    pub tried: u64,
+    /// Of these how many are not the only one as short, and of these how many where some have other places.
+    pub several: u64,
+    pub differing: u64,
+    /// Of these how many where another order would give other places: the last for the first; the loop's pick words before the lead-in's;
+    /// the places for the pick words; or 0 as the highest bit of a word and not the lowest.
+    pub by_last: u64,
+    pub by_loop: u64,
+    pub by_places: u64,
+    pub by_first_or: u64,
 }
 
-/// The decision: the answer, the work area, and the course buffer; and often that more room changes neither a verdict nor its numbers.
+/// How much is tried for one rule.
+const MOST_TRIED: usize = 20_000;
+
+impl Courses {
+    /// The course given must be the first of all that are as short, by their pick words.
+    fn check(&mut self, rule: &[u8], lead_len: usize, given: &[u16]) -> Result<(), String> {
+        self.given += 1;
+        let Some(all) = reading::read(rule).ok().and_then(|entries| least::shortest(&entries, MOST_TRIED)) else { return Ok(()) };
+        let least = least::first(&all, Course::words);
+        if (lead_len, given) != (least.lead.len(), &least.places()) {
+            return Err(format!("decide {rule:02x?}: course {given:04x?} lead-in {lead_len}, but of all as short {least:04x?} is first"));
+        }
+        self.tried += 1;
+        self.several += (all.len() > 1) as u64;
+        if all.iter().any(|course| course.places() != given) {
+            self.count_orders(&all, given);
+        }
+        Ok(())
+    }
+
+    fn count_orders(&mut self, all: &[Course], given: &[u16]) {
+        let loop_before = |course: &Course| [course.loop_words(), course.lead_words()];
+        let first_or_highest = |course: &Course| course.words().into_iter().map(u64::reverse_bits).collect::<Vec<_>>();
+        let other = |course: &Course| (course.places() != given) as u64;
+        self.differing += 1;
+        self.by_last += other(least::first(all, |course| Reverse(course.words())));
+        self.by_loop += other(least::first(all, loop_before));
+        self.by_places += other(least::first(all, Course::places));
+        self.by_first_or += other(least::first(all, first_or_highest));
+    }
+}
+
+/// The decision: the answer, the work area, and the course buffer; of a small rule that the course is the one it must be among all as
+/// short; and often that more room changes neither a verdict nor its numbers nor its course.
 pub fn decision(random: &mut Random, rule: &[u8], areas: &mut Areas, decisions: &mut Decisions) -> Result<(), String> {
     let lent = lent(random, rule);
-    let (settled, found) = decided(rule, lent, areas, &mut decisions.other)?;
-    decisions.rooms.count(rule, lent, &settled);
+    let told = decided(rule, lent, areas)?;
+    let (settled, course) = &told;
+    decisions.rooms.count(rule, lent, settled);
     if matches!(settled, Settled::Refused(_)) {
         return Ok(());
     }
-    decisions.count(rule, &found);
+    decisions.count(rule, course);
+    if let Settled::Met { lead_len, .. } = *settled {
+        decisions.courses.check(rule, lead_len, course)?;
+    }
     if random.one_in(4) {
         decisions.again += 1;
         let more = more_room(random, lent);
-        let (again, _) = decided(rule, more, areas, &mut decisions.other)?;
-        if again != settled {
-            return Err(format!("decide {rule:02x?} {lent:?} {settled:?}, but {more:?} {again:?}"));
+        let again = decided(rule, more, areas)?;
+        if again != told {
+            return Err(format!("decide {rule:02x?} {lent:?} {told:?}, but {more:?} {again:?}"));
         }
     }
     Ok(())
 }
 
-/// The answer of both and the course given. Another course than expected, of the same two lengths, is as right if it meets the rule by
-/// steps of its graph; `other` counts such.
-fn decided(rule: &[u8], lent: Lent, areas: &mut Areas, other: &mut u64) -> Result<(Settled, Vec<u16>), String> {
+/// The answer of both and the course given.
+fn decided(rule: &[u8], lent: Lent, areas: &mut Areas) -> Result<(Settled, Vec<u16>), String> {
     let (work, buffer) = (&mut areas.work[..lent.work], &mut areas.course[..lent.course]);
     work.fill(0xa5);
     buffer.fill(0x5a5a);
@@ -463,12 +510,11 @@ fn decided(rule: &[u8], lent: Lent, areas: &mut Areas, other: &mut u64) -> Resul
     if rest.iter().any(|&p| p != 0x5a5a) {
         return fail("course buffer");
     }
-    if !found.iter().all(|&place| is_place(place)) {
+    if found != course {
+        return Err(format!("decide {rule:02x?} {lent:?} {ours:?}: course {found:04x?}, not {course:04x?}"));
+    }
+    if !course.iter().all(|&place| is_place(place)) {
         return fail("scale flags");
     }
-    if found != course && !meets(rule, found, &ours) {
-        return fail("course");
-    }
-    *other += (found != course) as u64;
-    Ok((ours, found.to_vec()))
+    Ok((ours, course))
 }

@@ -1,4 +1,6 @@
-//! The decision: the graph of a rule, its profiles up to the shortest good loop, and a shortest course.
+//! The decision: the graph of a rule, its profiles up to the shortest good loop, and the course. Nodes and profiles are found breadth
+//! first, by rising pick word, and the profiles of one step node by node. So the first good loop that is found has the fewest steps, its
+//! node is the nearest to the root with a loop so short, and of several such the lead-in's pick words come first, then the loop's.
 
 use crate::reading::{read, Command, Unreadable};
 use crate::scale;
@@ -77,18 +79,6 @@ pub fn lost_to_flags(entries: &[Command], room: usize) -> Vec<u16> {
     nodes.iter().flat_map(|&node| graph.asked_by(node)).filter(lost).map(|x| x.present).collect()
 }
 
-/// Whether a rule's graph has a run from the root with the places of a course, which comes back at its end to the node where the loop
-/// begins.
-pub fn has_run(entries: &[Command], course: &[u16], lead_len: usize) -> bool {
-    let graph = Graph::new(entries);
-    let after = |nodes: HashSet<u64>, &place: &u16| -> HashSet<u64> {
-        nodes.into_iter().flat_map(|node| graph.steps(node)).filter(|step| step.place == place).map(|step| step.to).collect()
-    };
-    let (lead, around) = course.split_at(lead_len);
-    let begins = lead.iter().fold(HashSet::from([1]), after);
-    begins.into_iter().any(|node| around.iter().fold(HashSet::from([node]), after).contains(&node))
-}
-
 /// The places of the steps from the root to a node.
 fn lead_to(nodes: &Nodes, mut node: usize) -> Vec<u16> {
     let mut lead = Vec::new();
@@ -122,10 +112,10 @@ struct Asked {
 }
 
 /// One step: its pick, its place and where it leads.
-struct Step {
-    pick: u64,
-    place: u16,
-    to: u64,
+pub(crate) struct Step {
+    pub(crate) pick: u64,
+    pub(crate) place: u16,
+    pub(crate) to: u64,
 }
 
 struct Nodes {
@@ -136,7 +126,7 @@ struct Nodes {
 }
 
 /// Row f, column g: bit k for a trace with the k-th fixpoint's weight, bit 7 for none.
-type Triples = Vec<u8>;
+pub(crate) type Triples = Vec<u8>;
 
 struct Profile {
     first: usize,
@@ -172,9 +162,10 @@ impl Found {
     }
 }
 
-struct Graph<'a> {
+pub(crate) struct Graph<'a> {
     entries: &'a [Command],
-    ors: Vec<usize>,
+    /// The or commands, by entry.
+    pub(crate) ors: Vec<usize>,
     /// The next commands, by entry.
     nexts: Vec<usize>,
     /// For each fixpoint's entry its number among the fixpoints.
@@ -184,7 +175,7 @@ struct Graph<'a> {
 }
 
 impl<'a> Graph<'a> {
-    fn new(entries: &'a [Command]) -> Self {
+    pub(crate) fn new(entries: &'a [Command]) -> Self {
         let of = |test: fn(&Command) -> bool| -> Vec<usize> {
             (0..entries.len()).filter(|&e| test(&entries[e])).collect()
         };
@@ -263,7 +254,7 @@ impl<'a> Graph<'a> {
     }
 
     /// The steps of a node, by rising pick word.
-    fn steps(&self, node: u64) -> Vec<Step> {
+    pub(crate) fn steps(&self, node: u64) -> Vec<Step> {
         let step = |Asked { pick, present, absent, to }| scale::place(present, absent).map(|place| Step { pick, place, to });
         self.asked_by(node).filter_map(step).collect()
     }
@@ -305,7 +296,7 @@ impl<'a> Graph<'a> {
         self.nexts.iter().map(|&e| weights[e]).collect()
     }
 
-    fn triples(&self, node: u64, pick: u64) -> Triples {
+    pub(crate) fn triples(&self, node: u64, pick: u64) -> Triples {
         let n = self.nexts.len();
         let mut all = vec![0; n * n];
         for (row, &e) in self.nexts.iter().enumerate() {
@@ -317,7 +308,7 @@ impl<'a> Graph<'a> {
         all
     }
 
-    fn join(&self, a: &[u8], b: &[u8]) -> Triples {
+    pub(crate) fn join(&self, a: &[u8], b: &[u8]) -> Triples {
         let n = self.nexts.len();
         let mut all = vec![0; n * n];
         for f in 0..n {
@@ -384,7 +375,7 @@ impl<'a> Graph<'a> {
     }
 
     /// Whether some power has a least fixpoint's weight on its diagonal.
-    fn bad(&self, triples: &[u8]) -> bool {
+    pub(crate) fn bad(&self, triples: &[u8]) -> bool {
         let n = self.nexts.len();
         let mut sum = triples.to_vec();
         loop {

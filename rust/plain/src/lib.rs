@@ -1,10 +1,12 @@
 //! An independent implementation of reading, truth and decision in plain Rust, written from the defining papers ("documents 01 and 02")
 //! with Rust's own collections. It shares nothing with the proved library and is there to be compared with it: `compared` runs one input
-//! through both, the programs `compare` and `bench` many. Not published.
+//! through both, the programs `compare` and `bench` many. On small rules `least` finds a decision's course a third time, by trying all that
+//! are as short. Not published.
 
 pub mod compared;
 pub mod decision;
 mod laps;
+pub mod least;
 pub mod random;
 pub mod reading;
 mod rounds;

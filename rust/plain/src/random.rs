@@ -173,6 +173,30 @@ impl Random {
         [&[10, 7, 3, signal, 7, 8, 4, signal][..], &vec![8; steps], &[5, 0]].concat()
     }
 
+    /// Two or three parts joined by ors. In each, behind as many nexts, one of two signals is always as asked, or at every second place; so
+    /// many courses are as short.
+    pub fn fork(&mut self) -> Vec<u8> {
+        let (parts, nexts, every) = (2 + self.below(2), self.below(3), 1 + self.below(2));
+        let mut rule = vec![6; parts - 1];
+        for _ in 0..parts {
+            rule.extend(vec![8; nexts]);
+            rule.extend([10, 7, 6]);
+            self.choice(&mut rule);
+            self.choice(&mut rule);
+            rule.extend(vec![8; every]);
+            rule.extend([5, 0]);
+        }
+        rule
+    }
+
+    /// A signal present or absent, now and then false.
+    fn choice(&mut self, rule: &mut Vec<u8>) {
+        match self.below(5) {
+            0 => rule.push(2),
+            _ => rule.extend([3 + self.below(2) as u8, self.below(3) as u8]),
+        }
+    }
+
     /// Bytes that are nearly a rule, or no rule at all.
     pub fn damaged(&mut self, size: usize) -> Vec<u8> {
         let mut bytes = self.rule(size);

@@ -1,6 +1,6 @@
 //! The proved library and the independent implementation agree.
 
-use yuktrob_plain::compared::{self, Areas, Decisions, Input, Rooms, Signals, Truths, Unguarded};
+use yuktrob_plain::compared::{self, Areas, Courses, Decisions, Input, Rooms, Signals, Truths, Unguarded};
 use yuktrob_plain::random::Random;
 
 /// Courses are kept this short, so that the test takes seconds; `compare` draws longer ones.
@@ -24,6 +24,7 @@ fn on_some_thousands() {
     assert!(signals.fewest() > 20, "only {} rules with some signal both present and absent", signals.fewest());
     check_flags(&truths, &decisions);
     check_rooms(&decisions.rooms);
+    check_courses(&decisions.courses);
     assert!(decisions.again > 250, "only {} verdicts asked for again with more room", decisions.again);
 }
 
@@ -59,5 +60,17 @@ fn check_rooms(rooms: &Rooms) {
         (rooms.refused_by_one, 70, "refused with 15 where M is one fewer than a good loop needs"),
         (rooms.refused_none, 30, "refused with 15 without a good loop"),
         (rooms.refused_none_by_one, 20, "refused with 15 where M is one fewer than all profiles"),
+    ]);
+}
+
+fn check_courses(courses: &Courses) {
+    check_counts(&[
+        (courses.tried, 1000, "courses held beside all that are as short"),
+        (courses.several, 500, "courses with others as short"),
+        (courses.differing, 350, "courses with others as short that have other places"),
+        (courses.by_last, 300, "courses where the last as short has other places"),
+        (courses.by_loop, 10, "courses where the loop's pick words before the lead-in's give other places"),
+        (courses.by_places, 150, "courses where comparing places gives other places"),
+        (courses.by_first_or, 20, "courses where other places come first with or 0 as the highest bit"),
     ]);
 }

@@ -4,6 +4,7 @@
 use std::io::Write;
 use std::process::{Command, Stdio};
 use std::time::Duration;
+use yuktrob_plain::decision::{decide, Verdict};
 use yuktrob_plain::random::Random;
 use yuktrob_plain::reading::{read, Unreadable};
 use yuktrob_plain::truth::{by_laps, Truth};
@@ -50,7 +51,7 @@ fn course(lines: &[&str], lead_len: usize) -> Vec<u16> {
     lines.iter().enumerate().map(place).collect()
 }
 
-/// A first line, and behind MET a course of the two lengths on which the rule is true.
+/// A first line, and behind MET the course that the independent implementation gives, on which the rule is true.
 fn check(rule: &[u8], first: &str, text: &str) {
     assert!(text.ends_with('\n') && !text.ends_with("\n\n"), "{text:?}");
     let lines: Vec<&str> = text.lines().collect();
@@ -60,7 +61,8 @@ fn check(rule: &[u8], first: &str, text: &str) {
     };
     let sizes: Vec<usize> = sizes.split(' ').map(|x| x.parse().expect("a size")).collect();
     let course = course(&lines[1..], sizes[0]);
-    assert_eq!(course.len(), sizes[0] + sizes[1], "{text}");
+    let Verdict::Met { course: expected, .. } = decide(rule, 256, 300, 59_648, 556) else { panic!("{rule:02x?}") };
+    assert_eq!((course.len(), &course), (sizes[0] + sizes[1], &expected), "{text}");
     assert!(matches!(by_laps(rule, &course, sizes[0], course.len()), Truth::Told(true, _)), "{rule:02x?} on {course:04x?}");
 }
 

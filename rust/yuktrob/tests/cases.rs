@@ -1,6 +1,6 @@
 //! The outcomes that document 01 gives, through the wrappers: cases A to L and the truth examples, each place with a scale flag and each
-//! count of profiles as document 02 asks; what the flags refuse; little room for profiles, and the areas then; and the refusals of reading
-//! with their places.
+//! count of profiles as document 02 asks; which course is given of several as short; what the flags refuse; little room for profiles, and
+//! the areas then; and the refusals of reading with their places.
 
 use yuktrob::{course_len, decide, truth, work_len, Areas, Refusal, Rule, Verdict};
 
@@ -75,6 +75,29 @@ fn not_needs_room_for_all_profiles() {
     check_areas(&CASE_I, (256, 5), Err(15));
     check_areas(&CASE_I, (256, 6), Ok(not(3, 6)));
     check_areas(&CASE_I, (1024, 4096), Ok(not(3, 6)));
+}
+
+#[test]
+fn of_courses_as_short_the_first_by_pick_words() {
+    check(&[
+        // s0 or s1; as short: 4002 (4000)
+        (&[6, 3, 0, 3, 1], met(1, 1, 2, 1, &[0x4001, 0x4000])),
+        // s1 or s0; as short: 4001 (4000), though its places are the lower ones
+        (&[6, 3, 1, 3, 0], met(1, 1, 2, 1, &[0x4002, 0x4000])),
+        // (false or s1) or s0: the outer or is number 0, so the pick words are 2 and 1; as short: 4002 (4000)
+        (&[6, 6, 2, 3, 1, 3, 0], met(1, 1, 2, 1, &[0x4001, 0x4000])),
+        // G s1 or G s0, two lead-ins to different nodes; as short: 4001 (4001)
+        (&[6, 10, 7, 3, 1, 8, 5, 0, 10, 7, 3, 0, 8, 5, 0], met(1, 1, 3, 2, &[0x4002, 0x4002])),
+        // not s1, and G (s1 or s0), one lead-in and two loops behind it; as short: 4001 (4001)
+        (&[7, 4, 1, 10, 7, 6, 3, 1, 3, 0, 8, 5, 0], met(1, 1, 2, 1, &[0x4001, 0x4002])),
+        // at every second place, from the second on, s1 or s0; as short: 4000 (4001 4000)
+        (&[10, 8, 7, 6, 3, 1, 3, 0, 8, 5, 0], met(1, 2, 3, 4, &[0x4000, 0x4002, 0x4000])),
+        // at every second place, from the second on, F s0, waiting being on the left: the loop's words are 0 1, and of the other 1 0; as
+        // short: 4000 (4001 4000)
+        (&[10, 8, 7, 8, 5, 0, 9, 6, 8, 5, 0, 3, 0], met(1, 2, 5, 16, &[0x4000, 0x4000, 0x4001])),
+        // X G (false or s0), or X G s1: the words are 0 2 (2) and 1 0 (0), and the lead-in's count first; as short: 4000 4002 (4002)
+        (&[6, 8, 10, 7, 6, 2, 3, 0, 8, 5, 0, 8, 10, 7, 3, 1, 8, 5, 0], met(2, 1, 5, 4, &[0x4000, 0x4001, 0x4001])),
+    ]);
 }
 
 #[test]

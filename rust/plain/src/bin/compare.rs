@@ -2,7 +2,7 @@
 //! `compare [INPUTS [SEED [LONGEST]]]`, where no course that both work out is longer than LONGEST places, 60 at least and 8,192 at most.
 
 use std::time::Instant;
-use yuktrob_plain::compared::{self, Areas, Decisions, Input, Rooms, Signals, Truths, Unguarded, LONG};
+use yuktrob_plain::compared::{self, Areas, Courses, Decisions, Input, Rooms, Signals, Truths, Unguarded, LONG};
 use yuktrob_plain::random::Random;
 
 fn main() {
@@ -38,7 +38,7 @@ fn main() {
     report_flags(&truths, &decisions);
     report_rooms(&decisions.rooms);
     println!("verdicts asked for again with more room: {}", decisions.again);
-    println!("decisions with another course, as short: {}", decisions.other);
+    report_courses(&decisions.courses);
     println!("differences: {differences}");
     if differences > 0 {
         std::process::exit(1);
@@ -63,4 +63,12 @@ fn report_rooms(rooms: &Rooms) {
     let Rooms { refused_good, refused_behind, refused_by_one, refused_none, refused_none_by_one, .. } = rooms;
     println!("15 with a good loop: {refused_good}, of these within M: {refused_behind}, with M one fewer than needed: {refused_by_one}");
     println!("15 without a good loop: {refused_none}, of these with M one fewer than needed: {refused_none_by_one}");
+}
+
+fn report_courses(courses: &Courses) {
+    let Courses { given, tried, several, differing, by_last, by_loop, by_places, by_first_or } = courses;
+    println!("courses given: {given}, of these held beside all that are as short: {tried}");
+    println!("of these where there are several: {several}, of these where some have other places: {differing}");
+    println!("of these with other places if the last came first: {by_last}, if the loop's pick words came before the lead-in's: {by_loop}");
+    println!("if places were compared and not pick words: {by_places}, if or 0 were a word's highest bit: {by_first_or}");
 }
