@@ -66,6 +66,7 @@ static void decide(const uint8_t *rule, size_t rule_len) { decide_within(PROFILE
 
 int main(void) {
     const uint8_t eventually[] = {0x09, 0x06, 0x03, 0x00, 0x08, 0x05, 0x00}; /* sooner or later signal 0 */
+    const uint8_t either[] = {0x06, 0x03, 0x01, 0x03, 0x00}; /* signal 1 or signal 0: two courses as short, the left one is given */
     const uint8_t never[] = {0x02};
     const uint8_t unguarded[] = {0x09, 0x05, 0x00};
     const uint8_t next_outside[] = {0x08, 0x09, 0x05, 0x00};
@@ -77,6 +78,7 @@ int main(void) {
     list(eventually, sizeof eventually);
     list(unguarded, sizeof unguarded);
     decide(eventually, sizeof eventually);
+    decide(either, sizeof either);
     decide(never, sizeof never);
     decide(unguarded, sizeof unguarded);
     decide(next_outside, sizeof next_outside);

@@ -52,9 +52,15 @@ uint64_t yuktrob_truth(const uint8_t *rule, size_t rule_len, const uint16_t *pla
 
 /* Whether any course meets a rule, with room for so many nodes and profiles. If some course does, room is needed for the profiles of runs
  * of at most as many steps as the shortest good loop has, and otherwise for all profiles; 15 says that there is less. More room changes
- * neither MET nor NOT, nor its numbers. After MET the buffer begins with the course; the rest of it, and all of it after any other answer,
- * is unchanged. After MET, NOT, 14 and 15 the first YUKTROB_WORK_LEN(nodes, profiles) bytes of the work area are zero; otherwise the work
- * area is unchanged. */
+ * neither MET nor NOT, nor its numbers, nor the course. After MET the buffer begins with the course; the rest of it, and all of it after
+ * any other answer, is unchanged. After MET, NOT, 14 and 15 the first YUKTROB_WORK_LEN(nodes, profiles) bytes of the work area are zero;
+ * otherwise the work area is unchanged.
+ *
+ * The rule alone settles the course. The loop has as few places as any good loop, the lead-in as few as any from the root to a loop so
+ * short, and of the courses left it is the first by pick words: from the first step of the lead-in to the last of the loop these are
+ * compared one after another, as numbers. Bit j of a step's pick word says what the step picks at or number j, the ors being numbered from
+ * 0 as they begin in the rule: 1 for the right operand, 0 for the left one and where the step does not meet that or. So left comes before
+ * right, and where several ors differ the last of them decides. */
 uint64_t yuktrob_decide(const uint8_t *rule, size_t rule_len, size_t nodes, size_t profiles, uint8_t *work, size_t work_len,
                         uint16_t *course, size_t course_len);
 

@@ -48,7 +48,8 @@ pub enum Verdict<'c> {
         nodes: usize,
         /// How many profiles the graph has of runs of at most `loop_len` steps. Longer runs may have more, which are not counted.
         profiles: usize,
-        /// A shortest such course, in the buffer's first places: the lead-in, then the loop. Each place has one scale flag.
+        /// The course, in the buffer's first places: the lead-in, then the loop. Each place has one scale flag. Where several courses are
+        /// as short, [`decide`] says which one it is.
         course: &'c [u16],
     },
     /// No course meets the rule.
@@ -64,13 +65,28 @@ pub enum Verdict<'c> {
 /// [`work_len`] bytes, the course buffer [`course_len`] places; they need not be cleared. Refused: 1 to 9, 11 to 15.
 ///
 /// If some course meets the rule, room is needed for the profiles of runs of at most as many steps as the shortest good loop has, and
-/// otherwise for all profiles; 15 says that there is less. More room changes neither a verdict nor its numbers.
+/// otherwise for all profiles; 15 says that there is less. More room changes neither a verdict nor its numbers nor its course.
+///
+/// The rule alone settles the course. The loop has as few places as any good loop, the lead-in as few as any from the root to a loop so
+/// short, and of the courses left it is the first by pick words: from the first step of the lead-in to the last of the loop these are
+/// compared one after another, as numbers. Bit j of a step's pick word says what the step picks at or number j, the ors being numbered from
+/// 0 as they begin in the rule: 1 for the right operand, 0 for the left one and where the step does not meet that or. So left comes before
+/// right, and where several ors differ the last of them decides.
 ///
 /// ```
 /// use yuktrob::{course_len, decide, work_len, Verdict};
 /// let (mut work, mut course) = (vec![0; work_len(1, 1)], vec![0; course_len(1, 1)]);
 /// assert_eq!(decide(&[0x02], 1, 1, &mut work, &mut course), Ok(Verdict::Not { nodes: 1, profiles: 0 }));
 /// assert_eq!(decide(&[0x02], 0, 1, &mut work, &mut course).unwrap_err().number, 11);
+/// ```
+///
+/// Signal 1 or signal 0 can be met as shortly by either, and the left one is taken:
+///
+/// ```
+/// use yuktrob::{course_len, decide, work_len, Verdict};
+/// let (mut work, mut course) = (vec![0; work_len(2, 1)], vec![0; course_len(2, 1)]);
+/// let either = decide(&[0x06, 0x03, 0x01, 0x03, 0x00], 2, 1, &mut work, &mut course);
+/// assert!(matches!(either, Ok(Verdict::Met { lead_len: 1, course: &[0x4002, 0x4000], .. })));
 /// ```
 ///
 /// Infinitely often signal 0 has five profiles, four of them of runs of one step, and a loop of one step is found:

@@ -1,5 +1,6 @@
 //! Rules of tractor-guidance terminals: reading a rule, its truth on a repeating course, and the decision whether any course meets it,
-//! with a shortest example. A rule is a formula of the linear-time mu-calculus in bytes; `docs/FORMULAS.md` shows how to write one.
+//! with a short example, the same one each time. A rule is a formula of the linear-time mu-calculus in bytes; `docs/FORMULAS.md` shows how
+//! to write one.
 //!
 //! The work is done by a library whose every function is proved to meet its contract. This crate wraps its exported functions and takes
 //! their numbers apart.
