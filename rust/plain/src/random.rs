@@ -173,28 +173,35 @@ impl Random {
         [&[10, 7, 3, signal, 7, 8, 4, signal][..], &vec![8; steps], &[5, 0]].concat()
     }
 
-    /// Two or three parts joined by ors. In each, behind as many nexts, one of two signals is always as asked, or at every second place; so
-    /// many courses are as short.
+    /// Two or three parts joined by ors, each behind as many nexts; so many courses are as short.
     pub fn fork(&mut self) -> Vec<u8> {
         let (parts, nexts, every) = (2 + self.below(2), self.below(3), 1 + self.below(2));
         let mut rule = vec![6; parts - 1];
         for _ in 0..parts {
             rule.extend(vec![8; nexts]);
-            rule.extend([10, 7, 6]);
-            self.choice(&mut rule);
-            self.choice(&mut rule);
-            rule.extend(vec![8; every]);
-            rule.extend([5, 0]);
+            rule.extend(self.branch(every));
         }
         rule
     }
 
-    /// A signal present or absent, now and then false.
-    fn choice(&mut self, rule: &mut Vec<u8>) {
-        match self.below(5) {
-            0 => rule.push(2),
-            _ => rule.extend([3 + self.below(2) as u8, self.below(3) as u8]),
+    /// At every place, or every second one, a signal is as asked; or another one is, or the part holds from there on too, which has traces
+    /// that the signal has not.
+    fn branch(&mut self, every: usize) -> Vec<u8> {
+        let again = [&vec![8; every][..], &[5, 0]].concat();
+        if !self.one_in(3) {
+            return [vec![10, 7, 6], self.literal(), self.literal(), again].concat();
         }
+        let mut operands = [self.literal(), vec![5, 0]];
+        operands.rotate_left(self.below(2));
+        [vec![10, 7], again, vec![8, 6], operands.concat()].concat()
+    }
+
+    /// A signal present or absent, now and then false.
+    fn literal(&mut self) -> Vec<u8> {
+        if self.one_in(5) {
+            return vec![2];
+        }
+        vec![3 + self.below(2) as u8, self.below(3) as u8]
     }
 
     /// Bytes that are nearly a rule, or no rule at all.

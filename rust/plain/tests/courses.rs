@@ -47,6 +47,13 @@ const TWO_LOOPS: Several = Several {
     courses: &[(&[1, 0], &[0x4001, 0x4002]), (&[1, 1], &[0x4001, 0x4001])],
 };
 
+/// The greatest Z with X Z and X (s0 or Z): two loops at one node, which have different traces and so different profiles.
+const TWO_PROFILES: Several = Several {
+    rule: &[10, 7, 8, 5, 0, 8, 6, 3, 0, 5, 0],
+    met: [1, 1, 2, 2],
+    courses: &[(&[0, 0], &[0x4000, 0x4001]), (&[0, 1], &[0x4000, 0x4000])],
+};
+
 /// At every second place, from the second on, s1 or s0: two loops of two steps at one node.
 const TWO_LONGER_LOOPS: Several = Several {
     rule: &[10, 8, 7, 6, 3, 1, 3, 0, 8, 5, 0],
@@ -69,7 +76,7 @@ const HIGHER_LOOP: Several = Several {
     courses: &[(&[0, 2, 2], &[0x4000, 0x4001, 0x4001]), (&[1, 0, 0], &[0x4000, 0x4002, 0x4002])],
 };
 
-const ALL: [Several; 8] = [EITHER, HIGHER_PLACE, INNER_OR, TWO_NODES, TWO_LOOPS, TWO_LONGER_LOOPS, WAITING, HIGHER_LOOP];
+const ALL: [Several; 9] = [EITHER, HIGHER_PLACE, INNER_OR, TWO_NODES, TWO_LOOPS, TWO_PROFILES, TWO_LONGER_LOOPS, WAITING, HIGHER_LOOP];
 
 fn as_short(rule: &[u8]) -> Vec<Course> {
     shortest(&read(rule).expect("a rule"), 1000).expect("few courses")

@@ -90,6 +90,8 @@ fn of_courses_as_short_the_first_by_pick_words() {
         (&[6, 10, 7, 3, 1, 8, 5, 0, 10, 7, 3, 0, 8, 5, 0], met(1, 1, 3, 2, &[0x4002, 0x4002])),
         // not s1, and G (s1 or s0), one lead-in and two loops behind it; as short: 4001 (4001)
         (&[7, 4, 1, 10, 7, 6, 3, 1, 3, 0, 8, 5, 0], met(1, 1, 2, 1, &[0x4001, 0x4002])),
+        // the greatest Z with X Z and X (s0 or Z), two loops behind one lead-in, with different profiles; as short: 4000 (4000)
+        (&[10, 7, 8, 5, 0, 8, 6, 3, 0, 5, 0], met(1, 1, 2, 2, &[0x4000, 0x4001])),
         // at every second place, from the second on, s1 or s0; as short: 4000 (4001 4000)
         (&[10, 8, 7, 6, 3, 1, 3, 0, 8, 5, 0], met(1, 2, 3, 4, &[0x4000, 0x4002, 0x4000])),
         // at every second place, from the second on, F s0, waiting being on the left: the loop's words are 0 1, and of the other 1 0; as
