@@ -1,10 +1,20 @@
--- The starred cases of MEANING 5.9, those without a star, those of the scale flags, and the examples of capacities, as statements that the
--- definitions compute through the reading of the bytes. Assumes nothing.
+-- The starred cases of MEANING 5.9, those without a star, those of the scale flags, the examples of capacities, and formulas with several
+-- witnesses that are as short, as statements that the definitions compute through the reading of the bytes. Assumes nothing.
 use mathlib.Core.Path.{_≡_, refl}
-use mathlib.Core.List.{List, [], _∷_, map}
+use mathlib.Core.Option.{Option, none, some}
+use mathlib.Core.List.{List, [], _∷_, _++_, map}
 use Prim.Native.Nat.{ℕ}
+use Rattle.base.specs.Search.{Item}
+use Rattle.formula.specs.Formula.{Formula}
+use Rattle.formula.specs.Table.{Table, table}
+use Rattle.formula.specs.Reading.{Reading, parse}
 use Rattle.formula.specs.Refusal.{unguarded}
+use Rattle.tableau.specs.Transition.{Transition}
+use Rattle.tableau.specs.Nodes.{nodes, stem-to}
+use Rattle.tableau.specs.Foremost.{choice-words}
+use Rattle.profile.specs.Profiles.{Profile, profiles, rejecting}
 use Rattle.decision.specs.Verdict.{Verdict, verdict}
+use Rattle.decision.specs.Searched.{found-in}
 
 pub record Case : Type 0 where
   pub bytes : List ℕ
@@ -106,3 +116,56 @@ sized =
 pub sized-cases : map (λ (c : Sized). verdict (c .nodes) (c .profiles) 59648 556 (c .bytes)) sized ≡ map (λ (c : Sized). c .outcome) sized
 unfolding verdict
 sized-cases = refl
+
+-- A formula's bytes, the verdict, and the choice words along its witness.
+pub record Told : Type 0 where
+  pub bytes : List ℕ
+  pub outcome : Verdict
+  pub words : List ℕ
+
+abbrev told : List ℕ → Verdict → List ℕ → Told
+told b o w = record { bytes = b; outcome = o; words = w }
+
+-- Formulas with several witnesses that are as short (MEANING 5.4). Two letters for the stem, by the order of an or's operands and not of the
+-- letters; two ors, of which the later has the higher bit; two nodes; two cycles of one node, with one profile, with different profiles, and
+-- with two transitions, of which the first or the second sets them apart; and a stem that comes first though its cycle does not.
+abbrev pub tied : List Told
+tied =
+    told (0x06 ∷ 0x03 ∷ 0x00 ∷ 0x03 ∷ 0x01 ∷ [])
+    (Verdict.satisfiable 1 1 2 1 (0x4001 ∷ 0x4000 ∷ [])) (0 ∷ 0 ∷ [])
+    ∷ told (0x06 ∷ 0x03 ∷ 0x01 ∷ 0x03 ∷ 0x00 ∷ [])
+    (Verdict.satisfiable 1 1 2 1 (0x4002 ∷ 0x4000 ∷ [])) (0 ∷ 0 ∷ [])
+    ∷ told (0x06 ∷ 0x06 ∷ 0x02 ∷ 0x03 ∷ 0x01 ∷ 0x03 ∷ 0x00 ∷ [])
+    (Verdict.satisfiable 1 1 2 1 (0x4001 ∷ 0x4000 ∷ [])) (1 ∷ 0 ∷ [])
+    ∷ told (0x06 ∷ 0x0A ∷ 0x07 ∷ 0x03 ∷ 0x01 ∷ 0x08 ∷ 0x05 ∷ 0x00 ∷ 0x0A ∷ 0x07 ∷ 0x03 ∷ 0x00 ∷ 0x08 ∷ 0x05 ∷ 0x00 ∷ [])
+    (Verdict.satisfiable 1 1 3 2 (0x4002 ∷ 0x4002 ∷ [])) (0 ∷ 0 ∷ [])
+    ∷ told (0x07 ∷ 0x04 ∷ 0x01 ∷ 0x0A ∷ 0x07 ∷ 0x06 ∷ 0x03 ∷ 0x01 ∷ 0x03 ∷ 0x00 ∷ 0x08 ∷ 0x05 ∷ 0x00 ∷ [])
+    (Verdict.satisfiable 1 1 2 1 (0x4001 ∷ 0x4002 ∷ [])) (1 ∷ 0 ∷ [])
+    ∷ told (0x0A ∷ 0x07 ∷ 0x08 ∷ 0x05 ∷ 0x00 ∷ 0x08 ∷ 0x06 ∷ 0x03 ∷ 0x00 ∷ 0x05 ∷ 0x00 ∷ [])
+    (Verdict.satisfiable 1 1 2 2 (0x4000 ∷ 0x4001 ∷ [])) (0 ∷ 0 ∷ [])
+    ∷ told (0x0A ∷ 0x08 ∷ 0x07 ∷ 0x06 ∷ 0x03 ∷ 0x01 ∷ 0x03 ∷ 0x00 ∷ 0x08 ∷ 0x05 ∷ 0x00 ∷ [])
+    (Verdict.satisfiable 1 2 3 4 (0x4000 ∷ 0x4002 ∷ 0x4000 ∷ [])) (0 ∷ 0 ∷ 0 ∷ [])
+    ∷ told (0x0A ∷ 0x08 ∷ 0x07 ∷ 0x08 ∷ 0x05 ∷ 0x00 ∷ 0x09 ∷ 0x06 ∷ 0x08 ∷ 0x05 ∷ 0x00 ∷ 0x03 ∷ 0x00 ∷ [])
+    (Verdict.satisfiable 1 2 5 16 (0x4000 ∷ 0x4000 ∷ 0x4001 ∷ [])) (0 ∷ 0 ∷ 1 ∷ [])
+    ∷ told (0x06 ∷ 0x08 ∷ 0x0A ∷ 0x07 ∷ 0x06 ∷ 0x02 ∷ 0x03 ∷ 0x00 ∷ 0x08 ∷ 0x05 ∷ 0x00 ∷ 0x08 ∷ 0x0A ∷ 0x07 ∷ 0x03 ∷ 0x01 ∷ 0x08 ∷ 0x05 ∷ 0x00 ∷ [])
+    (Verdict.satisfiable 2 1 5 4 (0x4000 ∷ 0x4001 ∷ 0x4001 ∷ [])) (0 ∷ 2 ∷ 2 ∷ [])
+    ∷ []
+
+pub tied-cases : map (λ (c : Told). verdict 256 300 59648 556 (c .bytes)) tied ≡ map (λ (c : Told). c .outcome) tied
+unfolding verdict
+tied-cases = refl
+
+-- the choice words of the run that is chosen
+abbrev pub words-in : Table → Option (Item Transition Profile) → List ℕ
+unfolding nodes
+words-in t none = []
+words-in t (some x) = choice-words t (stem-to (x .at .first) (nodes t) ++ x .way)
+
+abbrev pub words-of : Reading Formula → List ℕ
+unfolding table nodes profiles
+words-of (Reading.refused why) = []
+words-of (Reading.accepted f) = words-in (table f) (found-in (table f))
+
+pub tied-words : map (λ (c : Told). words-of (parse (c .bytes))) tied ≡ map (λ (c : Told). c .words) tied
+unfolding parse table nodes profiles rejecting
+tied-words = refl

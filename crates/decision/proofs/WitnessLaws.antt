@@ -7,7 +7,6 @@ use mathlib.Core.Logic.{inl, inr}
 use mathlib.Core.Option.{none, some}
 use mathlib.Core.List.{List, _++_, map, List·Memᴰ}
 use lib.ListN.{length}
-use Rattle.base.specs.Lists.{first}
 use Rattle.base.specs.Search.{Item}
 use Rattle.base.proofs.FirstLaws.{first-none, Least, first-some}
 use Rattle.base.proofs.OrderLaws.{no-later-trans}
@@ -23,6 +22,7 @@ use Rattle.profile.specs.Cycle.{Run, AcceptingCycle}
 use Rattle.profile.proofs.ProfileLaws.{run-standing, Sooner, profiles-sorted, profiles-short}
 use Rattle.profile.proofs.CycleLaws.{accepting-cycle, Accepting-listed, cycle-accepting}
 use Rattle.decision.specs.Contract.{Witness}
+use Rattle.decision.specs.Searched.{found-in}
 
 module _ (t : Table) (apart : (v : Subset) (s : Transition) → List·Memᴰ s (transitions t v) → s .to ≡ root t → ⊥) where
   run-apart : {p : Profile} {ss : List Transition} → Run t p ss → p .last ≡ root t → ⊥
@@ -33,10 +33,10 @@ module _ (t : Table) (apart : (v : Subset) (s : Transition) → List·Memᴰ s (
   listed c = cycle-accepting t c (run-apart (c .run))
 
   -- Theorem: where no profile is accepting, there is no accepting cycle.
-  pub no-cycle : first (accepting t) (profiles t (nodes t)) ≡ none → (v : Subset) (ss : List Transition) → AcceptingCycle t v ss → ⊥
+  pub no-cycle : found-in t ≡ none → (v : Subset) (ss : List Transition) → AcceptingCycle t v ss → ⊥
   no-cycle e v ss c = let k = listed c in first-none (accepting t) (profiles t (nodes t)) e (k .present) (k .accepted)
 
-  module _ {x : Item Transition Profile} (found : first (accepting t) (profiles t (nodes t)) ≡ some x) where
+  module _ {x : Item Transition Profile} (found : found-in t ≡ some x) where
     least : Least (accepting t) (Sooner t) (profiles t (nodes t)) x
     least = first-some (accepting t) (Sooner t) (profiles-sorted t) found
 

@@ -5,7 +5,6 @@ use mathlib.Core.List.{List}
 use mathlib.Core.Option.{Option}
 use Prim.Native.Nat.{ℕ, _*_, _≤_}
 use lib.ListN.{length, drop}
-use Rattle.base.specs.Lists.{first}
 use Rattle.base.specs.Search.{Item}
 use Rattle.formula.specs.Formula.{Formula}
 use Rattle.formula.specs.Table.{Table, table}
@@ -25,7 +24,7 @@ use Rattle.cycle_search.specs.declared.Sought.{Sought}
 use Rattle.cycle_search.specs.declared.Sought.the-variants as sought
 use Rattle.witness.specs.Letters.{Witness-ready, Witness-written}
 use Rattle.witness.specs.declared.Lengths.{Lengths}
-use Rattle.decision.specs.Verdict.{Verdict, counted, conclude, decide, workspace-size, ask-capacities}
+use Rattle.decision.specs.Verdict.{Verdict, counted, chosen, conclude, decide, workspace-size, ask-capacities}
 use Rattle.decision.specs.Contract.{says, node-count, leaves, cleared}
 use Rattle.decision.specs.declared.Verdict as code
 use Rattle.decision.specs.declared.Verdict.the-variants.{Satisfiable, Unsatisfiable, Refused}
@@ -74,7 +73,7 @@ pub record Answers (v : Verdict) (before after : List ℕ) (r : code.Verdict) : 
 
 -- the accepting profile that the definition finds, if any
 abbrev pub found-in : Table → Option (Item Transition literal.Profile)
-found-in t = first (literal.accepting t) (literal.profiles t (nodes t))
+found-in t = chosen t (literal.profiles t (nodes t))
 
 -- how many profiles the definition counts
 abbrev pub needed : Table → ℕ

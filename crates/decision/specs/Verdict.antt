@@ -32,6 +32,10 @@ abbrev pub counted : Option (Item Transition Profile) → List (Item Transition 
 counted none ps = ps
 counted (some x) ps = within (length (x .way)) ps
 
+-- The accepting profile whose run is the cycle, if there is one: the first.
+abbrev pub chosen : Table → List (Item Transition Profile) → Option (Item Transition Profile)
+chosen t ps = first (accepting t) ps
+
 -- MEANING 5.3, given these and the accepting profile that was found, if any: its way is the cycle
 abbrev pub conclude : List (Item Transition Subset) → List (Item Transition Profile) → Option (Item Transition Profile) → Verdict
 conclude ns qs none = Verdict.unsatisfiable (length ns) (length qs)
@@ -39,13 +43,13 @@ conclude ns qs (some x) =
     let stem = stem-to (x .at .first) ns in
     Verdict.satisfiable (length stem) (length (x .way)) (length ns) (length qs) (map letter (stem ++ x .way))
 
--- The questions 14 and 15, and then the first accepting profile.
+-- The questions 14 and 15, and then the witness or none.
 unfoldable pub decide : (N M : ℕ) → Table → Verdict
 unfolding letter-of nodes profiles rejecting
 decide N M t =
     let ns = nodes t in
     let ps = profiles t ns in
-    let found = first (accepting t) ps in
+    let found = chosen t ps in
     let qs = counted found ps in
     ask (leb (length ns) N) (Verdict.refused 14)
     (ask (leb (length qs) M) (Verdict.refused 15)
