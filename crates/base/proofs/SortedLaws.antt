@@ -55,7 +55,8 @@ module _ {A B : Type 0} (Ahead : A → A → Type 0) (Ahead′ : B → B → Typ
       let (y, m, r) = flat-map-of f xs q in
       h x y (List·Memᴰ·head refl) (List·Memᴰ·tail m) (a y m) b c p r)
 
-  pub sorted-map : (f : A → B) (xs : List A) → Sorted Ahead xs → ((x y : A) → List·Memᴰ x xs → List·Memᴰ y xs → Ahead x y → Ahead′ (f x) (f y))
+  pub sorted-map : (f : A → B) (xs : List A) → Sorted Ahead xs
+      → ((x y : A) → List·Memᴰ x xs → List·Memᴰ y xs → Ahead x y → Ahead′ (f x) (f y))
       → Sorted Ahead′ (map f xs)
   sorted-map f [] s h = Sorted.none
   sorted-map f (x ∷ xs) (Sorted.more a s) h =

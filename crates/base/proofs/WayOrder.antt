@@ -1,6 +1,6 @@
 -- The search with shorter ways first, and of ways as long those whose numbers come first, compared one after another. Each edge adds a
--- number to those of a way; in front of them may stand what belongs to the start. Where the starts have ways of one length and stand in this
--- order, and so do the edges of each vertex, what is found stands in it, and each vertex is found by the first of all ways to it:
+-- number to those of a way; in front of them may stand what belongs to the start. Where the starts have ways of one length and stand in
+-- this order, and so do the edges of each vertex, what is found stands in it, and each vertex is found by the first of all ways to it:
 -- `SearchOrder` for this order. Assumes nothing.
 use mathlib.Core.Path.{_≡_, sym, subst⁻¹, _∙_}
 use mathlib.Core.Logic.{inl, inr}

@@ -65,14 +65,16 @@ witness-is w i = lasso (w .letters-are i) (w .stem-is i)
 
 pub witness-such : {t : Table} {stem cycle : ℕ} {letters : List ℕ} → Witness t stem cycle letters
     → over-alphabet (lasso letters stem) ≡ true
-witness-such {t} w = subst⁻¹ (λ (c : Lasso). over-alphabet c ≡ true) (witness-is w) (cycle-over-alphabet t (w .foremost .is-one .leads) (w .foremost .is-one .counts))
+witness-such {t} w =
+    let r = w .foremost .is-one in
+    subst⁻¹ (λ (c : Lasso). over-alphabet c ≡ true) (witness-is w) (cycle-over-alphabet t (r .leads) (r .counts))
 
 module _ (bytes : List ℕ) (f : Formula) (reads : parse bytes ≡ Reading.accepted f) where
   pub witness-holds : {stem cycle : ℕ} {letters : List ℕ} → Witness (table f) stem cycle letters → meets (lasso letters stem) f ≡ true
   witness-holds w =
+      let r = w .foremost .is-one in
       subst⁻¹ (λ (c : Lasso). meets c f ≡ true) (witness-is w)
-      (cycle-meets f (parse-guarded bytes f reads) (parse-limited bytes f reads .signals) (w .foremost .is-one .leads)
-      (w .foremost .is-one .counts))
+      (cycle-meets f (parse-guarded bytes f reads) (parse-limited bytes f reads .signals) (r .leads) (r .counts))
 
   pub no-lasso : ((v : Subset) (ss : List Transition) → AcceptingCycle (table f) v ss → ⊥)
       → (c : Lasso) → over-alphabet c ≡ true → meets c f ≡ true → ⊥

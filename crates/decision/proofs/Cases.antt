@@ -1,5 +1,5 @@
--- The starred cases of MEANING 5.9, those without a star, those of the scale flags, the examples of capacities, and formulas with several
--- witnesses that are as short, as statements that the definitions compute through the reading of the bytes. Assumes nothing.
+-- The starred cases of MEANING 5.9, those without a star, those of the scale flags, the examples of capacities, and formulas where
+-- several runs are as short, as statements that the definitions compute through the reading of the bytes. Assumes nothing.
 use mathlib.Core.Path.{_≡_, refl}
 use mathlib.Core.Option.{Option, none, some}
 use mathlib.Core.List.{List, [], _∷_, _++_, map}
@@ -126,9 +126,9 @@ pub record Told : Type 0 where
 abbrev told : List ℕ → Verdict → List ℕ → Told
 told b o w = record { bytes = b; outcome = o; words = w }
 
--- Formulas with several witnesses that are as short (MEANING 5.4). Two letters for the stem, by the order of an or's operands and not of the
+-- Formulas where two runs are as short (MEANING 5.9). Two letters for the stem, by the order of an or's operands and not of the
 -- letters; two ors, of which the later has the higher bit; two nodes; two cycles of one node, with one profile, with different profiles, and
--- with two transitions, of which the first or the second sets them apart; and a stem that comes first though its cycle does not.
+-- twice with two transitions, compared from the first on; and a stem that comes first though its cycle does not.
 abbrev pub tied : List Told
 tied =
     told (0x06 ∷ 0x03 ∷ 0x00 ∷ 0x03 ∷ 0x01 ∷ [])
@@ -147,7 +147,8 @@ tied =
     (Verdict.satisfiable 1 2 3 4 (0x4000 ∷ 0x4002 ∷ 0x4000 ∷ [])) (0 ∷ 0 ∷ 0 ∷ [])
     ∷ told (0x0A ∷ 0x08 ∷ 0x07 ∷ 0x08 ∷ 0x05 ∷ 0x00 ∷ 0x09 ∷ 0x06 ∷ 0x08 ∷ 0x05 ∷ 0x00 ∷ 0x03 ∷ 0x00 ∷ [])
     (Verdict.satisfiable 1 2 5 16 (0x4000 ∷ 0x4000 ∷ 0x4001 ∷ [])) (0 ∷ 0 ∷ 1 ∷ [])
-    ∷ told (0x06 ∷ 0x08 ∷ 0x0A ∷ 0x07 ∷ 0x06 ∷ 0x02 ∷ 0x03 ∷ 0x00 ∷ 0x08 ∷ 0x05 ∷ 0x00 ∷ 0x08 ∷ 0x0A ∷ 0x07 ∷ 0x03 ∷ 0x01 ∷ 0x08 ∷ 0x05 ∷ 0x00 ∷ [])
+    ∷ told (0x06 ∷ 0x08 ∷ 0x0A ∷ 0x07 ∷ 0x06 ∷ 0x02 ∷ 0x03 ∷ 0x00 ∷ 0x08 ∷ 0x05 ∷ 0x00 ∷ 0x08 ∷ 0x0A ∷ 0x07 ∷ 0x03 ∷ 0x01 ∷ 0x08
+    ∷ 0x05 ∷ 0x00 ∷ [])
     (Verdict.satisfiable 2 1 5 4 (0x4000 ∷ 0x4001 ∷ 0x4001 ∷ [])) (0 ∷ 2 ∷ 2 ∷ [])
     ∷ []
 

@@ -1,7 +1,7 @@
--- The witness is the first of all runs in the shape of a lasso whose cycle is accepting. The profiles stand in the order of MEANING 5.4, each
--- with the first of the runs that have it, and each node with the first of the runs to it. So the first accepting profile, with the way to
--- its first node, stands before every accepting cycle with whatever stem; and where no profile is accepting, there is no accepting cycle.
--- Assumes nothing.
+-- The witness is the first of all runs in the shape of a lasso whose cycle is accepting. The profiles stand in the order of MEANING 5.4,
+-- each with the first of the runs that have it, and each node with the first of the runs to it. So the first accepting profile, with the
+-- way to its first node, stands before every accepting cycle with whatever stem; and where no profile is accepting, there is no accepting
+-- cycle. Assumes nothing.
 use mathlib.Core.Path.{_≡_, refl, ap}
 use mathlib.Core.Logic.{inl, inr}
 use mathlib.Core.Option.{none, some}

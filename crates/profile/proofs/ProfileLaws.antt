@@ -1,8 +1,8 @@
 -- The profiles are exactly those of runs of one or more transitions whose first node is reachable and not the root, each once, so
 -- that P is their number; `Run` says it without search and fuel. A profile's nodes are reachable and its triples are a part of all
 -- triples, so the search's fuel is enough. The profiles stand in the order of MEANING 5.4, and each comes with the first of the runs that
--- have it, in particular with a shortest. Those with runs of at most l transitions are therefore the profiles of such runs, c of l in number,
--- and c of l is at least l where a listed run has l transitions. Assumes nothing.
+-- have it, in particular with a shortest. Those with runs of at most l transitions are therefore the profiles of such runs, c of l in
+-- number, and c of l is at least l where a listed run has l transitions. Assumes nothing.
 use mathlib.Core.Path.{_≡_, refl, sym, ap, subst, subst⁻¹, _∙_}
 use mathlib.Core.Bool.{_&&_}
 use mathlib.Core.Logic.{inl, inr}
@@ -211,7 +211,8 @@ module _ (t : Table) where
       (transitions-rising t (p .last)) (λ s r m n l. l)
 
   -- what a run of one transition from node n stands by
-  single-words : (n : Item Transition Subset) → List·Memᴰ n (nodes t) → (s : Transition) → words (begun t (n .at) s) ≡ by-way t n ++ (word s ∷ [])
+  single-words : (n : Item Transition Subset) → List·Memᴰ n (nodes t) → (s : Transition)
+      → words (begun t (n .at) s) ≡ by-way t n ++ (word s ∷ [])
   single-words n m s =
       ap (λ (ss : List Transition). length ss ∷ choice-words t (ss ++ (s ∷ []))) (stem-of t m)
       ∙ ap (λ (l : List ℕ). length (n .way) ∷ l) (map-append word (n .way) (s ∷ []))
@@ -247,7 +248,8 @@ module _ (t : Table) where
   pub profiles-sorted : Sorted Sooner (profiles t (nodes t))
   unfolding profiles
   profiles-sorted =
-      ways-sorted same-profile (profile-edges t) word words adds edges-rising profile-sound (starts t) starts-sorted 1 (single-way t) (room t)
+      ways-sorted same-profile (profile-edges t) word words adds edges-rising profile-sound (starts t) starts-sorted 1 (single-way t)
+      (room t)
 
   run-found : {p : Profile} {ss : List Transition} → Run t p ss → Begins t (p .first)
       → Reachable-by same-profile (profile-edges t) (starts t) (record { way = ss; at = p })
@@ -264,8 +266,8 @@ module _ (t : Table) where
       → Led same-profile (profile-edges t) Sooner (profiles t (nodes t)) (record { way = ss; at = p })
   unfolding profiles
   profiles-led r b =
-      ways-first same-profile (profile-edges t) word words adds edges-rising profile-sound (starts t) starts-sorted 1 (single-way t) (room t)
-      (omega (arith, few t)) (run-found r b)
+      ways-first same-profile (profile-edges t) word words adds edges-rising profile-sound (starts t) starts-sorted 1 (single-way t)
+      (room t) (omega (arith, few t)) (run-found r b)
 
   -- which is no longer than any of them.
   pub profiles-all : {p : Profile} {ss : List Transition} → Run t p ss → Begins t (p .first)

@@ -1,5 +1,5 @@
--- What is shown of a formula is settled by its bytes and by how much is lent: the text of the decision's answer and of what it leaves in the
--- witness buffer is that of the verdict which the definition gives, since of the buffer the witness's letters alone are shown.
+-- What is shown of a formula is settled by its bytes and by how much is lent: the text of the decision's answer and of what it leaves in
+-- the witness buffer is that of the verdict which the definition gives, since of the buffer the witness's letters alone are shown.
 -- Assumes nothing.
 use mathlib.Core.Path.{_≡_, refl, sym, ap, _∙_}
 use mathlib.Core.List.{List, [], _∷_, _++_, append-assoc, append-nil}

@@ -5,7 +5,7 @@ use crate::decision::{Graph, Step, Triples};
 use crate::reading::Command;
 use std::collections::BTreeMap;
 
-/// A step's pick word and its place. Bit j of the word is the pick of the or numbered j by entry, 0 for left and for an or not met.
+/// A step's pick word and its place. The or that is number j in the rule has bit j of the word, which is 1 if its right operand is taken.
 #[derive(Clone, Copy, Debug, PartialEq, Eq)]
 pub struct Picked {
     pub word: u64,
