@@ -4,11 +4,12 @@
 -- saturated set depends only on these picks, and a choice has no others. Assumes nothing.
 use mathlib.Core.Path.{_≡_, refl, sym, ap, subst, subst⁻¹, _∙_}
 use mathlib.Core.Bool.{Bool, true, false, cond, _&&_}
-use mathlib.Core.List.{[], _∷_, List·Memᴰ, Memᴰ·map, Memᴰ·of-map}
+use mathlib.Core.List.{List, [], _∷_, List·Memᴰ, Memᴰ·map, Memᴰ·of-map}
 use Prim.Native.Nat.{ℕ, zero, suc, _+_, _*_, _/_, _%_, _^_, _<_}
 use native.Mathlib.Omega.{arith}
 use lib.Dec.{T, eqb}
 use lib.ListN.{length}
+use Rattle.base.specs.Bits.{word}
 use Rattle.base.specs.Lists.{range}
 use Rattle.base.specs.Sets.{Inside}
 use Rattle.base.proofs.BoolLaws.{by-test, of-T, and-right}
@@ -17,7 +18,7 @@ use Rattle.base.proofs.Inside.{inside-both}
 use Rattle.letters.specs.Alphabet.{in-alphabet}
 use Rattle.formula.specs.Table.{Operator, Table, operator, is-or}
 use Rattle.tableau.specs.Saturation.{Subset, has, moves, saturate}
-use Rattle.tableau.specs.Transition.{ors, choice-of, choice-word, choices, Transition, transitions}
+use Rattle.tableau.specs.Transition.{ors, choice-of, picks, choice-word, choices, Transition, transitions}
 use Rattle.tableau.proofs.SaturationLaws.{inside-has, subset-ext, saturate-holds, saturate-closed, saturate-least}
 use Rattle.tableau.proofs.ChoiceWords.{choice-word-lt}
 use Rattle.tableau.proofs.TransitionLaws.{asks, facts, transition-with, transition-is, transition-in}
@@ -40,7 +41,7 @@ choice-by-has t f e = choice-by-from t 0 f e ∙ ap (λ (k : ℕ). is-or (operat
 choice-by-word : (t : Table) (e : ℕ) (f : ℕ → Bool) → choice-by t e f ≡ choice-of t (choice-word t (choice-by t e f))
 unfolding choice-by
 choice-by-word [] e f = refl
-choice-by-word (o ∷ t) e f = go (is-or o) (f e) (choice-word t (choice-by t (suc e) f)) (choice-by-word t (suc e) f)
+choice-by-word (o ∷ t) e f = go (is-or o) (f e) (picks t (choice-by t (suc e) f)) (choice-by-word t (suc e) f)
   where
     -- the last digit of the word is the pick, and the rest its half
     odd : (b : Bool) (x : ℕ) → eqb ((cond b 1 0 + 2 * x) % 2) 1 ≡ b
@@ -51,12 +52,12 @@ choice-by-word (o ∷ t) e f = go (is-or o) (f e) (choice-word t (choice-by t (s
     half true x = omega arith
     half false x = omega arith
 
-    go : (a b : Bool) (x : ℕ) → choice-by t (suc e) f ≡ choice-of t x
+    go : (a b : Bool) (r : List Bool) → choice-by t (suc e) f ≡ choice-of t (word r)
         → (a && b) ∷ choice-by t (suc e) f
-        ≡ cond a (eqb (cond a (cond (a && b) 1 0 + 2 * x) x % 2) 1 ∷ choice-of t (cond a (cond (a && b) 1 0 + 2 * x) x / 2))
-        (false ∷ choice-of t (cond a (cond (a && b) 1 0 + 2 * x) x))
-    go true b x h = cc (h, odd b x, ap (choice-of t) (half b x))
-    go false b x h = ap (λ (l : Subset). false ∷ l) h
+        ≡ cond a (eqb (word (cond a ((a && b) ∷ r) r) % 2) 1 ∷ choice-of t (word (cond a ((a && b) ∷ r) r) / 2))
+        (false ∷ choice-of t (word (cond a ((a && b) ∷ r) r)))
+    go true b r h = cc (h, odd b (word r), ap (choice-of t) (half b (word r)))
+    go false b r h = ap (λ (l : Subset). false ∷ l) h
 
 choice-by-in : (t : Table) (f : ℕ → Bool) → List·Memᴰ (choice-by t 0 f) (choices t)
 choice-by-in t f =

@@ -1,40 +1,59 @@
--- Choice words. A choice word is that of the choice which it is read as (`word-read`), so the transitions of a node stand by rising choice
--- word (`transitions-rising`). Hence a node and a choice word have at most one transition (`transition-one`), and a run is settled by its
--- first node and its choice words (`along-one`). Assumes nothing.
+-- Choice words. What a choice takes at an or is the bit of the or's number (`word-pick`). A choice word is that of the choice which it is
+-- read as (`word-read`), so the transitions of a node stand by rising choice word (`transitions-rising`). Hence a node and a choice word
+-- have at most one transition (`transition-one`), and a run is settled by its first node and its choice words (`along-one`).
+-- Assumes nothing.
 use mathlib.Core.Path.{_≡_, refl, sym, ap, subst, subst⁻¹, _∙_}
 use mathlib.Core.Logic.{inl, inr}
 use mathlib.Core.Bool.{Bool, true, false, cond}
 use mathlib.Core.List.{List, [], _∷_, _++_, map-append, List·Memᴰ, List·Memᴰ·not-nil, List·Memᴰ·eq-of-singleton}
 use mathlib.Core.List.{Memᴰ·of-map}
-use Prim.Native.Nat.{ℕ, zero, suc, _+_, _*_, _/_, _%_, _^_, _<_}
+use Prim.Native.Nat.{ℕ, zero, suc, _+_, _/_, _%_, _^_, _≤_, _<_}
 use native.Mathlib.Omega.{arith}
-use lib.Dec.{eqb}
-use lib.ListN.{length, length-append, length-map}
-use lib.Pow.{pow-add}
+use lib.Dec.{T, eqb}
+use lib.ListN.{length, length-append, length-map, getD, take}
+use lib.Pow.{pow-add, pow-mono}
+use Rattle.base.specs.Bits.{bit}
 use Rattle.base.specs.Lists.{range}
+use Rattle.base.proofs.BoolLaws.{by-test}
+use Rattle.base.proofs.WordLaws.{word-bit, word-lt}
 use Rattle.base.proofs.AppendLaws.{range-of, last-cancel}
 use Rattle.base.proofs.SortedLaws.{Sorted, sorted-either, sorted-flat-map, range-sorted}
-use Rattle.formula.specs.Table.{Table, is-or}
-use Rattle.tableau.specs.Saturation.{Subset, saturate}
-use Rattle.tableau.specs.Transition.{ors, choice-of, choice-word, choices, Transition, by-word, transitions}
+use Rattle.formula.specs.Table.{Table, operator, is-or}
+use Rattle.tableau.specs.Saturation.{Subset, has, saturate}
+use Rattle.tableau.specs.Transition.{ors, choice-of, picks, choice-word, choices, Transition, by-word, transitions}
 use Rattle.tableau.specs.Run.{Along}
 use Rattle.tableau.specs.Foremost.{choice-words}
 use Rattle.tableau.proofs.TransitionLaws.{one-or-none, transitions-by-word}
 
 -- There is a bit for each or.
+picks-few : (t : Table) (w : Subset) → length (picks t w) ≤ ors t
+picks-few [] w = omega arith
+picks-few (o ∷ t) [] = omega arith
+picks-few (o ∷ t) (b ∷ w) = go (is-or o) (picks t w) (picks-few t w)
+  where
+    go : (a : Bool) (r : List Bool) → length r ≤ ors t → length (cond a (b ∷ r) r) ≤ cond a 1 0 + ors t
+    go true r h = omega arith
+    go false r h = omega arith
+
 pub choice-word-lt : (t : Table) (w : Subset) → choice-word t w < 2 ^ ors t
-choice-word-lt [] w = omega arith
-choice-word-lt (o ∷ t) [] = none (is-or o) (omega (arith, choice-word-lt t []))
+choice-word-lt t w = omega (arith, word-lt (picks t w), pow-mono (picks-few t w))
+
+pick-at : (t : Table) (w : Subset) (e : ℕ) → length w ≡ length t → T (is-or (operator t e))
+    → getD (picks t w) (ors (take e t)) false ≡ has w e
+pick-at [] w e h k = absurd k
+pick-at (o ∷ t) [] e h k = absurd (omega arith)
+pick-at (o ∷ t) (b ∷ w) zero h k =
+    by-test (is-or o) (λ a. getD (cond a (b ∷ picks t w) (picks t w)) 0 false ≡ b) (λ _. refl) (λ n. absurd (n k))
+pick-at (o ∷ t) (b ∷ w) (suc e) h k = go (is-or o) (picks t w) (ors (take e t)) (pick-at t w e (omega arith) k)
   where
-    none : (a : Bool) → 0 < 2 ^ ors t → 0 < 2 ^ (cond a 1 0 + ors t)
-    none true h = omega (arith, pow-add 2 1 (ors t))
-    none false h = omega (arith, pow-add 2 0 (ors t))
-choice-word-lt (o ∷ t) (b ∷ w) = go (is-or o) b (choice-word t w) (choice-word-lt t w)
-  where
-    go : (a b : Bool) (x : ℕ) → x < 2 ^ ors t → cond a (cond b 1 0 + 2 * x) x < 2 ^ (cond a 1 0 + ors t)
-    go true true x h = omega (arith, pow-add 2 1 (ors t))
-    go true false x h = omega (arith, pow-add 2 1 (ors t))
-    go false b x h = omega (arith, pow-add 2 0 (ors t))
+    go : (a : Bool) (r : List Bool) (n : ℕ) → getD r n false ≡ has w e → getD (cond a (b ∷ r) r) (cond a 1 0 + n) false ≡ has w e
+    go true r n q = ap (λ (i : ℕ). getD (b ∷ r) i false) {x = 1 + n} {y = suc n} (omega arith) ∙ q
+    go false r n q = ap (λ (i : ℕ). getD r i false) {x = 0 + n} {y = n} (omega arith) ∙ q
+
+-- Theorem: what is taken at an or is the bit of its number, which is how many ors stand before it.
+pub word-pick : (t : Table) (w : Subset) (e : ℕ) → length w ≡ length t → T (is-or (operator t e))
+    → bit (choice-word t w) (ors (take e t)) ≡ has w e
+word-pick t w e h k = word-bit (picks t w) (ors (take e t)) ∙ pick-at t w e h k
 
 digit : (d : ℕ) → d < 2 → cond (eqb d 1) 1 0 ≡ d
 digit zero l = refl

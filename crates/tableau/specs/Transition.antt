@@ -2,7 +2,7 @@
 -- Assumes nothing.
 use mathlib.Core.Bool.{Bool, true, false, not, cond, _&&_}
 use mathlib.Core.List.{List, [], _∷_, map}
-use Prim.Native.Nat.{ℕ, _+_, _*_, _/_, _%_, _^_}
+use Prim.Native.Nat.{ℕ, _+_, _/_, _%_, _^_}
 use lib.Dec.{eqb}
 use Rattle.base.specs.Lists.{flat-map, any, member, range, same-bit}
 use Rattle.base.specs.Bits.{word}
@@ -68,12 +68,15 @@ abbrev pub choice-of : Table → ℕ → Subset
 choice-of [] x = []
 choice-of (o ∷ t) x = cond (is-or o) (eqb (x % 2) 1 ∷ choice-of t (x / 2)) (false ∷ choice-of t x)
 
--- The choice word of a choice (document 02: pick word): bit j is 1 exactly if right is taken at or j. `choice-of` reads it back
--- (proofs/ChoiceWords.antt).
+-- what a choice takes at the ors, one after another: whether right
+abbrev pub picks : Table → Subset → List Bool
+picks [] w = []
+picks (o ∷ t) [] = []
+picks (o ∷ t) (b ∷ w) = let r = picks t w in cond (is-or o) (b ∷ r) r
+
+-- The choice word of a choice (document 02: pick word): bit j is for or j. `choice-of` reads it back (proofs/ChoiceWords.antt).
 abbrev pub choice-word : Table → Subset → ℕ
-choice-word [] w = 0
-choice-word (o ∷ t) [] = 0
-choice-word (o ∷ t) (b ∷ w) = let r = choice-word t w in cond (is-or o) (cond b 1 0 + 2 * r) r
+choice-word t w = word (picks t w)
 
 -- all choices, by rising choice word
 abbrev pub choices : Table → List Subset
