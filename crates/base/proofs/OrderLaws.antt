@@ -4,8 +4,9 @@
 use mathlib.Core.Path.{_≡_, refl, sym, subst, subst⁻¹, _∙_}
 use mathlib.Core.Logic.{inl, inr}
 use mathlib.Core.List.{List, [], _∷_, _++_}
-use Prim.Native.Nat.{ℕ}
+use Prim.Native.Nat.{ℕ, _≤_}
 use native.Mathlib.Omega.{arith}
+use native.Mathlib.Decide.{decLe}
 use Rattle.base.specs.Order.{Before, NoLater}
 
 pub before-trans : (xs ys zs : List ℕ) → Before xs ys → Before ys zs → Before xs zs
@@ -44,3 +45,24 @@ pub no-later-both : (xs ys : List ℕ) → NoLater xs ys → NoLater ys xs → x
 no-later-both xs ys (inl e) k = e
 no-later-both xs ys (inr h) (inl e) = sym e
 no-later-both xs ys (inr h) (inr k) = absurd (before-itself xs (before-trans xs ys xs h k))
+
+-- Of two sequences of which one does not come later, its first number is no larger, and where it is the same, its rest does not come later;
+pub no-later-first : (x y : ℕ) (xs ys : List ℕ) → NoLater (x ∷ xs) (y ∷ ys) → x ≤ y
+no-later-first x y xs ys (inl e) = let q : x ≡ y = cc in omega arith
+no-later-first x y xs ys (inr (inl l)) = omega arith
+no-later-first x y xs ys (inr (inr (e, h))) = omega arith
+
+pub no-later-rest : (x y : ℕ) (xs ys : List ℕ) → NoLater (x ∷ xs) (y ∷ ys) → y ≡ x → NoLater xs ys
+no-later-rest x y xs ys (inl e) q = inl cc
+no-later-rest x y xs ys (inr (inl l)) q = absurd (omega arith)
+no-later-rest x y xs ys (inr (inr (e, h))) q = inr h
+
+-- and that is all it takes.
+pub no-later-by : (x y : ℕ) (xs ys : List ℕ) → x ≤ y → (y ≡ x → NoLater xs ys) → NoLater (x ∷ xs) (y ∷ ys)
+no-later-by x y xs ys h f =
+    elim (decLe y x) [
+      | yes k ↦
+          let e : x ≡ y = omega arith in
+          elim (f (sym e)) [ inl q ↦ inl (λ i. e i ∷ q i) | inr b ↦ inr (inr (e, b)) ]
+      | no n ↦ inr (inl (omega arith))
+    ]

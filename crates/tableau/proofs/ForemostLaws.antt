@@ -4,11 +4,9 @@ use mathlib.Core.Path.{_≡_, refl, sym, ap, subst, subst⁻¹, _∙_}
 use mathlib.Core.Logic.{inl, inr}
 use mathlib.Core.List.{List, _∷_, _++_, map-append}
 use Prim.Native.Nat.{ℕ, _≤_}
-use native.Mathlib.Omega.{arith}
-use native.Mathlib.Decide.{decLe}
 use lib.ListN.{length, length-map}
 use Rattle.base.specs.Order.{NoLater}
-use Rattle.base.proofs.OrderLaws.{before-front, no-later-both}
+use Rattle.base.proofs.OrderLaws.{before-front, no-later-both, no-later-first, no-later-rest, no-later-by}
 use Rattle.base.proofs.AppendLaws.{append-cancel}
 use Rattle.formula.specs.Table.{Table}
 use Rattle.tableau.specs.Saturation.{Subset}
@@ -16,27 +14,6 @@ use Rattle.tableau.specs.Transition.{Transition}
 use Rattle.tableau.specs.Run.{Along}
 use Rattle.tableau.specs.Foremost.{choice-words, LassoRun, Foremost, standing}
 use Rattle.tableau.proofs.ChoiceWords.{along-one}
-
--- of sequences that do not come later, the first number is no larger, and where it is the same, the rest does not come later
-first-least : (x y : ℕ) (xs ys : List ℕ) → NoLater (x ∷ xs) (y ∷ ys) → x ≤ y
-first-least x y xs ys (inl e) = let q : x ≡ y = cc in omega arith
-first-least x y xs ys (inr (inl l)) = omega arith
-first-least x y xs ys (inr (inr (e, h))) = omega arith
-
-rest-no-later : (x y : ℕ) (xs ys : List ℕ) → NoLater (x ∷ xs) (y ∷ ys) → y ≡ x → NoLater xs ys
-rest-no-later x y xs ys (inl e) q = inl cc
-rest-no-later x y xs ys (inr (inl l)) q = absurd (omega arith)
-rest-no-later x y xs ys (inr (inr (e, h))) q = inr h
-
--- two numbers and the rest, compared one after another
-by-steps : (x y : ℕ) (xs ys : List ℕ) → x ≤ y → (y ≡ x → NoLater xs ys) → NoLater (x ∷ xs) (y ∷ ys)
-by-steps x y xs ys h f =
-    elim (decLe y x) [
-      | yes k ↦
-          let e : x ≡ y = omega arith in
-          elim (f (sym e)) [ inl q ↦ inl (λ i. e i ∷ q i) | inr b ↦ inr (inr (e, b)) ]
-      | no n ↦ inr (inl (omega arith))
-    ]
 
 -- a run with a stem that does not come later
 pub standing-by-stem : (t : Table) (rs qs ss : List Transition) → NoLater (length rs ∷ choice-words t rs) (length qs ∷ choice-words t qs)
@@ -67,25 +44,25 @@ module _ (t : Table) (Counts : Subset → List Transition → Type 0) where
       record { is-one = r; cycle-fewest = fewest; stem-fewest = nearest; words-first = words }
     where
       fewest : (rs ss : List Transition) → LassoRun t Counts rs ss → length cycle ≤ length ss
-      fewest rs ss l = first-least (length cycle) (length ss) (behind stem cycle) (behind rs ss) (f rs ss l)
+      fewest rs ss l = no-later-first (length cycle) (length ss) (behind stem cycle) (behind rs ss) (f rs ss l)
 
       rest : (rs ss : List Transition) → LassoRun t Counts rs ss → length ss ≡ length cycle → NoLater (behind stem cycle) (behind rs ss)
-      rest rs ss l e = rest-no-later (length cycle) (length ss) (behind stem cycle) (behind rs ss) (f rs ss l) e
+      rest rs ss l e = no-later-rest (length cycle) (length ss) (behind stem cycle) (behind rs ss) (f rs ss l) e
 
       nearest : (rs ss : List Transition) → LassoRun t Counts rs ss → length ss ≡ length cycle → length stem ≤ length rs
       nearest rs ss l e =
-          first-least (length stem) (length rs) (choice-words t (stem ++ cycle)) (choice-words t (rs ++ ss)) (rest rs ss l e)
+          no-later-first (length stem) (length rs) (choice-words t (stem ++ cycle)) (choice-words t (rs ++ ss)) (rest rs ss l e)
 
       words : (rs ss : List Transition) → LassoRun t Counts rs ss → length ss ≡ length cycle → length rs ≡ length stem
           → NoLater (choice-words t (stem ++ cycle)) (choice-words t (rs ++ ss))
       words rs ss l e q =
-          rest-no-later (length stem) (length rs) (choice-words t (stem ++ cycle)) (choice-words t (rs ++ ss)) (rest rs ss l e) q
+          no-later-rest (length stem) (length rs) (choice-words t (stem ++ cycle)) (choice-words t (rs ++ ss)) (rest rs ss l e) q
 
   -- and the first is that.
   pub foremost-standing : {stem cycle : List Transition} → Foremost t Counts stem cycle → Stands-first stem cycle
   foremost-standing {stem} {cycle} f rs ss l =
-      by-steps (length cycle) (length ss) _ _ (f .cycle-fewest rs ss l)
-      (λ e. by-steps (length stem) (length rs) _ _ (f .stem-fewest rs ss l e) (λ q. f .words-first rs ss l e q))
+      no-later-by (length cycle) (length ss) _ _ (f .cycle-fewest rs ss l)
+      (λ e. no-later-by (length stem) (length rs) _ _ (f .stem-fewest rs ss l e) (λ q. f .words-first rs ss l e q))
 
   -- the choice words of equal standings, part by part
   parted : (a b c d : List Transition) → standing t a b ≡ standing t c d

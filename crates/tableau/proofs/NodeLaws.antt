@@ -1,8 +1,8 @@
 -- The nodes are what MEANING 3.7 says, without search and fuel: `nodes` lists exactly the sets that transitions lead to from the root
--- (`nodes-along`, `nodes-all`), each once (`nodes-distinct`), so that K, its length, is their number (`nodes-count`); each comes with a
--- shortest way from the root (`nodes-near`), which has fewer than K transitions (`nodes-short`); and K is at most 1 + 2^n for n next
--- operators (`nodes-few`, and `nodes-few-next` for those of the formula): every node but the root is a part of their operands. That
--- bound is below the search's fuel, so the laws of the search apply. Assumes nothing.
+-- (`nodes-along`, `nodes-all`), each once (`nodes-distinct`), so that K, its length, is their number (`nodes-count`); each comes with the
+-- first of all runs to it from the root (`nodes-led`, `stem-first`), which has fewer than K transitions (`nodes-short`); and K is at most
+-- 1 + 2^n for n next operators (`nodes-few`, and `nodes-few-next` for those of the formula): every node but the root is a part of their
+-- operands. That bound is below the search's fuel, so the laws of the search apply. Assumes nothing.
 use mathlib.Core.Path.{_≡_, refl, sym, ap, subst, subst⁻¹, _∙_}
 use mathlib.Core.Logic.{inl, inr}
 use mathlib.Core.Bool.{cond}
