@@ -126,9 +126,9 @@ pub record Told : Type 0 where
 abbrev told : List ℕ → Verdict → List ℕ → Told
 told b o w = record { bytes = b; outcome = o; words = w }
 
--- Formulas where two runs are as short (MEANING 5.9). Two letters for the stem, by the order of an or's operands and not of the letters; two
--- ors, of which the later has the higher bit; two nodes; two cycles of one node, with one profile, with different profiles, and twice with
--- two transitions, compared from the first on; and a stem that comes first though its cycle does not.
+-- Formulas where two runs are as short (MEANING 5.9). Two letters for the stem, by the order of an or's operands and not of the letters;
+-- two ors, of which the later has the higher bit; two nodes; two cycles of one node, with one profile, with different profiles, and twice
+-- with two transitions, compared from the first on; and a stem that comes first though its cycle does not.
 abbrev pub tied : List Told
 tied =
     told (0x06 ∷ 0x03 ∷ 0x00 ∷ 0x03 ∷ 0x01 ∷ [])
