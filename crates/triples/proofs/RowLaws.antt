@@ -16,7 +16,7 @@ use Rattle.base.proofs.ListLaws.{iterate-stays}
 use Rattle.profile_tables.specs.Triples.{Triples, those, holds, lap, laps, rejecting}
 use Rattle.profile_tables.proofs.TriplesLaws.{Test, some-of, some-in, some-same, holds-those, those-same}
 use Rattle.profile_tables.proofs.LapsLaws.{rounds-sub, rounds-row}
-use Rattle.triples.specs.Inner.{bytes, bits, triples-in, triples-at, by-way, Row-with, comes-back, leads-back}
+use Rattle.triples.specs.Inner.{bytes, bytes-from, bits, triples-in, triples-at, one-way, by-way, Row-with, comes-back, leads-back}
 use Rattle.triples.proofs.ByteLaws.{met}
 use Rattle.triples.proofs.CellLaws.{triples-copied, Same-below, comes-those, found-some}
 use Rattle.triples.proofs.JoinLaws.{either-join}
@@ -33,15 +33,16 @@ abbrev each-row : ℕ → List ℕ → Triples
 each-row n r = those n (row-bits r)
 
 -- the row joined with a gives the lap of that table
-row-lap : (n : ℕ) (a r t : List ℕ) → n ≤ 12 → Row-with r 0 12 (by-way (bytes r) a n) t
+row-lap : (n : ℕ) (a r t : List ℕ) → n ≤ 12 → Row-with r 12 (by-way (bytes-from r 0) a n) t
     → each-row n t ≡ lap n (triples-in n a) (each-row n r)
 unfolding lap
 row-lap n a r t h p =
     those-same n (row-bits t) (λ f x g. bit (bytes r g) x || by-way (bytes r) a n x g)
     (λ f x g hf hx hg.
-    ap (λ (i : ℕ). bit (bytes t i) x) {x = g} {y = 0 * 12 + g} (omega arith)
-    ∙ p .row x g hx (omega arith)
-    ∙ ap (λ (i : ℕ). bit (bytes r i) x || by-way (bytes r) a n x g) {x = 0 * 12 + g} {y = g} (omega arith))
+    p .row x g hx (omega arith)
+    ∙ ap (λ (v : Bool). bit (bytes r g) x || v)
+    (some-same n (λ k. one-way (bytes-from r 0 k) a k x g) (λ k. one-way (bytes r k) a k x g)
+    (λ k hk. ap (λ (i : ℕ). one-way (bytes r i) a k x g) {x = 0 + k} {y = k} (omega arith))))
     ∙ sym (either-join n (row-bits r) (row-bits r) (bits (bytes a)))
 
 -- a copy of the bytes is rejecting exactly if they are
@@ -88,7 +89,7 @@ module _ (n : ℕ) (a : List ℕ) where
 
     -- m is r with one lap more
     abbrev Lapped : List ℕ → List ℕ → Type 0
-    Lapped r m = Row-with r 0 12 (by-way (bytes r) a n) m
+    Lapped r m = Row-with r 12 (by-way (bytes-from r 0) a n) m
 
     module _ (hn : n ≤ 12) (hf : f < n) where
       pub row-start : (r : List ℕ) → ((g : ℕ) → g < 12 → getD r g 0 ≡ getD a (f * 12 + g) 0) → On-way r (8 * (n * n))

@@ -46,9 +46,14 @@ one-way w b m x g = smaller (bit w) (λ z. bits (bytes b) m z g) x
 abbrev pub by-way : (ℕ → ℕ) → List ℕ → (m x g : ℕ) → Bool
 by-way w b m x g = some m (λ k. one-way (w k) b k x g)
 
--- u is t, but that the first k columns of row f have beside their priorities those that a test says
-pub record Row-with (t : List ℕ) (f k : ℕ) (q : (x g : ℕ) → Bool) (u : List ℕ) : Type 0 where
-  pub row : (x g : ℕ) → x < 8 → g < k → bits (bytes u) f x g ≡ (bits (bytes t) f x g || q x g)
+-- u is the row t, but that the first k columns have beside their priorities those that a test says
+pub record Row-with (t : List ℕ) (k : ℕ) (q : (x g : ℕ) → Bool) (u : List ℕ) : Type 0 where
+  pub row : (x g : ℕ) → x < 8 → g < k → bit (bytes u g) x ≡ (bit (bytes t g) x || q x g)
+  pub rest : (i : ℕ) → k ≤ i → bytes u i ≡ bytes t i
+
+-- u is the table t, but that the first k columns of row f are those of a row
+pub record Row-put (t : List ℕ) (f k : ℕ) (row u : List ℕ) : Type 0 where
+  pub put : (g : ℕ) → g < k → bytes u (f * 12 + g) ≡ bytes row g
   pub rest : (i : ℕ) → (f * 12 ≤ i → i < f * 12 + k → ⊥) → bytes u i ≡ bytes t i
 
 -- row f has the same bits in its first k columns

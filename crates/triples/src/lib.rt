@@ -4,8 +4,8 @@ ghost use mathlib.Core.Path.{_≡_};
 ghost use Prim.Native.Nat.{ℕ, _+_, _*_, _≤_, _<_};
 ghost use lib.ListN.{length, getD};
 ghost use Rattle.base.specs.Bits.{bit};
-ghost use Rattle.profile_tables.specs.Triples.{smaller, same-triples, join, either, laps, rejecting};
-ghost use Rattle.triples.specs.Inner.{bytes, bytes-from, triples-in, triples-at, Bits, above, one-way, by-way, Row-with};
+ghost use Rattle.profile_tables.specs.Triples.{smaller, same-triples, join, laps, rejecting};
+ghost use Rattle.triples.specs.Inner.{bytes-from, triples-in, triples-at, Bits, above, one-way, by-way, Row-with, Row-put};
 ghost use Rattle.triples.specs.Inner.{Same-row, Decides, comes-back, leads-back};
 
 // The priorities with all smaller ones.
@@ -24,47 +24,50 @@ pub fn minima(a: u8, b: u8) -> u8
     (a & down(b)) | (b & down(a))
 }
 
-// Row f of t, with the smaller ones of x and each byte of row m of b: in all 12 columns, since a loop of fixed length is turned into a
-// few steps over many bytes at once.
-fn with_way(t: &mut [u8], f: usize, x: u8, b: &[u8; 144], m: usize)
-    requires { ⌜ (144 ≤ length (now t)) × ((f < 12) × (m < 12)) ⌝ }
-    ensures { λ r. ⌜ Row-with (now (t .entry)) f 12 (one-way x (now (b .entry)) m) (now (t .exit)) ⌝ }
+// The row, with the smaller ones of x and each byte of row m of b: in all 12 columns, since a loop of fixed length is turned into a few
+// steps over many bytes at once. Rows come and go by value: through a reference the compiler has to fear that writing the row changes b
+// (docs/DECISIONS.md).
+fn with_way(row: [u8; 12], x: u8, b: &[u8; 144], m: usize) -> [u8; 12]
+    requires { ⌜ m < 12 ⌝ }
+    ensures { λ r. ⌜ Row-with row 12 (one-way x (now (b .entry)) m) r ⌝ }
 {
+    let mut r = row;
     if x == 0 {
-        return;
+        return r;
     }
     let mut g = 0;
     while g < 12 {
-        t[f * 12 + g] = t[f * 12 + g] | minima(x, b[m * 12 + g]);
+        r[g] = r[g] | minima(x, b[m * 12 + g]);
         g += 1;
     }
+    r
 }
 
-// Row f of t, with row f of a joined with b.
-fn joined_row(a: &[u8; 144], b: &[u8; 144], n: usize, f: usize, t: &mut [u8; 144])
-    requires { ⌜ (n ≤ 12) × (f < n) ⌝ }
-    ensures { λ r. ⌜ Row-with (now (t .entry)) f 12 (by-way (bytes-from (now (a .entry)) (f * 12)) (now (b .entry)) n) (now (t .exit)) ⌝ }
+// The row, with the row at a place of a joined with b.
+fn joined_row(row: [u8; 12], a: &[u8], at: usize, b: &[u8; 144], n: usize) -> [u8; 12]
+    requires { ⌜ (n ≤ 12) × ((at ≤ 132) × (at + 12 ≤ length (now a))) ⌝ }
+    ensures { λ r. ⌜ Row-with row 12 (by-way (bytes-from (now (a .entry)) at) (now (b .entry)) n) r ⌝ }
 {
+    let mut r = row;
     let mut m = 0;
     while m < n {
-        with_way(t, f, a[f * 12 + m], b, m);
+        let more = with_way(r, a[at + m], b, m);
+        r = more;
         m += 1;
     }
+    r
 }
 
-// The triples in s, with a joined with b.
-fn joined_or(s: &[u8; 144], a: &[u8; 144], b: &[u8; 144], n: usize) -> [u8; 144]
-    requires { ⌜ n ≤ 12 ⌝ }
-    ensures { λ r. ⌜ triples-in n r ≡ either n (triples-in n (now (s .entry)))
-        (join n (triples-in n (now (a .entry))) (triples-in n (now (b .entry)))) ⌝ }
+// The row becomes row f of t.
+fn put_row(t: &mut [u8], f: usize, row: &[u8; 12])
+    requires { ⌜ (144 ≤ length (now t)) × (f < 12) ⌝ }
+    ensures { λ _. ⌜ Row-put (now (t .entry)) f 12 (now (row .entry)) (now (t .exit)) ⌝ }
 {
-    let mut t = *s;
-    let mut f = 0;
-    while f < n {
-        joined_row(a, b, n, f, &mut t);
-        f += 1;
+    let mut g = 0;
+    while g < 12 {
+        t[f * 12 + g] = row[g];
+        g += 1;
     }
-    t
 }
 
 // Traces end to end.
@@ -72,8 +75,14 @@ pub fn joined(a: &[u8; 144], b: &[u8; 144], n: usize) -> [u8; 144]
     requires { ⌜ n ≤ 12 ⌝ }
     ensures { λ r. ⌜ triples-in n r ≡ join n (triples-in n (now (a .entry))) (triples-in n (now (b .entry))) ⌝ }
 {
-    let none = [0u8; 144];
-    joined_or(&none, a, b, n)
+    let mut t = [0u8; 144];
+    let mut f = 0;
+    while f < n {
+        let row = joined_row([0u8; 12], a, f * 12, b, n);
+        put_row(&mut t, f, &row);
+        f += 1;
+    }
+    t
 }
 
 // The 144 bytes at a place.
@@ -157,34 +166,6 @@ fn row_of(a: &[u8; 144], f: usize) -> [u8; 12]
     row
 }
 
-// What with_way does, for a row by itself. It is a second function, since the compiler lays with_way into joined_row only as long as
-// nothing else calls it; otherwise all joining takes twice as long.
-fn row_with_way(row: &mut [u8], x: u8, a: &[u8; 144], m: usize)
-    requires { ⌜ (12 ≤ length (now row)) × (m < 12) ⌝ }
-    ensures { λ r. ⌜ Row-with (now (row .entry)) 0 12 (one-way x (now (a .entry)) m) (now (row .exit)) ⌝ }
-{
-    if x == 0 {
-        return;
-    }
-    let mut g = 0;
-    while g < 12 {
-        row[g] = row[g] | minima(x, a[m * 12 + g]);
-        g += 1;
-    }
-}
-
-// The row, with the row before joined with a: one lap more, where before is the row as it was.
-fn row_joined(row: &mut [u8; 12], before: &[u8; 12], a: &[u8; 144], n: usize)
-    requires { ⌜ n ≤ 12 ⌝ }
-    ensures { λ r. ⌜ Row-with (now (row .entry)) 0 12 (by-way (bytes (now (before .entry))) (now (a .entry)) n) (now (row .exit)) ⌝ }
-{
-    let mut m = 0;
-    while m < n {
-        row_with_way(row, before[m], a, m);
-        m += 1;
-    }
-}
-
 // Whether two rows are the same: without an early exit, for the same reason as in with_way.
 fn same_bytes(x: &[u8; 12], y: &[u8; 12]) -> bool
     ensures { λ r. ⌜ Decides r ((g : ℕ) → g < 12 → getD (now (x .entry)) g 0 ≡ getD (now (y .entry)) g 0) ⌝ }
@@ -207,14 +188,14 @@ fn comes_back(a: &[u8; 144], mask: u8, n: usize, f: usize) -> bool
     let mut row = row_of(a, f);
     let mut left = 8 * (n * n);
     while 0 < left {
-        let before = row;
-        row_joined(&mut row, &before, a, n);
-        if row[f] & mask != 0 {
+        let more = joined_row(row, &row, 0, a, n);
+        if more[f] & mask != 0 {
             return true;
         }
-        if same_bytes(&before, &row) {
+        if same_bytes(&row, &more) {
             return false;
         }
+        row = more;
         left -= 1;
     }
     row[f] & mask != 0

@@ -1,6 +1,6 @@
--- `triples::joined_row` fills row f. The invariant: it has the triples by way of the operands passed, and all else is as it was.
+-- `triples::joined_row` adds to a row the triples of another one joined with b. The invariant: it has those by way of the operands passed.
 use mathlib.Core.Path.{refl}
-use Prim.Native.Nat.{_-_, _*_, _≤_}
+use Prim.Native.Nat.{_-_, _≤_}
 use native.Mathlib.Omega.{arith}
 use native.Mathlib.Nat.{le-antisymm}
 use borrow.Author.Needs.{needs}
@@ -10,22 +10,19 @@ use Rattle.triples.proofs.joined_row.Statement.{statement}
 use Rattle.triples.proofs.joined_row.Tie as tie
 
 abbrev Inv-loop : tie.InvT-loop
-Inv-loop a b n f t₀ m₀ t m = (m ≤ n) × Row-with t₀ f 12 (by-way (bytes-from a (f * 12)) b m) t
+Inv-loop a at b n r₀ m₀ r m = (m ≤ n) × Row-with r₀ 12 (by-way (bytes-from a at) b m) r
 
 abbrev μ-loop : tie.MeasureT-loop
-μ-loop a b n f t₀ m₀ t m = n - m
+μ-loop a at b n r₀ m₀ r m = n - m
 
 loop-holds : tie.Need-loop-holds Inv-loop μ-loop
-loop-holds c = (omega arith, row-stays (c .args .t .now) (c .args .f) 12 _ (λ x g h l. refl))
-
-mul-with-way : tie.Need-mul-with-way Inv-loop μ-loop
-mul-with-way c = search needs
+loop-holds c = (omega arith, row-stays (c .before .args .row) 12 _ (λ x g h l. refl))
 
 add-with-way : tie.Need-add-with-way Inv-loop μ-loop
 add-with-way c = search needs
 
-element-copy-out-with-way : tie.Need-element-copy-out-with-way Inv-loop μ-loop
-element-copy-out-with-way c = search needs
+shared-slice-read-with-way : tie.Need-shared-slice-read-with-way Inv-loop μ-loop
+shared-slice-read-with-way c = search needs
 
 with-way-requires : tie.Need-with-way-requires Inv-loop μ-loop
 with-way-requires c κs = search needs
@@ -39,10 +36,10 @@ loop-less c = search needs
 loop-again : tie.Need-loop-again Inv-loop μ-loop
 loop-again c =
     let start = c .before .before .before .before .before in
-    let loop = c .before .before .before .before .loop in (
+    let loop = c .before .before .before .loop in (
       omega arith,
-      row-way (bytes-from (start .args .a .now) (start .args .f * 12)) (start .args .b .now) (start .args .t .now) (loop .t)
-          (c .with-way .last .0) (start .args .f) (loop .m) (loop .inv .1) (c .with-way .ensures),
+      row-way (bytes-from (start .args .a .now) (start .args .at)) (start .args .b .now) (start .args .row) (loop .r) (c .with-way .result)
+          (loop .m) (loop .inv .1) (c .with-way .ensures),
     )
 
 returns : tie.Need-returns Inv-loop μ-loop
@@ -55,9 +52,8 @@ joined-row-spec =
     Inv-loop
     μ-loop
     loop-holds
-    mul-with-way
     add-with-way
-    element-copy-out-with-way
+    shared-slice-read-with-way
     with-way-requires
     add-m
     loop-less
