@@ -1,4 +1,4 @@
-// The decision: whether any lasso meets a formula, with a shortest witness.
+// The decision: whether any lasso meets a formula, with the first of the shortest witnesses (MEANING 5.4).
 use cycle_search::Sought;
 use formula::Outcome;
 use formula::Refusal;

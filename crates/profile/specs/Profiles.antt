@@ -49,8 +49,8 @@ profile-edges t p = map (longer t p) (transitions t (p .last))
 abbrev pub profile-room : Table → ℕ → ℕ
 profile-room t k = 1 + k * k * 2 ^ length (all-triples t)
 
--- All profiles, given the nodes, of which the root is the first and begins no run; P is how many. Each comes with the transitions of a
--- shortest run that has it.
+-- All profiles, given the nodes, of which the root is the first and begins no run; P is how many. Each comes with the
+-- transitions of the first of the shortest runs that have it (proofs/ProfileLaws.antt).
 unfoldable pub profiles : Table → List (Item Transition Subset) → List (Item Transition Profile)
 unfolding triples join transitions
 profiles t ns =

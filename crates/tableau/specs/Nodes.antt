@@ -1,4 +1,4 @@
--- The nodes that the root reaches, each with a shortest run to it: MEANING 3.1 and 3.7. Assumes nothing.
+-- The nodes that the root reaches, each with the first of the shortest runs to it: MEANING 3.1 and 3.7. Assumes nothing.
 use mathlib.Core.Bool.{true, cond}
 use mathlib.Core.List.{List, [], _∷_, map}
 use Prim.Native.Nat.{ℕ, _+_, _^_}

@@ -1,4 +1,4 @@
-// Decides the formula that stands on standard input, and prints the verdict with a shortest witness.
+// Decides the formula that stands on standard input, and prints the verdict with the first of the shortest witnesses (MEANING 5.4).
 ghost use Rattle.io.specs.Counts.{Counts};
 ghost use Rattle.yuktrob.specs.Printed.{Printed};
 
