@@ -19,7 +19,8 @@ use Rattle.theory.proofs.Soundness.{lasso-of}
 use Rattle.theory.proofs.CoreTheorem.{cycle-over-alphabet, cycle-meets, meets-cycle}
 use Rattle.decision.specs.Verdict.{Verdict, verdict}
 use Rattle.profile.specs.Cycle.{AcceptingCycle}
-use Rattle.decision.specs.Contract.{node-count, Witness, Met, Unmet}
+use Rattle.construction.specs.Construction.{node-count}
+use Rattle.decision.specs.Contract.{Witness, Met, Unmet}
 use Rattle.decision.specs.Lends.{Lends}
 use Rattle.decision.proofs.VerdictLaws.{Profiles-fit, Concluded, From11, Decided-cases, Verdict-cases, verdict-answered}
 

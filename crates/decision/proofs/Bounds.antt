@@ -21,7 +21,8 @@ use Rattle.tableau.specs.Run.{Along}
 use Rattle.tableau.proofs.TransitionLaws.{letter-bound}
 use Rattle.profile.proofs.CycleLaws.{run-along}
 use Rattle.decision.specs.Verdict.{Verdict, verdict}
-use Rattle.decision.specs.Contract.{says, node-count, Witness, Decided}
+use Rattle.construction.specs.Construction.{node-count}
+use Rattle.decision.specs.Contract.{says, Witness, Decided}
 use Rattle.decision.specs.declared.Verdict as code
 use Rattle.decision.specs.declared.Verdict.the-variants.{Satisfiable, Unsatisfiable, Refused, Unread}
 use Rattle.decision.specs.Lends.{Capacity}

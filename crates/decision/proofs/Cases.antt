@@ -14,7 +14,7 @@ use Rattle.tableau.specs.Nodes.{nodes, stem-to}
 use Rattle.tableau.specs.Foremost.{choice-words}
 use Rattle.profile.specs.Profiles.{Profile, profiles, rejecting}
 use Rattle.decision.specs.Verdict.{Verdict, verdict}
-use Rattle.decision.specs.Searched.{found-in}
+use Rattle.decision.specs.Inner.{found-in}
 
 pub record Case : Type 0 where
   pub bytes : List ℕ

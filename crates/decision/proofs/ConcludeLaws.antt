@@ -38,12 +38,12 @@ use Rattle.witness.specs.Letters.{stem-letters, cycle-letters, over, Witness-re
 use Rattle.witness.specs.declared.Lengths.{Lengths}
 use Rattle.witness.proofs.StemLaws.{origins-noted, stem-is}
 use Rattle.witness.proofs.CycleLaws.{counterpart, agreed-linked, cycle-is}
-use Rattle.decision.specs.Verdict.{counted, conclude, workspace-size}
-use Rattle.decision.specs.Contract.{node-count}
+use Rattle.decision.specs.Verdict.{counted, conclude}
+use Rattle.construction.specs.Construction.{node-count}
 use Rattle.decision.specs.declared.Verdict as code
-use Rattle.decision.specs.declared.Verdict.the-variants.{Satisfiable, Unsatisfiable, Refused}
-use Rattle.decision.specs.Searched.{Decoded, Profiled, Ready, Told, Answers, found-in, needed, concluded, Within, Searched}
-use Rattle.decision.proofs.SettleLaws.{searched-15, searched-on}
+use Rattle.decision.specs.declared.Verdict.the-variants.{Satisfiable, Unsatisfiable}
+use Rattle.decision.specs.Inner.{Decoded, Profiled, Ready, Told, Answers, found-in, needed, concluded, onward}
+use Rattle.decision.proofs.SettleLaws.{answers-15, answers-on}
 
 abbrev letters : List Transition → List ℕ
 letters ss = map letter ss
@@ -234,11 +234,10 @@ module _ {rows : List ℕ} {count : ℕ} {origins area : List ℕ} {s : Store} {
           let (i, c, m) = first-behind (agree (end l)) (λ j z d r. never (none-passes j z d r)) end-low e in
           omega (arith, full, end-is (suc l), within-more (suc l) (length (x .way)) (parted l .high i x c m) listed)
 
-    -- Theorem: what the search came to, told, is the answer, if there is room for the nodes and the store is as large as asked.
-    module _ (N M : ℕ) (few : node-count t ≤ N) (capacity-is : s .capacity ≡ M) {area₀ : List ℕ}
-        (same : Within (workspace-size N M) area₀ area) where
-      pub told-ready : {len : ℕ} → N + M ≤ len → Ready origins s area len found
-      told-ready {len} room = by (h .comes-to)
+    -- Theorem: what the search came to, told, is the answer, if the store is as large as asked.
+    module _ (M : ℕ) (capacity-is : s .capacity ≡ M) where
+      pub told-ready : {N len : ℕ} → node-count t ≤ N → N + M ≤ len → Ready origins s area len found
+      told-ready {N} {len} few room = by (h .comes-to)
         where
           by : {o : Sought} → Comes-to (accepting t) s ones area o → Ready origins s area len o
           by (Comes-to.accepting l y low passes before late) =
@@ -246,22 +245,19 @@ module _ {rows : List ℕ} {count : ℕ} {origins area : List ℕ} {s : Store} {
           by (Comes-to.nowhere l y) = tt
           by (Comes-to.no-room l full none-passes) = tt
 
-      pub told-searched : {buffer after : List ℕ} {r : code.Verdict} → Told origins s area K found buffer after r
-          → Searched t N M area₀ area buffer after r
-      told-searched {buffer} {after} {r} = by (h .comes-to)
+      pub told-answers : {buffer after : List ℕ} {r : code.Verdict} → Told origins s area K found buffer after r
+          → Answers (onward M t) buffer after r
+      told-answers {buffer} {after} {r} = by (h .comes-to)
         where
-          refused : (l : List ℕ) → M < needed t → Searched t N M area₀ area l l (Refused 15)
-          refused l m = searched-15 N M t l few m same
-
           by : {o : Sought} → Comes-to (accepting t) s ones area o → Told origins s area K o buffer after r
-              → Searched t N M area₀ area buffer after r
+              → Answers (onward M t) buffer after r
           by (Comes-to.accepting l y low passes before late) (w, written, e) =
-              searched-on N M t few (omega (arith, needed-all y low passes before late, y .room))
-              (subst⁻¹ (Answers (concluded t) buffer after) e (witness-answers y low passes before late written)) same
+              answers-on M t (omega (arith, needed-all y low passes before late, y .room))
+              (subst⁻¹ (Answers (concluded t) buffer after) e (witness-answers y low passes before late written))
           by (Comes-to.nowhere {all} l y) (e, q) =
-              searched-on N M t few (omega (arith, needed-listed y, y .room))
+              answers-on M t (omega (arith, needed-listed y, y .room))
               (subst⁻¹ (λ (x : List ℕ × code.Verdict). Answers (concluded t) buffer (x .0) (x .1)) (λ i. (e i, q i))
-              (none-answers y buffer)) same
+              (none-answers y buffer))
           by (Comes-to.no-room l full none-passes) (e, q) =
-              subst⁻¹ (λ (x : List ℕ × code.Verdict). Searched t N M area₀ area buffer (x .0) (x .1)) (λ i. (e i, q i))
-              (refused buffer (omega (arith, more-needed l full none-passes (found-in t) refl)))
+              subst⁻¹ (λ (x : List ℕ × code.Verdict). Answers (onward M t) buffer (x .0) (x .1)) (λ i. (e i, q i))
+              (answers-15 M t (omega (arith, more-needed l full none-passes (found-in t) refl)) buffer)

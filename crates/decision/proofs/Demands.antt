@@ -18,12 +18,13 @@ use Rattle.formula.specs.Formula.{Formula}
 use Rattle.formula.specs.Table.{Table, table}
 use Rattle.formula.specs.Reading.{Reading, parse}
 use Rattle.lasso.specs.Lasso.{Lasso, over-alphabet, meets}
-use Rattle.decision.specs.Verdict.{Verdict, decide, ask-capacities, after-reading, verdict}
-use Rattle.decision.specs.Contract.{says, node-count, profile-count, profile-count-within, Witness, leaves, Decided}
+use Rattle.decision.specs.Verdict.{Verdict, after-reading, verdict}
+use Rattle.construction.specs.Construction.{node-count}
+use Rattle.decision.specs.Contract.{says, profile-count, profile-count-within, Witness, leaves, Decided}
 use Rattle.decision.specs.declared.Verdict as code
 use Rattle.decision.specs.declared.Verdict.the-variants.{Satisfiable, Unsatisfiable, Refused, Unread}
 use Rattle.decision.specs.Lends.{Lends}
-use Rattle.decision.proofs.VerdictLaws.{Shortest, Profiles-fit, Concluded, witness-shortest, one-shortest, From14, asked-all}
+use Rattle.decision.proofs.VerdictLaws.{Shortest, Profiles-fit, Concluded, witness-shortest, one-shortest, From14, questions, asked-all}
 use Rattle.decision.proofs.VerdictLaws.{concluded-cases, Verdict-cases, verdict-answered}
 use Rattle.decision.proofs.Answer.{lasso, past-13, read-of, witness-such, witness-holds, no-lasso}
 
@@ -218,7 +219,7 @@ yes-answered a h = settled a (λ e. subst IsAnswer e h)
 
 -- More room: N and M may grow, and the areas with them.
 module _ (N M w b N′ M′ w′ b′ : ℕ) (nodes-more : N ≤ N′) (profiles-more : M ≤ M′) (lends : Lends N′ M′ w′ b′) where
-  more-asked : (t : Table) → IsAnswer (ask-capacities N M w b t) → ask-capacities N′ M′ w′ b′ t ≡ ask-capacities N M w b t
+  more-asked : (t : Table) → IsAnswer (questions N M w b t) → questions N′ M′ w′ b′ t ≡ questions N M w b t
   more-asked t h =
       let (c, a12) = yes-answered (asked-all N M w b t) h in
       let (d, a13) = yes-answered a12 h in
@@ -227,8 +228,8 @@ module _ (N M w b N′ M′ w′ b′ : ℕ) (nodes-more : N ≤ N′) (profiles
       let (p, o) = yes-answered a15 h in
       passed (passed (past-13 (asked-all N′ M′ w′ b′ t) lends) (omega arith)) (omega arith) ∙ sym o
 
-  more-read : (r : Reading Formula) → IsAnswer (after-reading N M w b r) → after-reading N′ M′ w′ b′ r ≡ after-reading N M w b r
-  unfolding table decide
+  more-read : (r : Reading Formula) → IsAnswer (after-reading (questions N M w b) r)
+      → after-reading (questions N′ M′ w′ b′) r ≡ after-reading (questions N M w b) r
   more-read (Reading.refused why) h = absurd h
   more-read (Reading.accepted f) h = more-asked (table f) h
 

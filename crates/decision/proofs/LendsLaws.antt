@@ -2,20 +2,15 @@
 -- Assumes nothing.
 use mathlib.Core.Path.{_≡_, refl, sym, ap, subst, _∙_}
 use mathlib.Core.Bool.{Bool, true, false, not, _&&_}
-use Prim.Native.Nat.{ℕ, _≤_, _<_}
+use Prim.Native.Nat.{ℕ, _≤_}
 use native.Mathlib.Omega.{arith}
-use lib.Dec.{T, leb, leb→le, le→leb}
-use borrow.Author.Tests.{le-leb, lt-leb, not-true, not-false}
+use lib.Dec.{T}
+use borrow.Author.Tests.{not-true, not-false}
 use Rattle.base.proofs.BoolLaws.{to-T, and-left, and-right, and-both}
-use Rattle.decision.specs.Verdict.{between, max-nodes, max-profiles, within-capacity, workspace-size, witness-size}
+use Rattle.construction.specs.Construction.{between, max-nodes}
+use Rattle.construction.proofs.RangeLaws.{between-of, between-in}
+use Rattle.decision.specs.Verdict.{max-profiles, within-capacity, workspace-size, witness-size}
 use Rattle.decision.specs.Lends.{Capacity, Lends, ToLend}
-
-between-of : (low high n : ℕ) → T (between low high n) → (low ≤ n) × (n ≤ high)
-between-of low high n h =
-    (leb→le low n (and-left (leb low n) (leb n high) h), leb→le n high (and-right (leb low n) (leb n high) h))
-
-between-in : (low high n : ℕ) → low ≤ n → n ≤ high → T (between low high n)
-between-in low high n l h = and-both (leb low n) (leb n high) (le→leb low n l) (le→leb n high h)
 
 pub capacity-of : (N M : ℕ) → T (within-capacity N M) → Capacity N M
 capacity-of N M h =
@@ -27,14 +22,6 @@ pub capacity-in : (N M : ℕ) → Capacity N M → T (within-capacity N M)
 capacity-in N M c =
     and-both (between 1 max-nodes N) (between 1 max-profiles M) (between-in 1 max-nodes N (c .some-nodes) (c .few-nodes))
     (between-in 1 max-profiles M (c .some-profiles) (c .few-profiles))
-
--- the code's test of a range
-module _ (low high n : ℕ) where
-  pub below-range : n < low → false ≡ between low high n
-  below-range h = sym (ap (λ (b : Bool). b && leb n high) (lt-leb low n h))
-
-  pub above-low : low ≤ n → leb n high ≡ between low high n
-  above-low h = sym (ap (λ (b : Bool). b && leb n high) (le-leb low n h))
 
 -- the code's test of both
 module _ (N M : ℕ) {a : Bool} (is : a ≡ between 1 max-nodes N) where

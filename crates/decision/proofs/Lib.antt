@@ -3,8 +3,11 @@ pub mod WitnessLaws
 pub mod LendsLaws
 pub mod VerdictLaws
 pub mod Answer
+pub mod ChangeLaws
 pub mod ConcludeLaws
 pub mod SettleLaws
 pub mod SearchedLaws
 pub mod Bounds
+pub mod SearchLaws
+pub mod PairLaws
 pub mod Demands

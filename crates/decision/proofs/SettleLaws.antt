@@ -1,13 +1,17 @@
--- From the questions of the code to the promise: each of 11 to 13 is the definition's, what is left in the workspace is what MEANING 5.5
--- says of the answer, and an answer over the table of the formula that was read is the decision's promise. Assumes nothing.
+-- From the questions of the code to the promise: each of them is the definition's, what is left in the workspace is what MEANING 5.5 and
+-- 5.12 say of the answer, and an answer over the table of the formula that was read is the promise of the decision or of the search.
+-- Assumes nothing.
 use mathlib.Core.Path.{_≡_, refl, sym, ap, subst, subst⁻¹, _∙_}
+use mathlib.Core.Bool.{Bool, true, false, cond}
 use mathlib.Core.Option.{Option, none, some}
 use mathlib.Core.List.{List, _++_}
-use Prim.Native.Nat.{ℕ, _≤_, _<_}
+use Prim.Native.Nat.{ℕ, _-_, _≤_, _<_}
 use native.Mathlib.Omega.{arith}
-use lib.ListN.{length, drop}
+use lib.ListN.{length, take, drop}
+use borrow.Author.Tests.{lt-leb, ne-eqb}
+use Rattle.base.specs.Ask.{ask}
 use Rattle.base.specs.Search.{Item}
-use Rattle.base.proofs.AskLaws.{first-refusal, passed, every-outcome}
+use Rattle.base.proofs.AskLaws.{Asked, asked-le, first-refusal, passed, every-outcome}
 use Rattle.formula.specs.Formula.{Formula}
 use Rattle.formula.specs.Table.{Table, table}
 use Rattle.formula.specs.Reading.{Reading, parse}
@@ -18,134 +22,223 @@ use Rattle.tableau.specs.Transition.{Transition}
 use Rattle.tableau.specs.Nodes.{nodes}
 use Rattle.tableau.specs.Inner.{table-of}
 use Rattle.tableau.specs.Area.{zeros}
+use Rattle.tableau.specs.Area as area
 use Rattle.traces.proofs.LimitLaws.{held-limited}
 use Rattle.profile.specs.Profiles as literal
-use Rattle.decision.specs.Verdict.{Verdict, counted, conclude, decide, workspace-size, witness-size, ask-capacities, after-reading}
-use Rattle.decision.specs.Verdict.{verdict}
+use Rattle.profile_search.specs.Stored.{Bytes-between}
+use Rattle.construction.specs.Construction.{node-count, nodes-size, are-nodes}
+use Rattle.construction.proofs.LayoutLaws.{cleared-front}
+use Rattle.decision.specs.Verdict.{Verdict, counted, conclude, decide, search, profiles-size, workspace-size, witness-size, ask-capacities}
+use Rattle.decision.specs.Verdict.{after-reading, verdict, search-verdict}
 use Rattle.decision.specs.Lends.{Capacity, Lends}
-use Rattle.decision.specs.Contract.{says, node-count, leaves, zeroed, cleared, Decided}
-use Rattle.decision.specs.Searched.{Decoded, Answers, Within, Searched, Settled, found-in, needed, concluded}
+use Rattle.decision.specs.Contract.{says, leaves, zeroed, cleared, emptied, kept, Decided, Searched}
+use Rattle.decision.specs.Inner.{Decoded, Answers, Granted-or, Came-to, Settled, found-in, needed, concluded, onward}
 use Rattle.decision.specs.declared.Verdict as code
 use Rattle.decision.specs.declared.Verdict.the-variants.{Refused, Unread}
-use Rattle.decision.proofs.VerdictLaws.{From11, From14, capacities-asked, decide-asked}
+use Rattle.decision.proofs.VerdictLaws.{From11, questions, search-questions, capacities-asked, onward-asked}
 use Rattle.decision.proofs.Answer.{past-13}
+use Rattle.decision.proofs.ChangeLaws.{front-same, back-same}
 
--- The questions 14 and 15.
-module _ (N M : ℕ) (t : Table) where
-  from-14 : From14 N t (needed t ≤ M) (λ o. o ≡ concluded t) (decide N M t)
-  from-14 = decide-asked N M t (λ h. h) (λ h. h) refl
+-- an answer to a verdict is one to another that is the same
+pub answers-as : {v o : Verdict} {before after : List ℕ} {r : code.Verdict} → v ≡ o → Answers o before after r → Answers v before after r
+answers-as {before = before} {after} {r} e a = subst⁻¹ (λ (x : Verdict). Answers x before after r) e a
 
-  -- every answer past 13 leaves zeros
-  abbrev Clears : List ℕ → Verdict → Type 0
-  Clears w o = cleared N M o w ≡ zeroed N M w
+pub answers-refused : {v : Verdict} {c : ℕ} → v ≡ Verdict.refused c → (l : List ℕ) → Answers v l l (Refused c)
+answers-refused e l = answers-as e (record { answered = refl; buffered = refl })
 
-  concluded-clears : (w : List ℕ) (x : Option (Item Transition literal.Profile))
-      → Clears w (conclude (nodes t) (counted x (literal.profiles t (nodes t))) x)
-  concluded-clears w none = refl
-  concluded-clears w (some x) = refl
+-- Question 15, and behind it.
+module _ (M : ℕ) (t : Table) where
+  from-15 : Asked (needed t ≤ M) (Verdict.refused 15) (λ o. o ≡ concluded t) (onward M t)
+  from-15 = onward-asked M t (λ h. h) (λ h. h) refl
 
-  decided-clears : (w : List ℕ) → Clears w (decide N M t)
-  decided-clears w =
-      every-outcome (Clears w) refl
-      (λ _. every-outcome (Clears w) refl
-      (λ _ o e. subst⁻¹ (Clears w) e (concluded-clears w (found-in t)))) (decide N M t) from-14
+  pub answers-15 : M < needed t → (l : List ℕ) → Answers (onward M t) l l (Refused 15)
+  answers-15 h = answers-refused (first-refusal from-15 (λ k. omega arith))
 
-  answers-refused : (c : ℕ) {l : List ℕ} → decide N M t ≡ Verdict.refused c → Answers (decide N M t) l l (Refused c)
-  answers-refused c {l} e = subst⁻¹ (λ (v : Verdict). Answers v l l (Refused c)) e (record { answered = refl; buffered = refl })
+  pub answers-on : {before after : List ℕ} {r : code.Verdict} → needed t ≤ M → Answers (concluded t) before after r
+      → Answers (onward M t) before after r
+  answers-on h a = answers-as (passed from-15 h) a
 
-  pub searched-14 : {area area′ : List ℕ} (l : List ℕ) → N < node-count t → Within (workspace-size N M) area area′
-      → Searched t N M area area′ l l (Refused 14)
-  searched-14 l h w = record { answers = answers-refused 14 (first-refusal from-14 (λ k. omega arith)); within = w }
+  -- what is so of 15 and of every conclusion is so of it
+  every-onward : (P : Verdict → Type 0) → P (Verdict.refused 15)
+      → ((x : Option (Item Transition literal.Profile)) → P (conclude (nodes t) (counted x (literal.profiles t (nodes t))) x))
+      → P (onward M t)
+  every-onward P r f = every-outcome P r (λ _ o e. subst⁻¹ P e (f (found-in t))) (onward M t) from-15
 
-  pub searched-15 : {area area′ : List ℕ} (l : List ℕ) → node-count t ≤ N → M < needed t → Within (workspace-size N M) area area′
-      → Searched t N M area area′ l l (Refused 15)
-  searched-15 l k h w = record { answers = answers-refused 15 (first-refusal (passed from-14 k) (λ j. omega arith)); within = w }
-
-  pub searched-on : {area area′ before after : List ℕ} {r : code.Verdict} → node-count t ≤ N → needed t ≤ M
-      → Answers (concluded t) before after r
-      → Within (workspace-size N M) area area′ → Searched t N M area area′ before after r
-  searched-on {before = before} {after} {r} k h a w =
-      record { answers = subst⁻¹ (λ (v : Verdict). Answers v before after r) (passed (passed from-14 k) h) a; within = w }
-
--- The questions 11 to 13.
-module _ (N M : ℕ) (workspace buffer : List ℕ) (t : Table) where
-  abbrev W : ℕ
-  W = length workspace
-
-  abbrev B : ℕ
-  B = length buffer
-
-  from-11 : From11 N M W B (λ o. o ≡ decide N M t) (ask-capacities N M W B t)
-  from-11 = capacities-asked N M W B t refl
-
-  refuses : (c : ℕ) → cleared N M (Verdict.refused c) workspace ≡ workspace → ask-capacities N M W B t ≡ Verdict.refused c
-      → Settled t N M workspace workspace buffer buffer (Refused c)
-  refuses c k e =
-      record {
-        answers = subst⁻¹ (λ (v : Verdict). Answers v buffer buffer (Refused c)) e (record { answered = refl; buffered = refl });
-        worked = sym (ap (λ (v : Verdict). cleared N M v workspace) e ∙ k);
-      }
-
-  pub settled-11 : (Capacity N M → ⊥) → Settled t N M workspace workspace buffer buffer (Refused 11)
-  settled-11 n = refuses 11 refl (first-refusal from-11 n)
-
-  pub settled-12 : Capacity N M → W < workspace-size N M → Settled t N M workspace workspace buffer buffer (Refused 12)
-  settled-12 c h = refuses 12 refl (first-refusal (passed from-11 c) (λ k. omega arith))
-
-  pub settled-13 : Capacity N M → workspace-size N M ≤ W → B < witness-size N M
-      → Settled t N M workspace workspace buffer buffer (Refused 13)
-  settled-13 c h l = refuses 13 refl (first-refusal (passed (passed from-11 c) h) (λ k. omega arith))
-
-  -- past them: what the search answers, with zeros in the workspace
-  pub settled-on : {area′ area″ buffer′ : List ℕ} {bytes : ℕ} {r : code.Verdict} → Lends N M W B
-      → Searched t N M workspace area′ buffer buffer′ r → bytes ≡ workspace-size N M → area″ ≡ zeros bytes ++ drop bytes area′
-      → Settled t N M workspace area″ buffer buffer′ r
-  settled-on {area′} {area″} {buffer′} {bytes} {r} l s z e =
-      record {
-        answers = subst⁻¹ (λ (v : Verdict). Answers v buffer buffer′ r) whole (s .answers);
-        worked = e ∙ ap (λ (k : ℕ). zeros k ++ drop k area′) z
-            ∙ ap (λ (x : List ℕ). zeros (workspace-size N M) ++ x) (s .within .behind)
-            ∙ sym (ap (λ (v : Verdict). cleared N M v workspace) whole ∙ decided-clears N M t workspace);
-      }
+  -- a search leaves the bytes behind the nodes empty, with 15 too
+  pub onward-empties : (N : ℕ) (w : List ℕ) → kept N M (onward M t) w ≡ emptied N M w
+  onward-empties N w = every-onward (λ o. kept N M o w ≡ emptied N M w) refl by
     where
-      whole : ask-capacities N M W B t ≡ decide N M t
-      whole = past-13 from-11 l
+      by : (x : Option (Item Transition literal.Profile))
+          → kept N M (conclude (nodes t) (counted x (literal.profiles t (nodes t))) x) w ≡ emptied N M w
+      by none = refl
+      by (some x) = refl
+
+  onward-clears : (N : ℕ) (w : List ℕ) → cleared N M (onward M t) w ≡ zeroed N M w
+  onward-clears N w = every-onward (λ o. cleared N M o w ≡ zeroed N M w) refl by
+    where
+      by : (x : Option (Item Transition literal.Profile))
+          → cleared N M (conclude (nodes t) (counted x (literal.profiles t (nodes t))) x) w ≡ zeroed N M w
+      by none = refl
+      by (some x) = refl
+
+-- Question 14 of the decision, and what it leaves: zeros, whatever the answer.
+module _ (N M : ℕ) (t : Table) where
+  pub from-14 : Asked (node-count t ≤ N) (Verdict.refused 14) (λ o. o ≡ onward M t) (decide N M t)
+  unfolding decide
+  from-14 = asked-le (node-count t) N (onward M t) refl
+
+  pub decided-clears : (w : List ℕ) → cleared N M (decide N M t) w ≡ zeroed N M w
+  decided-clears w =
+      every-outcome (λ o. cleared N M o w ≡ zeroed N M w) refl
+      (λ _ o e. ap (λ (v : Verdict). cleared N M v w) e ∙ onward-clears M t N w) (decide N M t) from-14
+
+-- Question 36 of a search.
+module _ (K N M : ℕ) (w : List ℕ) (t : Table) {b : Bool} (is : b ≡ are-nodes K N w t) where
+  pub search-on : b ≡ true → search K N M w t ≡ onward M t
+  unfolding search
+  search-on y = ap (λ (a : Bool). ask a (Verdict.refused 36) (onward M t)) (sym is ∙ y)
+
+  pub search-36 : b ≡ false → search K N M w t ≡ Verdict.refused 36
+  unfolding search
+  search-36 n = ap (λ (a : Bool). ask a (Verdict.refused 36) (onward M t)) (sym is ∙ n)
+
+-- The questions 11 to 13, as the code asks them.
+module _ (N M workspace buffer : ℕ) where
+  pub asked-of : (v : Verdict) → From11 N M workspace buffer (λ o. o ≡ v) (ask-capacities N M workspace buffer v)
+  asked-of v = capacities-asked N M workspace buffer v refl
+
+  refused-early : (c : ℕ) → 0 < c → c ≤ 13 → ((v : Verdict) → ask-capacities N M workspace buffer v ≡ Verdict.refused c)
+      → Granted-or N M workspace buffer c
+  refused-early c low few r = record { granted = λ e. absurd (omega (arith, e)); early = few; refuses = λ h. r }
+
+  pub granted-11 : (Capacity N M → ⊥) → Granted-or N M workspace buffer 11
+  granted-11 n = refused-early 11 (omega arith) (omega arith) (λ v. first-refusal (asked-of v) n)
+
+  pub granted-12 : Capacity N M → workspace < workspace-size N M → Granted-or N M workspace buffer 12
+  granted-12 c h =
+      refused-early 12 (omega arith) (omega arith) (λ v. first-refusal (passed (asked-of v) c) (λ k. omega arith))
+
+  pub granted-13 : Capacity N M → workspace-size N M ≤ workspace → buffer < witness-size N M → Granted-or N M workspace buffer 13
+  granted-13 c w h =
+      refused-early 13 (omega arith) (omega arith) (λ v. first-refusal (passed (passed (asked-of v) c) w) (λ k. omega arith))
+
+  pub granted-all : Lends N M workspace buffer → Granted-or N M workspace buffer 0
+  granted-all l = record { granted = λ e. l; early = omega arith; refuses = λ h. absurd (omega arith) }
+
+-- The same in front of any others.
+module _ (areas : Verdict → List ℕ → List ℕ) {N M : ℕ} (workspace buffer : List ℕ) (v : Verdict) where
+  pub settled-early : {c : ℕ} → Granted-or N M (length workspace) (length buffer) c → 0 < c
+      → areas (Verdict.refused c) workspace ≡ workspace
+      → Settled areas (ask-capacities N M (length workspace) (length buffer) v) workspace workspace buffer buffer (Refused c)
+  settled-early g h k =
+      let e = g .refuses h v in
+      record { answers = answers-refused e buffer; worked = sym (ap (λ (o : Verdict). areas o workspace) e ∙ k) }
+
+  pub settled-on : {workspace′ buffer′ : List ℕ} {r : code.Verdict} → Lends N M (length workspace) (length buffer)
+      → Answers v buffer buffer′ r → workspace′ ≡ areas v workspace
+      → Settled areas (ask-capacities N M (length workspace) (length buffer) v) workspace workspace′ buffer buffer′ r
+  settled-on l a w =
+      let e : ask-capacities N M (length workspace) (length buffer) v ≡ v = past-13 (asked-of N M (length workspace) (length buffer) v) l in
+      record { answers = answers-as e a; worked = w ∙ sym (ap (λ (o : Verdict). areas o workspace) e) }
+
+-- what a refusal before 14 leaves
+pub early-clears : (N M : ℕ) {c : ℕ} (w : List ℕ) → c ≤ 13 → cleared N M (Verdict.refused c) w ≡ w
+early-clears N M {c} w h = ap (λ (b : Bool). cond b (zeroed N M w) w) (lt-leb 14 c (omega arith))
+
+pub early-keeps : (N M : ℕ) {c : ℕ} (w : List ℕ) → c ≤ 13 → kept N M (Verdict.refused c) w ≡ w
+early-keeps N M {c} w h = ap (λ (b : Bool). cond b (emptied N M w) w) (ne-eqb c 15 (λ e. omega (arith, e)))
+
+-- the code's zeros, over an area that changed only there
+pub zeroed-all : (N M : ℕ) {w area′ w′ : List ℕ} {bytes : ℕ} → Bytes-between 0 (workspace-size N M) w area′ → bytes ≡ workspace-size N M
+    → w′ ≡ area.cleared 0 bytes area′ → w′ ≡ zeroed N M w
+zeroed-all N M {area′ = area′} {bytes = bytes} ch z e =
+    e ∙ cleared-front bytes area′
+    ∙ ap (λ (k : ℕ). zeros k ++ drop k area′) z
+    ∙ ap (λ (x : List ℕ). zeros (workspace-size N M) ++ x) (back-same ch)
+
+pub emptied-all : (N M : ℕ) {w area′ w′ : List ℕ} {bytes : ℕ} → Bytes-between (nodes-size N) (workspace-size N M) w area′
+    → bytes ≡ workspace-size N M → w′ ≡ area.cleared (nodes-size N) bytes area′ → w′ ≡ emptied N M w
+emptied-all N M {w} {area′} ch z e =
+    e ∙ ap (λ (k : ℕ). take (nodes-size N) area′ ++ (zeros (k - nodes-size N) ++ drop k area′)) z
+    ∙ ap (λ (k : ℕ). take (nodes-size N) area′ ++ (zeros k ++ drop (workspace-size N M) area′))
+    {x = workspace-size N M - nodes-size N} {y = profiles-size M} (omega arith)
+    ∙ (λ i. front-same ch i ++ (zeros (profiles-size M) ++ back-same ch i))
+
+-- a search that question 36 refuses
+pub settled-36 : (K N M : ℕ) (t : Table) {w b : List ℕ} {c : Bool} → Lends N M (length w) (length b) → c ≡ are-nodes K N w t → c ≡ false
+    → Settled (kept N M) (search-questions K N M w (length b) t) w w b b (Refused 36)
+settled-36 K N M t {w} {b} l is n =
+    let e = search-36 K N M w t is n in
+    settled-on (kept N M) w b (search K N M w t) l (answers-refused e b) (sym (ap (λ (v : Verdict). kept N M v w) e))
+
+-- What came of the searches, with the zeros over it, is all that the questions come to.
+module _ (N M : ℕ) (t : Table) {w area′ w′ b b′ : List ℕ} {r : code.Verdict} {bytes : ℕ} (lends : Lends N M (length w) (length b))
+    (z : bytes ≡ workspace-size N M) where
+  pub settled-decided : Came-to (decide N M t) 0 (workspace-size N M) w area′ b b′ r → w′ ≡ area.cleared 0 bytes area′
+      → Settled (cleared N M) (questions N M (length w) (length b) t) w w′ b b′ r
+  settled-decided c e =
+      settled-on (cleared N M) w b (decide N M t) lends (c .answers)
+      (zeroed-all N M (c .changed) z e ∙ sym (decided-clears N M t w))
+
+  pub settled-resumed : (K : ℕ) → search K N M w t ≡ onward M t
+      → Came-to (onward M t) (nodes-size N) (workspace-size N M) w area′ b b′ r → w′ ≡ area.cleared (nodes-size N) bytes area′
+      → Settled (kept N M) (search-questions K N M w (length b) t) w w′ b b′ r
+  settled-resumed K q c e =
+      settled-on (kept N M) w b (search K N M w t) lends (answers-as q (c .answers))
+      (emptied-all N M (c .changed) z e ∙ sym (ap (λ (v : Verdict). kept N M v w) q ∙ onward-empties M t N w))
 
 -- An answer over the table of what was read.
-module _ (bytes : List ℕ) (N M : ℕ) (workspace buffer : List ℕ) where
-  abbrev whole-verdict : Verdict
-  whole-verdict = verdict N M (length workspace) (length buffer) bytes
+module _ (bytes : List ℕ) where
+  after-unread : (on : Table → Verdict) {why : Refusal} → parse bytes ≡ Reading.refused why
+      → after-reading on (parse bytes) ≡ Verdict.unread why
+  after-unread on p = ap (after-reading on) p
 
-  settled-decided : {workspace′ buffer′ : List ℕ} {r : code.Verdict} (f : Formula) → parse bytes ≡ Reading.accepted f
-      → Settled (table f) N M workspace workspace′ buffer buffer′ r → Decided bytes N M workspace workspace′ buffer buffer′ r
-  unfolding verdict
-  settled-decided f p s =
-      let e : whole-verdict ≡ ask-capacities N M (length workspace) (length buffer) (table f) =
-      ap (after-reading N M (length workspace) (length buffer)) p in
-      record {
-        answered = s .answers .answered ∙ sym (ap says e);
-        buffered = s .answers .buffered ∙ sym (ap (λ (v : Verdict). leaves v buffer) e);
-        worked = s .worked ∙ sym (ap (λ (v : Verdict). cleared N M v workspace) e);
-      }
+  -- over the table that the code holds
+  settled-read : (areas : Verdict → List ℕ → List ℕ) (on : Table → Verdict) {w w′ b b′ : List ℕ} {r : code.Verdict} {t : Stored}
+      → Holds-formula bytes t → Settled areas (on (table-of (t .rows) (t .count))) w w′ b b′ r
+      → Settled areas (after-reading on (parse bytes)) w w′ b b′ r
+  settled-read areas on {w} {w′} {b} {b′} {r} h s =
+      subst⁻¹ (λ (v : Verdict). Settled areas v w w′ b b′ r) (ap (after-reading on) (h .parsed) ∙ ap on (sym (h .operators))) s
 
-  -- Theorem: settled over the table of the formula that was read, it is decided.
-  pub held-decided : {workspace′ buffer′ : List ℕ} {r : code.Verdict} {t : Stored} → Holds-formula bytes t
-      → Settled (table-of (t .rows) (t .count)) N M workspace workspace′ buffer buffer′ r
-      → Decided bytes N M workspace workspace′ buffer buffer′ r
-  held-decided {workspace′} {buffer′} {r} h s =
-      settled-decided (h .formula) (h .parsed) (subst (λ (u : Table). Settled u N M workspace workspace′ buffer buffer′ r) (h .operators) s)
+  -- Theorem: settled over the table of the formula that was read, it is decided, or searched.
+  module _ (N M : ℕ) {w w′ b b′ : List ℕ} where
+    pub held-decided : {r : code.Verdict} {t : Stored} → Holds-formula bytes t
+        → Settled (cleared N M) (questions N M (length w) (length b) (table-of (t .rows) (t .count))) w w′ b b′ r
+        → Decided bytes N M w w′ b b′ r
+    unfolding verdict
+    held-decided h s =
+        let r = settled-read (cleared N M) (questions N M (length w) (length b)) h s in
+        record { answered = r .answers .answered; buffered = r .answers .buffered; worked = r .worked }
+
+    pub held-searched : (K : ℕ) {r : code.Verdict} {t : Stored} → Holds-formula bytes t
+        → Settled (kept N M) (search-questions K N M w (length b) (table-of (t .rows) (t .count))) w w′ b b′ r
+        → Searched bytes K N M w w′ b b′ r
+    unfolding search-verdict
+    held-searched K h s =
+        let r = settled-read (kept N M) (search-questions K N M w (length b)) h s in
+        record { answered = r .answers .answered; buffered = r .answers .buffered; worked = r .worked }
 
   -- Theorem: a refusal of reading, passed on.
-  pub unread-decided : {why : Refusal} → parse bytes ≡ Reading.refused why
-      → Decided bytes N M workspace workspace buffer buffer (Unread why)
-  unfolding verdict
-  unread-decided {why} p =
-      let e : whole-verdict ≡ Verdict.unread why = ap (after-reading N M (length workspace) (length buffer)) p in
-      record {
-        answered = sym (ap says e);
-        buffered = sym (ap (λ (v : Verdict). leaves v buffer) e);
-        worked = sym (ap (λ (v : Verdict). cleared N M v workspace) e);
-      }
+  module _ (N M : ℕ) (w b : List ℕ) {why : Refusal} (p : parse bytes ≡ Reading.refused why) where
+    pub unread-decided : Decided bytes N M w w b b (Unread why)
+    unfolding verdict
+    unread-decided =
+        let e = after-unread (questions N M (length w) (length b)) p in
+        record {
+          answered = sym (ap says e);
+          buffered = sym (ap (λ (v : Verdict). leaves v b) e);
+          worked = sym (ap (λ (v : Verdict). cleared N M v w) e);
+        }
+
+    pub unread-searched : (K : ℕ) → Searched bytes K N M w w b b (Unread why)
+    unfolding search-verdict
+    unread-searched K =
+        let e = after-unread (search-questions K N M w (length b)) p in
+        record {
+          answered = sym (ap says e);
+          buffered = sym (ap (λ (v : Verdict). leaves v b) e);
+          worked = sym (ap (λ (v : Verdict). kept N M v w) e);
+        }
 
 -- what the search is given
 pub held-decoded : {bytes : List ℕ} {t : Stored} → Holds-formula bytes t → Decoded (t .rows) (t .count)

@@ -23,12 +23,13 @@ use Rattle.tableau.proofs.ForemostLaws.{one-foremost}
 use Rattle.profile.specs.Profiles.{Profile, profiles}
 use Rattle.profile.proofs.RootLaws.{root-apart}
 use Rattle.profile.proofs.CycleLaws.{run-along}
-use Rattle.decision.specs.Verdict.{Verdict, counted, conclude, decide, within-capacity, workspace-size, witness-size}
+use Rattle.decision.specs.Verdict.{Verdict, counted, conclude, decide, search, within-capacity, workspace-size, witness-size}
 use Rattle.decision.specs.Verdict.{ask-capacities, after-reading, verdict}
 use Rattle.decision.specs.Lends.{Capacity}
 use Rattle.profile.specs.Cycle.{AcceptingCycle}
-use Rattle.decision.specs.Contract.{node-count, profile-count, profile-count-within, Witness}
-use Rattle.decision.specs.Searched.{found-in, needed, concluded}
+use Rattle.construction.specs.Construction.{node-count}
+use Rattle.decision.specs.Contract.{profile-count, profile-count-within, Witness}
+use Rattle.decision.specs.Inner.{found-in, needed, concluded, onward}
 use Rattle.decision.proofs.LendsLaws.{capacity-of, capacity-in}
 use Rattle.decision.proofs.WitnessLaws.{no-cycle, first-witness}
 
@@ -116,28 +117,43 @@ pub data Verdict-cases (N M workspace buffer : ℕ) : Reading Formula → Verdic
   read : {f : Formula} {o : Verdict} → Decided-cases N M workspace buffer (table f) o
       → Verdict-cases N M workspace buffer (Reading.accepted f) o
 
--- the definitions ask these questions
-pub capacities-asked : (N M workspace buffer : ℕ) (t : Table) {After : Verdict → Type 0} → After (decide N M t)
-    → From11 N M workspace buffer After (ask-capacities N M workspace buffer t)
-unfolding decide
-capacities-asked N M workspace buffer t a =
+-- every question of the decision after reading
+abbrev pub questions : (N M workspace buffer : ℕ) → Table → Verdict
+questions N M workspace buffer t = ask-capacities N M workspace buffer (decide N M t)
+
+-- and of a search
+abbrev pub search-questions : (K N M : ℕ) (workspace : List ℕ) (buffer : ℕ) → Table → Verdict
+search-questions K N M workspace buffer t = ask-capacities N M (length workspace) buffer (search K N M workspace t)
+
+-- the definitions ask these questions: 11 to 13 in front of whatever comes after,
+pub capacities-asked : (N M workspace buffer : ℕ) (v : Verdict) {After : Verdict → Type 0} → After v
+    → From11 N M workspace buffer After (ask-capacities N M workspace buffer v)
+capacities-asked N M workspace buffer v a =
     asked _ (within-capacity N M) (capacity-of N M) (capacity-in N M)
     (asked-le (workspace-size N M) workspace _
-    (asked-le (witness-size N M) buffer (decide N M t)
+    (asked-le (witness-size N M) buffer v
     a))
 
+-- 15,
+pub onward-asked : (M : ℕ) (t : Table) {fit : Type 0} {After : Verdict → Type 0} → (needed t ≤ M → fit) → (fit → needed t ≤ M)
+    → After (concluded t) → Asked fit (Verdict.refused 15) After (onward M t)
+onward-asked M t f g a =
+    asked (concluded t) (leb (needed t) M) (λ h. f (leb→le (needed t) M h)) (λ q. le→leb (needed t) M (g q))
+    a
+
+-- and 14 in front of it
 pub decide-asked : (N M : ℕ) (t : Table) {fit : Type 0} {After : Verdict → Type 0} → (needed t ≤ M → fit) → (fit → needed t ≤ M)
     → After (concluded t) → From14 N t fit After (decide N M t)
 unfolding decide
 decide-asked N M t f g a =
-    asked-le (node-count t) N _
-    (asked (concluded t) (leb (needed t) M) (λ h. f (leb→le (needed t) M h)) (λ q. le→leb (needed t) M (g q))
-    a)
+    asked-le (node-count t) N (onward M t)
+    (onward-asked M t f g a)
 
 -- all of them, with the profiles that the definition counts
 pub asked-all : (N M workspace buffer : ℕ) (t : Table)
-    → From11 N M workspace buffer (From14 N t (needed t ≤ M) (λ o. o ≡ concluded t)) (ask-capacities N M workspace buffer t)
-asked-all N M workspace buffer t = capacities-asked N M workspace buffer t (decide-asked N M t (λ h. h) (λ h. h) refl)
+    → From11 N M workspace buffer (From14 N t (needed t ≤ M) (λ o. o ≡ concluded t)) (questions N M workspace buffer t)
+asked-all N M workspace buffer t =
+    capacities-asked N M workspace buffer (decide N M t) (decide-asked N M t (λ h. h) (λ h. h) refl)
 
 -- by whether an accepting profile was found
 module _ (f : Formula) where
@@ -164,11 +180,10 @@ pub concluded-cases : (f : Formula) → Concluded (table f) (concluded (table f)
 concluded-cases f = concludes f (found-in (table f)) refl
 
 read-answered : (N M workspace buffer : ℕ) (r : Reading Formula)
-    → Verdict-cases N M workspace buffer r (after-reading N M workspace buffer r)
-unfolding table decide
+    → Verdict-cases N M workspace buffer r (after-reading (questions N M workspace buffer) r)
 read-answered N M workspace buffer (Reading.refused why) = unread
 read-answered N M workspace buffer (Reading.accepted f) =
-    read (capacities-asked N M workspace buffer (table f)
+    read (capacities-asked N M workspace buffer (decide N M (table f))
     (decide-asked N M (table f) (fits-of f M (found-in (table f)) refl) (fits-in f M (found-in (table f)) refl)
     (concluded-cases f)))
 

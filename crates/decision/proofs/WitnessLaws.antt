@@ -22,7 +22,7 @@ use Rattle.profile.specs.Cycle.{Run, AcceptingCycle}
 use Rattle.profile.proofs.ProfileLaws.{run-standing, Sooner, profiles-sorted, profiles-short}
 use Rattle.profile.proofs.CycleLaws.{accepting-cycle, Accepting-listed, cycle-accepting}
 use Rattle.decision.specs.Contract.{Witness}
-use Rattle.decision.specs.Searched.{found-in}
+use Rattle.decision.specs.Inner.{found-in}
 
 module _ (t : Table) (apart : (v : Subset) (s : Transition) → List·Memᴰ s (transitions t v) → s .to ≡ root t → ⊥) where
   run-apart : {p : Profile} {ss : List Transition} → Run t p ss → p .last ≡ root t → ⊥

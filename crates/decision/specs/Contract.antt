@@ -1,11 +1,12 @@
--- What the decision promises: its answer, and what the workspace and the witness buffer hold afterwards, in every case, as equations
--- (`Decided`); and what a verdict says of the formula (`Met`, `Unmet`), which proofs/Answer.antt proves of every verdict. Assumes nothing.
+-- What the decision and the search promise: the answer, and what the workspace and the witness buffer hold afterwards, in every case, as
+-- equations (`Decided`, `Searched`); and what a verdict says of the formula (`Met`, `Unmet`), which proofs/Answer.antt proves of every
+-- verdict. Assumes nothing.
 use mathlib.Core.Path.{_≡_}
 use mathlib.Core.Bool.{true, cond}
 use mathlib.Core.List.{List, [], _++_, map}
 use Prim.Native.Nat.{ℕ, _+_, _≤_, _<_}
-use lib.Dec.{leb}
-use lib.ListN.{length, drop, replicate}
+use lib.Dec.{eqb, leb}
+use lib.ListN.{length, take, drop, replicate}
 use Rattle.base.specs.Search.{within}
 use Rattle.formula.specs.Formula.{Formula}
 use Rattle.formula.specs.Table.{Table, table}
@@ -16,7 +17,8 @@ use Rattle.tableau.specs.Nodes.{nodes}
 use Rattle.tableau.specs.Foremost.{Foremost}
 use Rattle.profile.specs.Profiles.{profiles}
 use Rattle.profile.specs.Cycle.{AcceptingCycle}
-use Rattle.decision.specs.Verdict.{Verdict, workspace-size, verdict}
+use Rattle.construction.specs.Construction.{nodes-size, node-count}
+use Rattle.decision.specs.Verdict.{Verdict, profiles-size, workspace-size, verdict, search-verdict}
 use Rattle.decision.specs.declared.Verdict as code
 use Rattle.decision.specs.declared.Verdict.the-variants.{Satisfiable, Unsatisfiable, Refused, Unread}
 
@@ -26,10 +28,6 @@ says (Verdict.unread why) = Unread why
 says (Verdict.refused c) = Refused c
 says (Verdict.satisfiable stem cycle K c letters) = Satisfiable stem cycle K c
 says (Verdict.unsatisfiable K P) = Unsatisfiable K P
-
--- K
-abbrev pub node-count : Table → ℕ
-node-count t = length (nodes t)
 
 -- P
 abbrev pub profile-count : Table → ℕ
@@ -94,8 +92,25 @@ cleared N M (Verdict.refused c) w = cond (leb 14 c) (zeroed N M w) w
 cleared N M (Verdict.satisfiable stem cycle K c letters) w = zeroed N M w
 cleared N M (Verdict.unsatisfiable K P) w = zeroed N M w
 
--- The whole promise: a formula's bytes, the capacities, the workspace and the buffer before and after, the answer.
+-- The whole promise of the decision: a formula's bytes, the capacities, the workspace and the buffer before and after, the answer.
 pub record Decided (bytes : List ℕ) (N M : ℕ) (workspace workspace′ buffer buffer′ : List ℕ) (answer : code.Verdict) : Type 0 where
   pub answered : answer ≡ says (verdict N M (length workspace) (length buffer) bytes)
   pub buffered : buffer′ ≡ leaves (verdict N M (length workspace) (length buffer) bytes) buffer
   pub worked : workspace′ ≡ cleared N M (verdict N M (length workspace) (length buffer) bytes) workspace
+
+-- a workspace with the bytes behind those of N nodes 0, as many as M profiles take, and the others as they were
+abbrev pub emptied : (N M : ℕ) → List ℕ → List ℕ
+emptied N M w = take (nodes-size N) w ++ (replicate (profiles-size M) 0 ++ drop (workspace-size N M) w)
+
+-- the workspace after each outcome of a search: MEANING 5.12
+abbrev pub kept : (N M : ℕ) → Verdict → List ℕ → List ℕ
+kept N M (Verdict.unread why) w = w
+kept N M (Verdict.refused c) w = cond (eqb c 15) (emptied N M w) w
+kept N M (Verdict.satisfiable stem cycle K c letters) w = emptied N M w
+kept N M (Verdict.unsatisfiable K P) w = emptied N M w
+
+-- The whole promise of a search: the number of nodes that is handed to it too.
+pub record Searched (bytes : List ℕ) (K N M : ℕ) (workspace workspace′ buffer buffer′ : List ℕ) (answer : code.Verdict) : Type 0 where
+  pub answered : answer ≡ says (search-verdict K N M workspace (length buffer) bytes)
+  pub buffered : buffer′ ≡ leaves (search-verdict K N M workspace (length buffer) bytes) buffer
+  pub worked : workspace′ ≡ kept N M (search-verdict K N M workspace (length buffer) bytes) workspace

@@ -1,7 +1,8 @@
 -- What the questions 11 to 13 ask, as facts. Assumes nothing.
 use mathlib.Core.Path.{_≡_}
 use Prim.Native.Nat.{ℕ, _≤_}
-use Rattle.decision.specs.Verdict.{max-nodes, max-profiles, workspace-size, witness-size}
+use Rattle.construction.specs.Construction.{max-nodes}
+use Rattle.decision.specs.Verdict.{max-profiles, workspace-size, witness-size}
 
 -- Question 11: the capacities are in range.
 pub record Capacity (N M : ℕ) : Type 0 where

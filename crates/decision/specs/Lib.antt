@@ -1,4 +1,4 @@
 pub mod Verdict
 pub mod Lends
 pub mod Contract
-pub mod Searched
+pub mod Inner

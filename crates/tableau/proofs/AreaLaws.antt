@@ -9,7 +9,7 @@ use native.Mathlib.Omega.{arith}
 use native.Mathlib.Nat.{sub-zero}
 use native.Mathlib.Numerals.{add-one}
 use lib.Dec.{eqb, ltb}
-use lib.ListN.{length, getD, set, drop, length-append, length-replicate, replicate-append-replicate}
+use lib.ListN.{length, getD, set, take, drop, length-append, length-take, length-replicate, take-append-drop, replicate-append-replicate}
 use lib.Seq.{take-at, drop-drop, drop-append-add, set-at, drop-cons}
 use borrow.Author.Tests.{lt-ltb, le-ltb, eq-eqb, ne-eqb}
 use Rattle.base.specs.Lists.{member, flat-map, index}
@@ -17,7 +17,7 @@ use Rattle.base.specs.Bytes.{with-number}
 use Rattle.base.proofs.AppendLaws.{flat-map-append}
 use Rattle.base.proofs.BytesLaws.{number-bytes, number-behind}
 use Rattle.base.proofs.IndexLaws.{index-any}
-use Rattle.tableau.specs.Area.{bytes8, eight, store, words-at, lookup, zeros}
+use Rattle.tableau.specs.Area.{bytes8, eight, store, words-at, lookup, zeros, cleared}
 use Rattle.tableau.specs.declared.NodeNumber.{NodeNumber}
 use Rattle.tableau.specs.declared.Lookup.{Lookup}
 use Rattle.tableau.specs.declared.Lookup.the-variants.{Number, Absent}
@@ -141,10 +141,27 @@ module _ (a : List ℕ) (known x : ℕ) where
 zeros-more : (n : ℕ) → zeros n ++ (0 ∷ []) ≡ zeros (n + 1)
 zeros-more n = replicate-append-replicate {A = ℕ} n 1 0
 
-pub clear-more : (a b : List ℕ) (i : ℕ) → b ≡ zeros i ++ drop i a → i < length a → set b i 0 ≡ zeros (i + 1) ++ drop (i + 1) a
-clear-more a b i e h =
-    ap (λ (l : List ℕ). set l i 0) (e ∙ ap (λ (l : List ℕ). zeros i ++ l) (drop-cons a i 0 h))
-    ∙ set-at (zeros i) (getD a i 0) (drop (suc i) a) 0 i (length-replicate {A = ℕ} i 0)
-    ∙ sym (append-assoc (zeros i) (0 ∷ []) (drop (suc i) a))
-    ∙ ap (λ (l : List ℕ). l ++ drop (suc i) a) (zeros-more i)
-    ∙ ap (λ (n : ℕ). zeros (i + 1) ++ drop n a) (sym (add-one i))
+-- zeros from a byte on, one more
+module _ (a : List ℕ) (from : ℕ) where
+  pub clear-none : a ≡ cleared from from a
+  clear-none =
+      sym (take-append-drop from a) ∙ ap (λ (n : ℕ). take from a ++ (zeros n ++ drop from a)) {x = 0} {y = from - from} (omega arith)
+
+  pub clear-more : (b : List ℕ) (i : ℕ) → b ≡ cleared from i a → from ≤ i → i < length a → set b i 0 ≡ cleared from (i + 1) a
+  clear-more b i e low high =
+      ap (λ (l : List ℕ). set l i 0) (e ∙ ap (λ (l : List ℕ). take from a ++ (zeros k ++ l)) (drop-cons a i 0 high) ∙ parted _)
+      ∙ set-at (take from a ++ zeros k) (getD a i 0) (drop (suc i) a) 0 i front-length
+      ∙ sym (parted _)
+      ∙ ap (λ (l : List ℕ). take from a ++ l) (sym (append-assoc (zeros k) (0 ∷ []) (drop (suc i) a)))
+      ∙ ap (λ (l : List ℕ). take from a ++ (l ++ drop (suc i) a)) (zeros-more k)
+      ∙ ap (λ (n : ℕ). take from a ++ (zeros n ++ drop (suc i) a)) {x = k + 1} {y = (i + 1) - from} (omega arith)
+      ∙ ap (λ (n : ℕ). take from a ++ (zeros ((i + 1) - from) ++ drop n a)) (sym (add-one i))
+    where
+      k : ℕ
+      k = i - from
+
+      parted : (l : List ℕ) → take from a ++ (zeros k ++ l) ≡ (take from a ++ zeros k) ++ l
+      parted l = sym (append-assoc (take from a) (zeros k) l)
+
+      front-length : length (take from a ++ zeros k) ≡ i
+      front-length = omega (arith, length-append (take from a) (zeros k), length-take from a, length-replicate {A = ℕ} k 0)

@@ -47,6 +47,10 @@ lookup known i = cond (ltb i known) (Number (record { 0 = i })) Absent
 abbrev pub zeros : ℕ → List ℕ
 zeros n = replicate n 0
 
+-- an area with zeros from one byte up to another
+abbrev pub cleared : (from to : ℕ) → List ℕ → List ℕ
+cleared from to a = take from a ++ (zeros (to - from) ++ drop to a)
+
 -- An area of that many bytes has room for capacity nodes, at most 1,024, and known of them have room.
 pub record Node-room (known capacity bytes : ℕ) : Type 0 where
   pub fits : known ≤ capacity

@@ -3,10 +3,9 @@ use formula::Operator;
 use formula::Subformula;
 use letters::Requirement;
 ghost use mathlib.Core.Path.{_≡_};
-ghost use mathlib.Core.List.{_++_};
 ghost use Prim.Native.Nat.{_+_, _*_, _^_, _≤_, _<_};
 ghost use lib.Dec.{eqb};
-ghost use lib.ListN.{length, drop};
+ghost use lib.ListN.{length};
 ghost use Rattle.base.specs.Bits.{bit, word};
 ghost use Rattle.base.specs.Lists.{member, index};
 ghost use Rattle.formula.specs.Rows.{operator-at};
@@ -15,7 +14,7 @@ ghost use Rattle.tableau.specs.Saturation.{moves};
 ghost use Rattle.tableau.specs.Transition.{ors, choice-of};
 ghost use Rattle.tableau.specs.Inner.{table-of, Formed, with-bits, Saturated, Requires-more, Required-by, Target-is};
 ghost use Rattle.tableau.specs.Inner.{Target-by, Widest, Unmet-between, is-unmet, Unmet-ors};
-ghost use Rattle.tableau.specs.Area.{eight, words-at, lookup, zeros, Node-room, Nodes-held, reachable, slot-of, Slots-marked};
+ghost use Rattle.tableau.specs.Area.{eight, words-at, lookup, cleared, Node-room, Nodes-held, reachable, slot-of, Slots-marked};
 ghost use Rattle.tableau.specs.Area.{with-note};
 ghost use Rattle.tableau.specs.Area.{Growing, Node-added, Followed, Expanded};
 ghost use Rattle.tableau.specs.Origins.{Origins};
@@ -511,13 +510,13 @@ pub fn nodes(
     known
 }
 
-// Zeros in the first n bytes.
-pub fn clear(area: &mut [u8], n: usize)
-    requires { ⌜ n ≤ length (now area) ⌝ }
-    ensures { λ _. ⌜ now (area .exit) ≡ zeros n ++ drop n (now (area .entry)) ⌝ }
+// Zeros in the bytes from one up to another.
+pub fn clear(area: &mut [u8], from: usize, to: usize)
+    requires { ⌜ (from ≤ to) × (to ≤ length (now area)) ⌝ }
+    ensures { λ _. ⌜ now (area .exit) ≡ cleared from to (now (area .entry)) ⌝ }
 {
-    let mut i = 0;
-    while i < n {
+    let mut i = from;
+    while i < to {
         area[i] = 0;
         i += 1;
     }

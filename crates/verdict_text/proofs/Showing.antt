@@ -8,7 +8,8 @@ use lib.ListN.{length, take, drop}
 use lib.Seq.{take-append-seam, drop-append-seam}
 use Rattle.text.specs.Text.{each, letter-text}
 use Rattle.decision.specs.Verdict.{Verdict, verdict}
-use Rattle.decision.specs.Contract.{says, leaves, Decided}
+use Rattle.decision.specs.Contract.{says, leaves}
+use Rattle.decision.specs.Inner.{Answers}
 use Rattle.decision.specs.declared.Verdict as code
 use Rattle.decision.specs.declared.Verdict.the-variants.{Satisfiable}
 use Rattle.decision.proofs.Answer.{Says, verdict-says}
@@ -38,9 +39,9 @@ shown-by bytes b (Verdict.satisfiable stem cycle K c letters) h =
     ∙ sym (lasso-parts K c [] w (sym (append-nil letters)) (83 ∷ 32 ∷ []) (76 ∷ 32 ∷ []) (10 ∷ [])))
 shown-by bytes b (Verdict.unsatisfiable K P) h = refl
 
--- Theorem: the text of what the decision answers and leaves is that of the verdict.
-pub shows : {bytes : List ℕ} {N M : ℕ} {w w′ b b′ : List ℕ} {v : code.Verdict} → Decided bytes N M w w′ b b′ v
-    → program-text v b′ ≡ shown-text (verdict N M (length w) (length b) bytes)
-shows {bytes} {N} {M} {w} {b} d =
-    (λ i. program-text (d .answered i) (d .buffered i))
-    ∙ shown-by bytes b (verdict N M (length w) (length b) bytes) (verdict-says N M (length w) (length b) bytes)
+-- Theorem: the text of an answer to a verdict, and of what it leaves in the witness buffer, is that of the verdict.
+pub shows : (N M workspace buffer : ℕ) (bytes : List ℕ) {b b′ : List ℕ} {v : code.Verdict}
+    → Answers (verdict N M workspace buffer bytes) b b′ v → program-text v b′ ≡ shown-text (verdict N M workspace buffer bytes)
+shows N M workspace buffer bytes {b} a =
+    (λ i. program-text (a .answered i) (a .buffered i))
+    ∙ shown-by bytes b (verdict N M workspace buffer bytes) (verdict-says N M workspace buffer bytes)

@@ -1,13 +1,19 @@
 // Decides the formula that stands on standard input, and prints the verdict with the first of the shortest witnesses (MEANING 5.4).
+use construction::Construction;
+use decision::Verdict;
+ghost use lib.ListN.{length};
 ghost use Rattle.io.specs.Counts.{Counts};
-ghost use Rattle.yuktrob.specs.Printed.{Printed};
+ghost use Rattle.decision.specs.Verdict.{verdict};
+ghost use Rattle.decision.specs.Lends.{Lends};
+ghost use Rattle.decision.specs.Inner.{Answers};
+ghost use Rattle.yuktrob.specs.Printed.{nodes, profiles, Printed};
 
 // The capacities, and what the decision asks for them.
 const NODES: usize = 256;
 
 const PROFILES: usize = 300;
 
-const WORKSPACE: usize = decision::NODE_BYTES * NODES + decision::PROFILE_BYTES * PROFILES;
+const WORKSPACE: usize = construction::NODE_BYTES * NODES + decision::PROFILE_BYTES * PROFILES;
 
 const LETTERS: usize = NODES + PROFILES;
 
@@ -27,6 +33,21 @@ fn decided(out: &mut [u8], bytes: &[u8]) -> usize
 {
     let mut workspace = [0u8; WORKSPACE];
     let mut letters = [0u16; LETTERS];
-    let verdict = decision::decide(bytes, NODES, PROFILES, &mut workspace, &mut letters);
+    let verdict = searched(bytes, &mut workspace, &mut letters);
     verdict_text::program_text(out, verdict, &letters)
+}
+
+// The decision, as building and a search over what was built.
+fn searched(bytes: &[u8], workspace: &mut [u8], letters: &mut [u16]) -> Verdict
+    requires { ⌜ Lends nodes profiles (length (now workspace)) (length (now letters)) ⌝ }
+    ensures { λ r. ⌜ Answers (verdict nodes profiles (length (now (workspace .entry))) (length (now (letters .entry)))
+        (now (bytes .entry))) (now (letters .entry)) (now (letters .exit)) r ⌝ }
+{
+    match construction::build(bytes, NODES, workspace) {
+        Construction::Unread(why) => Verdict::Unread(why),
+        Construction::Refused(code) => Verdict::Refused(code),
+        Construction::Built(count) => {
+            decision::search(bytes, count, NODES, PROFILES, workspace, letters)
+        }
+    }
 }

@@ -1,4 +1,4 @@
--- The number that stands for each answer: its lowest byte is the number of a refusal (MEANING 1.4, 2.5, 5.2), or 0, and what the answer
+-- The number that stands for each answer: its lowest byte is the number of a refusal (MEANING 1.4, 2.5, 5.2, 5.11, 5.12), or 0, and what the answer
 -- carries stands above it. include/yuktrob.h says the same in C. Assumes nothing.
 use mathlib.Core.Bool.{cond}
 use mathlib.Core.List.{List}
@@ -11,7 +11,11 @@ use Rattle.formula.specs.Reading.{Reading}
 use Rattle.formula.specs.declared.Refusal.{Refusal}
 use Rattle.lasso.specs.declared.Truth.{Truth}
 use Rattle.lasso.specs.declared.Truth.the-variants as truth
-use Rattle.decision.specs.Verdict.{max-nodes, max-profiles, verdict}
+use Rattle.construction.specs.Construction as building
+use Rattle.construction.specs.Construction.{max-nodes, construction}
+use Rattle.construction.specs.declared.Construction.{Construction}
+use Rattle.construction.specs.declared.Construction.the-variants as construction
+use Rattle.decision.specs.Verdict.{max-profiles, verdict, search-verdict}
 use Rattle.decision.specs.Verdict as meaning
 use Rattle.decision.specs.declared.Verdict.{Verdict}
 use Rattle.decision.specs.declared.Verdict.the-variants as decision
@@ -40,11 +44,17 @@ truth-number (truth.Holds b) = number 0 (cond b 1 0)
 truth-number (truth.Refused code) = number code 0
 truth-number (truth.Unread why) = refusal-number why
 
+-- building: K; or a refusal as for truth
+abbrev pub construction-number : Construction → ℕ
+construction-number (construction.Built K) = number 0 K
+construction-number (construction.Refused code) = number code 0
+construction-number (construction.Unread why) = refusal-number why
+
 -- 1 for MET or 0 for NOT, then the lengths of stem and cycle, K and the profiles counted with 13 bits each, the first lowest
 abbrev pub found : (met stem cycle K c : ℕ) → ℕ
 found met stem cycle K c = met + 2 * (stem + 8192 * (cycle + 8192 * (K + 8192 * c)))
 
--- the decision: that, or a refusal as for truth
+-- the decision and the search: that, or a refusal as for truth
 abbrev pub verdict-number : Verdict → ℕ
 verdict-number (decision.Satisfiable stem cycle K c) = number 0 (found 1 stem cycle K c)
 verdict-number (decision.Unsatisfiable K P) = number 0 (found 0 0 0 K P)
@@ -54,6 +64,14 @@ verdict-number (decision.Unread why) = refusal-number why
 -- the definition's verdict, by the formula's bytes, the capacities and the lent areas
 abbrev pub verdict-of : (bytes : List ℕ) (N M : ℕ) (workspace buffer : List ℕ) → meaning.Verdict
 verdict-of bytes N M workspace buffer = verdict N M (length workspace) (length buffer) bytes
+
+-- the same of building,
+abbrev pub construction-of : (bytes : List ℕ) (N : ℕ) (workspace : List ℕ) → building.Construction
+construction-of bytes N workspace = construction N (length workspace) bytes
+
+-- and of a search over K nodes, which goes by what the workspace holds
+abbrev pub search-of : (bytes : List ℕ) (K N M : ℕ) (workspace buffer : List ℕ) → meaning.Verdict
+search-of bytes K N M workspace buffer = search-verdict K N M workspace (length buffer) bytes
 
 -- Why the numbers fit into 64 bits: by question 11 and MEANING 5.6 the sizes of a verdict have room in 13 bits each.
 pub record Letters-16 (stem cycle K c : ℕ) : Type 0 where
@@ -72,7 +90,13 @@ TruthFits (truth.Holds b) = Unit {0}
 TruthFits (truth.Refused code) = Unit {0}
 TruthFits (truth.Unread why) = Early why
 
--- and of the decision's, whose sizes are small, too
+-- of that of building, which has few nodes,
+abbrev pub ConstructionFits : Construction → Type 0
+ConstructionFits (construction.Built K) = K ≤ max-nodes
+ConstructionFits (construction.Refused code) = Unit {0}
+ConstructionFits (construction.Unread why) = Early why
+
+-- and of those of the decision and the search, whose sizes are small, too
 abbrev pub VerdictFits : Verdict → Type 0
 VerdictFits (decision.Satisfiable stem cycle K c) = Letters-16 stem cycle K c
 VerdictFits (decision.Unsatisfiable K P) = Letters-16 0 0 K P

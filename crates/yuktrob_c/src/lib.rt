@@ -1,4 +1,5 @@
 // The operations with the C calling convention: a slice comes as a pointer and a length, and each answer is one number.
+use construction::Construction;
 use decision::Verdict;
 use formula::Operator;
 use formula::Outcome;
@@ -14,9 +15,11 @@ ghost use Rattle.formula.specs.Rows.{entries-of};
 ghost use Rattle.formula.specs.Access.{decoded, Fits, Readable};
 ghost use Rattle.lasso.specs.Truth.{truth, written};
 ghost use Rattle.lasso.specs.Contract.{lasso, answer};
-ghost use Rattle.decision.specs.Contract.{says, leaves, cleared};
+ghost use Rattle.construction.specs.Contract as built;
+ghost use Rattle.decision.specs.Contract.{says, leaves, cleared, kept};
 ghost use Rattle.yuktrob_c.specs.Numbers.{number, refusal-number, Letters-16, Early, TruthFits, VerdictFits};
 ghost use Rattle.yuktrob_c.specs.Numbers.{reading-number, truth-number, found, verdict-number, verdict-of};
+ghost use Rattle.yuktrob_c.specs.Numbers.{construction-number, construction-of, search-of, ConstructionFits};
 ghost use Rattle.yuktrob_c.specs.Entry.{argument-of, packed, entry-number};
 
 // The lowest byte is a refusal's code or 0; what the answer carries stands above it.
@@ -47,6 +50,17 @@ fn truth_number(t: Truth) -> u64
         Truth::Unread(why) => refusal_number(why),
         Truth::Refused(code) => number(code, 0),
         Truth::Holds(on) => number(0, base::one_if(on)),
+    }
+}
+
+fn construction_number(c: Construction) -> u64
+    requires { ⌜ ConstructionFits c ⌝ }
+    ensures { λ r. ⌜ r ≡ construction-number c ⌝ }
+{
+    match c {
+        Construction::Unread(why) => refusal_number(why),
+        Construction::Refused(code) => number(code, 0),
+        Construction::Built(count) => number(0, count),
     }
 }
 
@@ -175,4 +189,34 @@ pub extern "C" fn yuktrob_decide(
         (verdict-of (now (rule .entry)) nodes profiles (now (work .entry)) (now (course .entry))) (now (work .entry)) ⌝ }
 {
     verdict_number(decision::decide(rule, nodes, profiles, work, course))
+}
+
+// The nodes of a formula, for searches over them.
+#[no_mangle]
+pub extern "C" fn yuktrob_build(rule: &[u8], nodes: usize, work: &mut [u8]) -> u64
+    ensures numbered { λ r. ⌜ r ≡ construction-number (built.says (construction-of (now (rule .entry)) nodes (now (work .entry)))) ⌝ }
+    ensures filled { λ _. ⌜ now (work .exit) ≡ built.leaves nodes
+        (construction-of (now (rule .entry)) nodes (now (work .entry))) (now (work .entry)) ⌝ }
+{
+    construction_number(construction::build(rule, nodes, work))
+}
+
+// Whether any lasso meets a formula, over its nodes as building left them.
+#[no_mangle]
+pub extern "C" fn yuktrob_search(
+    rule: &[u8],
+    built: usize,
+    nodes: usize,
+    profiles: usize,
+    work: &mut [u8],
+    course: &mut [u16],
+) -> u64
+    ensures numbered { λ r. ⌜ r ≡ verdict-number
+        (says (search-of (now (rule .entry)) built nodes profiles (now (work .entry)) (now (course .entry)))) ⌝ }
+    ensures filled { λ _. ⌜ now (course .exit) ≡ leaves
+        (search-of (now (rule .entry)) built nodes profiles (now (work .entry)) (now (course .entry))) (now (course .entry)) ⌝ }
+    ensures emptied { λ _. ⌜ now (work .exit) ≡ kept nodes profiles
+        (search-of (now (rule .entry)) built nodes profiles (now (work .entry)) (now (course .entry))) (now (work .entry)) ⌝ }
+{
+    verdict_number(decision::search(rule, built, nodes, profiles, work, course))
 }

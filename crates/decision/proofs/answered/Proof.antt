@@ -4,7 +4,7 @@ use borrow.Author.Needs.{needs}
 use lib.ListN.{length}
 use Rattle.cycle_search.specs.declared.Sought.{Sought}
 use Rattle.decision.specs.declared.Verdict.the-variants.{Satisfiable, Unsatisfiable, Refused}
-use Rattle.decision.specs.Searched.{Ready, Told}
+use Rattle.decision.specs.Inner.{Ready, Told}
 use Rattle.decision.proofs.answered.Statement.{statement}
 use Rattle.decision.proofs.answered.Tie as tie
 

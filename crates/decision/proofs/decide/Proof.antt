@@ -15,8 +15,8 @@ enum-known-outcome c = search needs
 enum-told : tie.Need-enum-told
 enum-told c = search needs
 
-ask-capacities-requires : tie.Need-ask-capacities-requires
-ask-capacities-requires c κs =
+decided-requires : tie.Need-decided-requires
+decided-requires c κs =
     let read = c .before .before .before .before .before .read in
     let enum-told = c .before .before .enum-told in
     let u = c .before .before .before .before .before .before .before .before .before in
@@ -40,11 +40,10 @@ returns-2 : tie.Need-returns-2
 returns-2 c =
     let read = c .before .before .before .before .before .before .before .before .before .before .read in
     let enum-told = c .before .before .before .before .before .before .before .enum-told in
-    let ask-capacities = c .before .before .before .before .ask-capacities in
+    let decided = c .before .before .before .before .decided in
     let u = c .before .before .before .before .before .before .before .before .before .before .before .before .before .before in
-    held-decided (u .args .bytes .now) (u .args .node-capacity) (u .args .profile-capacity) (u .args .workspace .now)
-    (u .args .witness .now)
-    (reading-held (u .args .bytes .now) (read .result) (read .ensures .0) (enum-told .given .1)) (ask-capacities .ensures)
+    held-decided (u .args .bytes .now) (u .args .node-capacity) (u .args .profile-capacity)
+    (reading-held (u .args .bytes .now) (read .result) (read .ensures .0) (enum-told .given .1)) (decided .ensures)
 
 pub decide-spec : {M : Type 1} → statement M
 decide-spec =
@@ -53,7 +52,7 @@ decide-spec =
     read-requires
     enum-known-outcome
     enum-told
-    ask-capacities-requires
+    decided-requires
     returns
     same-length
     same-length-2

@@ -1,10 +1,11 @@
--- What the functions promise that build the tableau, search the profiles and answer. A reader of the decision's contract need not read
--- it. Assumes nothing.
+-- What the functions promise that ask the questions, build the tableau, search the profiles and answer. A reader of the decision's contract
+-- need not read it. Assumes nothing.
 use mathlib.Core.Path.{_≡_}
-use mathlib.Core.List.{List}
+use mathlib.Core.List.{List, map}
 use mathlib.Core.Option.{Option}
-use Prim.Native.Nat.{ℕ, _*_, _≤_}
-use lib.ListN.{length, drop}
+use Prim.Native.Nat.{ℕ, _*_, _≤_, _<_}
+use lib.ListN.{length}
+use Rattle.base.specs.Bits.{word}
 use Rattle.base.specs.Search.{Item}
 use Rattle.formula.specs.Formula.{Formula}
 use Rattle.formula.specs.Table.{Table, table}
@@ -12,20 +13,22 @@ use Rattle.formula.specs.Reading.{Reading, parse}
 use Rattle.tableau.specs.Transition.{Transition}
 use Rattle.tableau.specs.Nodes.{operands, nodes}
 use Rattle.tableau.specs.Inner.{table-of}
-use Rattle.tableau.specs.Area.{reachable}
+use Rattle.tableau.specs.Area.{words-at, reachable}
 use Rattle.tableau.specs.Origins.{Origins}
+use Rattle.construction.specs.Construction.{node-count}
 use Rattle.profile.specs.Profiles as literal
 use Rattle.profile_tables.specs.Runs.{singles, accepting}
 use Rattle.traces.specs.Inner.{Rows-limited}
-use Rattle.profile_search.specs.Stored.{Store-fits}
+use Rattle.profile_search.specs.Stored.{Store-fits, Bytes-between}
 use Rattle.profile_search.specs.declared.Store.{Store}
 use Rattle.cycle_search.specs.Layers.{Comes-to}
 use Rattle.cycle_search.specs.declared.Sought.{Sought}
 use Rattle.cycle_search.specs.declared.Sought.the-variants as sought
 use Rattle.witness.specs.Letters.{Witness-ready, Witness-written}
 use Rattle.witness.specs.declared.Lengths.{Lengths}
-use Rattle.decision.specs.Verdict.{Verdict, counted, chosen, conclude, decide, workspace-size, ask-capacities}
-use Rattle.decision.specs.Contract.{says, node-count, leaves, cleared}
+use Rattle.decision.specs.Verdict.{Verdict, counted, chosen, conclude, searched, ask-capacities}
+use Rattle.decision.specs.Lends.{Lends}
+use Rattle.decision.specs.Contract.{says, leaves}
 use Rattle.decision.specs.declared.Verdict as code
 use Rattle.decision.specs.declared.Verdict.the-variants.{Satisfiable, Unsatisfiable, Refused}
 
@@ -83,17 +86,33 @@ needed t = length (counted (found-in t) (literal.profiles t (nodes t)))
 abbrev pub concluded : Table → Verdict
 concluded t = conclude (nodes t) (counted (found-in t) (literal.profiles t (nodes t))) (found-in t)
 
--- The area changed at most in its first n bytes.
-pub record Within (n : ℕ) (before after : List ℕ) : Type 0 where
-  pub same-length : length after ≡ length before
-  pub behind : drop n after ≡ drop n before
+-- the definition's verdict behind question 14
+abbrev pub onward : (M : ℕ) → Table → Verdict
+onward M t = searched M t (nodes t)
 
--- The answer to the questions 14 and 15 and what comes after them.
-pub record Searched (t : Table) (N M : ℕ) (area area′ before after : List ℕ) (r : code.Verdict) : Type 0 where
-  pub answers : Answers (decide N M t) before after r
-  pub within : Within (workspace-size N M) area area′
+-- The questions 11 to 13 in their order: the code of the first that refuses, or 0.
+pub record Granted-or (N M workspace buffer code : ℕ) : Type 0 where
+  pub granted : code ≡ 0 → Lends N M workspace buffer
+  pub early : code ≤ 13
+  pub refuses : 0 < code → (v : Verdict) → ask-capacities N M workspace buffer v ≡ Verdict.refused code
 
--- The answer to all questions after reading, and what it leaves.
-pub record Settled (t : Table) (N M : ℕ) (workspace workspace′ buffer buffer′ : List ℕ) (r : code.Verdict) : Type 0 where
-  pub answers : Answers (ask-capacities N M (length workspace) (length buffer) t) buffer buffer′ r
-  pub worked : workspace′ ≡ cleared N M (ask-capacities N M (length workspace) (length buffer) t) workspace
+-- The area has the K nodes of the rows' table at its beginning, their notes are right, and there is as much room as the capacities ask.
+pub record Nodes-ready (rows : List ℕ) (count N M K : ℕ) (origins area : List ℕ) (buffer : ℕ) : Type 0 where
+  pub decoded : Decoded rows count
+  pub lends : Lends N M (length area) buffer
+  pub nodes-are : K ≡ node-count (table-of rows count)
+  pub fits : K ≤ N
+  pub words-are : words-at area 0 K ≡ map word (reachable (table-of rows count))
+  pub notes-are : Origins (table-of rows count) origins K
+  pub notes-room : 2 * N ≤ length origins
+
+-- The answer to a verdict, and of the area only the bytes from one up to another have changed, if any.
+pub record Came-to (v : Verdict) (from to : ℕ) (area area′ before after : List ℕ) (r : code.Verdict) : Type 0 where
+  pub answers : Answers v before after r
+  pub changed : Bytes-between from to area area′
+
+-- The answer to all questions after reading, and what it leaves in both areas.
+pub record Settled (areas : Verdict → List ℕ → List ℕ) (v : Verdict) (workspace workspace′ buffer buffer′ : List ℕ) (r : code.Verdict)
+    : Type 0 where
+  pub answers : Answers v buffer buffer′ r
+  pub worked : workspace′ ≡ areas v workspace

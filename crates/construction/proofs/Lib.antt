@@ -1,0 +1,4 @@
+pub mod RangeLaws
+pub mod LayoutLaws
+pub mod BuildLaws
+pub mod CheckLaws

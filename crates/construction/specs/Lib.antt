@@ -1,0 +1,3 @@
+pub mod Construction
+pub mod Contract
+pub mod Inner

@@ -1,0 +1,59 @@
+-- `decision::search` passes a refusal of reading on; else the table is that of the formula in the bytes, and the answer over it is the
+-- search's.
+use borrow.Author.Needs.{needs}
+use Rattle.formula.proofs.RowLaws.{reading-held, reading-refused}
+use Rattle.decision.proofs.SettleLaws.{held-searched, unread-searched, held-decoded}
+use Rattle.decision.proofs.search.Statement.{statement}
+use Rattle.decision.proofs.search.Tie as tie
+
+read-requires : tie.Need-read-requires
+read-requires c κs = search needs
+
+enum-known-outcome : tie.Need-enum-known-outcome
+enum-known-outcome c = search needs
+
+enum-told : tie.Need-enum-told
+enum-told c = search needs
+
+resumed-requires : tie.Need-resumed-requires
+resumed-requires c κs =
+    let read = c .before .before .before .before .before .read in
+    let enum-told = c .before .before .enum-told in
+    let u = c .before .before .before .before .before .before .before .before .before in
+    held-decoded (reading-held (u .args .bytes .now) (read .result) (read .ensures .0) (enum-told .given .1))
+
+returns : tie.Need-returns
+returns c =
+    let read = c .before .before .before .before .read in
+    let u = c .before .before .before .before .before .before .before .before in
+    unread-searched (u .args .bytes .now) (u .args .node-capacity) (u .args .profile-capacity) (u .args .workspace .now)
+    (u .args .witness .now)
+    (reading-refused (u .args .bytes .now) (read .result) (read .ensures .0) (c .before .outcome .given .1)) (u .args .nodes)
+
+same-length : tie.Need-same-length
+same-length c = search needs
+
+same-length-2 : tie.Need-same-length-2
+same-length-2 c = search needs
+
+returns-2 : tie.Need-returns-2
+returns-2 c =
+    let read = c .before .before .before .before .before .before .before .before .before .before .read in
+    let enum-told = c .before .before .before .before .before .before .before .enum-told in
+    let resumed = c .before .before .before .before .resumed in
+    let u = c .before .before .before .before .before .before .before .before .before .before .before .before .before .before in
+    held-searched (u .args .bytes .now) (u .args .node-capacity) (u .args .profile-capacity) (u .args .nodes)
+    (reading-held (u .args .bytes .now) (read .result) (read .ensures .0) (enum-told .given .1)) (resumed .ensures)
+
+pub search-spec : {M : Type 1} → statement M
+search-spec =
+    tie.close
+    (tie.spec
+    read-requires
+    enum-known-outcome
+    enum-told
+    resumed-requires
+    returns
+    same-length
+    same-length-2
+    returns-2)
