@@ -25,7 +25,8 @@ use Rattle.construction.specs.Inner.{Settled}
 use Rattle.construction.specs.declared.Construction as code
 use Rattle.construction.specs.declared.Construction.the-variants.{Built, Refused, Unread}
 use Rattle.construction.proofs.RangeLaws.{between-of, between-in}
-use Rattle.construction.proofs.LayoutLaws.{words-count, cleared-front, behind-zeros, held-beyond, held-many, held-count, held-laid-out}
+use Rattle.construction.proofs.LayoutLaws.{words-count, cleared-front, behind-zeros}
+use Rattle.construction.proofs.LayoutLaws.{held-beyond, held-many, held-count, held-laid-out}
 
 -- question 11 for N, as a fact
 abbrev pub In-range : ℕ → Type 0

@@ -24,7 +24,8 @@ use Rattle.decision.specs.Contract.{says, profile-count, profile-count-w
 use Rattle.decision.specs.declared.Verdict as code
 use Rattle.decision.specs.declared.Verdict.the-variants.{Satisfiable, Unsatisfiable, Refused, Unread}
 use Rattle.decision.specs.Lends.{Lends}
-use Rattle.decision.proofs.VerdictLaws.{Shortest, Profiles-fit, Concluded, witness-shortest, one-shortest, From14, questions, asked-all}
+use Rattle.decision.proofs.VerdictLaws.{Shortest, Profiles-fit, Concluded, witness-shortest, one-shortest}
+use Rattle.decision.proofs.VerdictLaws.{From14, questions, asked-all}
 use Rattle.decision.proofs.VerdictLaws.{concluded-cases, Verdict-cases, verdict-answered}
 use Rattle.decision.proofs.Answer.{lasso, past-13, read-of, witness-such, witness-holds, no-lasso}
 

@@ -1,5 +1,5 @@
--- The decision is the two in a row: build, and search over what building left. With the questions 11 to 13 asked first, as the decision asks
--- them, both come to the same verdict for every input (`pair-is-decision`); and of two calls, one after the other, the answer and the
+-- The decision is the two in a row: build, and search over what building left. With the questions 11 to 13 asked first, as the decision
+-- asks them, both come to the same verdict for every input (`pair-is-decision`); and of two calls, one after the other, the answer and the
 -- buffer are the decision's, and so is the workspace once what the two left in it is cleared away (`two-in-a-row`). Question 36 never
 -- refuses in between, as it accepts what building leaves. Assumes nothing.
 use mathlib.Core.Path.{_≡_, refl, sym, ap, subst⁻¹, _∙_}
@@ -191,10 +191,17 @@ module _ (bytes : List ℕ) (N M : ℕ) (w b : List ℕ) (l : Lends N M (length 
   two-in-a-row c =
       subst⁻¹ (λ (x : built-code.Construction × List ℕ). In-a-row (x .0) (x .1)) (λ i. (c .answered i, c .worked i)) (each made-cases)
     where
+      emptied-front : List ℕ
+      emptied-front = zeros (nodes-size N) ++ drop (nodes-size N) w
+
+      zeroed-rest : area.cleared 0 (workspace-size N M) emptied-front ≡ zeroed N M w
+      zeroed-rest =
+          cleared-front (workspace-size N M) emptied-front
+          ∙ ap (λ (l : List ℕ). zeros (workspace-size N M) ++ l)
+          (behind-front (zeros (nodes-size N)) w N (length-replicate {A = ℕ} (nodes-size N) 0) (profiles-size M))
+
       each : {o : Construction} → Made o → In-a-row (built.says o) (built.leaves N o w)
       each (Made.not-read p) = unread-decided bytes N M w b p
       each (Made.too-many f p n) =
-          promised f p (first-refusal (from-14 N M (table f)) n) refl refl
-          (cleared-front (workspace-size N M) (zeros (nodes-size N) ++ drop (nodes-size N) w)
-          ∙ ap (λ (l : List ℕ). zeros (workspace-size N M) ++ l) (behind-front (zeros (nodes-size N)) w N (length-replicate {A = ℕ} (nodes-size N) 0) (profiles-size M)))
+          promised f p (first-refusal (from-14 N M (table f)) n) refl refl zeroed-rest
       each (Made.nodes-left f p few) = searched-on f p few

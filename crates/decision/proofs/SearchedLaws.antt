@@ -1,6 +1,6 @@
 -- The nodes and then the profiles in the workspace: what the searches promise, put together. The nodes stand at the beginning of the
--- workspace, found from the root or left there by building, and the store of profiles behind them; the search for an accepting cycle changes
--- the store alone. Assumes nothing.
+-- workspace, found from the root or left there by building, and the store of profiles behind them; the search for an accepting cycle
+-- changes the store alone. Assumes nothing.
 use mathlib.Core.Path.{_≡_, refl, sym, ap, subst, _∙_}
 use mathlib.Core.Bool.{Bool, true}
 use mathlib.Core.List.{List, [], _++_, map, List·Memᴰ}

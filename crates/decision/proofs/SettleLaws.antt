@@ -28,8 +28,8 @@ use Rattle.profile.specs.Profiles as literal
 use Rattle.profile_search.specs.Stored.{Bytes-between}
 use Rattle.construction.specs.Construction.{node-count, nodes-size, are-nodes}
 use Rattle.construction.proofs.LayoutLaws.{cleared-front}
-use Rattle.decision.specs.Verdict.{Verdict, counted, conclude, decide, search, profiles-size, workspace-size, witness-size, ask-capacities}
-use Rattle.decision.specs.Verdict.{after-reading, verdict, search-verdict}
+use Rattle.decision.specs.Verdict.{Verdict, counted, conclude, decide, search, profiles-size, workspace-size, witness-size}
+use Rattle.decision.specs.Verdict.{ask-capacities, after-reading, verdict, search-verdict}
 use Rattle.decision.specs.Lends.{Capacity, Lends}
 use Rattle.decision.specs.Contract.{says, leaves, zeroed, cleared, emptied, kept, Decided, Searched}
 use Rattle.decision.specs.Inner.{Decoded, Answers, Granted-or, Came-to, Settled, found-in, needed, concluded, onward}

@@ -1,5 +1,6 @@
 -- The sizes of a verdict are small, as N is at most 1,024 and M at most 4,096 where it is given, and a refusal of reading is early
--- (Bounds); so the number of every verdict fits. A search answers as the decision does, or 36; building has at most N nodes. Assumes nothing.
+-- (Bounds); so the number of every verdict fits. A search answers as the decision does, or 36; building has at most N nodes. Assumes
+-- nothing.
 use mathlib.Core.Path.{_≡_, refl, subst⁻¹}
 use mathlib.Core.Logic.{inl, inr}
 use mathlib.Core.List.{List}

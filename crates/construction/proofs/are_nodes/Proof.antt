@@ -33,7 +33,8 @@ returns : tie.Need-returns
 returns c =
     let u = c .before .before .before .before .before .before .before .before .before .args in
     let t = table-of (u .rows .now) (u .count) in
-    (check-many (u .nodes) (u .node-capacity) (u .area .now) t (c .before .before .before .before .nodes .ensures .0) (c .if1 .taken), no-notes)
+    let held = c .before .before .before .before .nodes .ensures .0 in
+    (check-many (u .nodes) (u .node-capacity) (u .area .now) t held (c .if1 .taken), no-notes)
 
 same-length-2 : tie.Need-same-length-2
 same-length-2 c = search needs
@@ -42,7 +43,8 @@ returns-2 : tie.Need-returns-2
 returns-2 c =
     let u = c .before .before .before .before .before .before .before .before .before .before .args in
     let t = table-of (u .rows .now) (u .count) in
-    (check-other (u .nodes) (u .node-capacity) (u .area .now) t (c .before .before .before .before .before .nodes .ensures .0) (c .before .if1 .left) (c .if2 .taken), no-notes)
+    let held = c .before .before .before .before .before .nodes .ensures .0 in
+    (check-other (u .nodes) (u .node-capacity) (u .area .now) t held (c .before .if1 .left) (c .if2 .taken), no-notes)
 
 slice-aggregate-same-bytes : tie.Need-slice-aggregate-same-bytes
 slice-aggregate-same-bytes c = search needs

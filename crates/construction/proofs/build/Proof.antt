@@ -17,8 +17,9 @@ enum-told c = search needs
 
 ask-room-requires : tie.Need-ask-room-requires
 ask-room-requires c κs =
-    let read = c .before .before .before .before .read in
-    held-formed (reading-held (c .before .before .before .before .before .before .before .args .bytes .now) (read .result) (read .ensures .0) (c .before .enum-told .given .1))
+    let read = c .before .before .before .before in
+    let u = read .before .before .before .args in
+    held-formed (reading-held (u .bytes .now) (read .read .result) (read .read .ensures .0) (c .before .enum-told .given .1))
 
 returns : tie.Need-returns
 returns c =
@@ -32,10 +33,12 @@ same-length c = search needs
 
 returns-2 : tie.Need-returns-2
 returns-2 c =
-    let read = c .before .before .before .before .before .before .before .read in
-    let u = c .before .before .before .before .before .before .before .before .before .before .args in
+    let told = c .before .before .before .before in
+    let read = told .before .before .before in
+    let u = read .before .before .before .args in
     held-constructed (u .bytes .now) (u .node-capacity) (u .workspace .now)
-    (reading-held (u .bytes .now) (read .result) (read .ensures .0) (c .before .before .before .before .enum-told .given .1)) (c .before .before .ask-room .ensures)
+    (reading-held (u .bytes .now) (read .read .result) (read .read .ensures .0) (told .enum-told .given .1))
+    (c .before .before .ask-room .ensures)
 
 pub build-spec : {M : Type 1} → statement M
 build-spec =
