@@ -47,6 +47,14 @@ pub fn lent_words(s: &mut [u64], n: usize) -> &mut [u64] {
     s
 }
 
+// The bytes behind the first n, where there are so many.
+pub fn rest_bytes(s: &[u8], n: usize) -> &[u8] {
+    if n <= s.len() {
+        return &s[n..];
+    }
+    &s[0..0]
+}
+
 // How many bytes are zero from the start on.
 fn zeros(area: &[u8]) -> usize {
     let mut i = 0;
@@ -93,12 +101,33 @@ fn kept_words(area: &[u64]) -> usize {
     area.len()
 }
 
+// How many bytes from the start on are as before.
+fn alike(before: &[u8], area: &[u8]) -> usize {
+    let mut i = 0;
+    while i < before.len() {
+        if area.len() <= i {
+            return i;
+        }
+        if area[i] != before[i] {
+            return i;
+        }
+        i += 1;
+    }
+    i
+}
+
 // The notes behind an outcome: how many bytes are zero from the start on, how many at the end are as they were, and how many were lent.
 pub fn note_bytes(area: &[u8]) {
     put(b" | work: zero");
     number(b' ', zeros(area));
     put(b", kept");
     kept(kept_bytes(area), area.len());
+}
+
+// How many of the bytes at the area's start are as before, from the first on, and how many there were.
+pub fn note_nodes(before: &[u8], area: &[u8]) {
+    put(b" | nodes: kept");
+    kept(alike(before, area), before.len());
 }
 
 pub fn note_letters(area: &[u16]) {

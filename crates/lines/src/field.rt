@@ -7,15 +7,12 @@ ghost use lib.ListN.{length};
 // Stands for a number that is broken: no field has one so large.
 pub const BROKEN: usize = usize::MAX;
 
-// The last of three numbers, if none is broken.
-pub fn unbroken(a: usize, b: usize, last: usize) -> usize {
-    if a == BROKEN {
+// The second of two numbers, if the first is not broken.
+pub fn unbroken(first: usize, second: usize) -> usize {
+    if first == BROKEN {
         return BROKEN;
     }
-    if b == BROKEN {
-        return BROKEN;
-    }
-    last
+    second
 }
 
 pub fn same(a: &[u8], b: &[u8]) -> bool {
@@ -72,6 +69,11 @@ pub fn lent(field: &[u8], place: usize, words: usize, otherwise: usize) -> usize
     if !is_lent(field) {
         return otherwise;
     }
+    number_of(field, place, words)
+}
+
+// The number in this place of a field that has so many words and no more.
+pub fn number_of(field: &[u8], place: usize, words: usize) -> usize {
     if has_part(field, b' ', words) {
         return BROKEN;
     }

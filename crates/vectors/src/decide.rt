@@ -3,11 +3,9 @@
 // followed by how many bytes are zero from the start on and how many of each area at its end are as they were.
 use decision::Verdict;
 use lines::area;
-use lines::field::BROKEN;
-use lines::field::has_part;
 use lines::field::is_lent;
 use lines::field::lent;
-use lines::field::number;
+use lines::field::number_of;
 use lines::field::part;
 use lines::field::unbroken;
 use lines::say;
@@ -16,18 +14,18 @@ ghost use lib.ListN.{length};
 
 // What a line asks for: N and M, how much of the two areas is lent, and whether they are shown afterwards. A broken line asks for more
 // bytes than there are.
-struct Case {
-    n: usize,
-    m: usize,
-    work: usize,
-    course: usize,
-    shown: bool,
+pub(crate) struct Case {
+    pub(crate) n: usize,
+    pub(crate) m: usize,
+    pub(crate) work: usize,
+    pub(crate) course: usize,
+    pub(crate) shown: bool,
 }
 
 pub(crate) fn outcome(line: &[u8], s: &[u8]) {
     let mut workspace = room();
     let mut letters = [48879u16; 8192];
-    let a = asked(line);
+    let a = asked(line, 3);
     if is_beyond(a.work, a.course) {
         say::malformed();
         return;
@@ -43,22 +41,27 @@ pub(crate) fn outcome(line: &[u8], s: &[u8]) {
     );
 }
 
-fn is_beyond(work: usize, course: usize) -> bool {
+// Whether more is asked for than there is.
+pub(crate) fn is_beyond(work: usize, course: usize) -> bool {
     if 800000 < work {
         return true;
     }
     8192 < course
 }
 
-fn asked(line: &[u8]) -> Case {
+// What the line asks for, where the field in this place may say how much is lent.
+pub(crate) fn asked(line: &[u8], place: usize) -> Case {
     let sizes = part(line, b'|', 2);
-    let said = part(line, b'|', 3);
-    let n = number(part(sizes, b' ', 0));
-    let m = second(sizes);
+    let said = part(line, b'|', place);
+    let n = number_of(sizes, 0, 2);
+    let m = number_of(sizes, 1, 2);
     Case {
         n: n,
         m: m,
-        work: unbroken(n, m, lent(said, 1, 3, decision::workspace_size(n, m))),
+        work: unbroken(
+            n,
+            unbroken(m, lent(said, 1, 3, decision::workspace_size(n, m))),
+        ),
         course: lent(said, 2, 3, decision::witness_size(n, m)),
         shown: is_lent(said),
     }
@@ -72,7 +75,7 @@ fn noted(verdict: Verdict, workspace: &[u8], letters: &[u16], shown: bool) {
     }
 }
 
-fn told(verdict: Verdict, letters: &[u16]) {
+pub(crate) fn told(verdict: Verdict, letters: &[u16]) {
     match verdict {
         Verdict::Satisfiable {
             stem,
@@ -125,16 +128,8 @@ fn hex_letter(letter: u16) {
 }
 
 // The `ensures` gives only the length.
-fn room() -> [u8; 800000]
+pub(crate) fn room() -> [u8; 800000]
     ensures { λ r. ⌜ 800000 ≡ length r ⌝ }
 {
     [165; 800000]
-}
-
-// The second number, which is the last.
-fn second(sizes: &[u8]) -> usize {
-    if has_part(sizes, b' ', 2) {
-        return BROKEN;
-    }
-    number(part(sizes, b' ', 1))
 }

@@ -1,7 +1,9 @@
 // Runs lines of vectors from standard input and writes what each comes to. A line has an operation and its inputs, parted by bars; what
 // stands behind the last of them is passed over. A kind of line is a module with a function `outcome`, and a number in `kind`.
+mod build;
 mod decide;
 mod read;
+mod search;
 mod truth;
 
 use lines::area::start_bytes;
@@ -42,6 +44,8 @@ fn told(line: &[u8]) {
         1 => read::outcome(s),
         2 => truth::outcome(line, s),
         3 => decide::outcome(line, s),
+        4 => build::outcome(line, s),
+        5 => search::outcome(line, s),
         _ => say::malformed(),
     }
 }
@@ -56,6 +60,12 @@ fn kind(name: &[u8]) -> u8 {
     }
     if same(name, b"decide") {
         return 3;
+    }
+    if same(name, b"build") {
+        return 4;
+    }
+    if same(name, b"search") {
+        return 5;
     }
     0
 }

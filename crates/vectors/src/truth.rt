@@ -42,7 +42,7 @@ fn asked(places: &mut [u16], line: &[u8]) -> Case {
     Case {
         stem: stem,
         letters: letters,
-        room: unbroken(stem, letters, lent(said, 1, 2, letters)),
+        room: unbroken(stem, unbroken(letters, lent(said, 1, 2, letters))),
         shown: is_lent(said),
     }
 }
