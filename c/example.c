@@ -1,5 +1,6 @@
 /* Lists the entries of a rule, decides a few, one of them with little room, tries the course of each that has one, and a course that is
- * refused. Each answer is asked for a refusal before it is taken apart. */
+ * refused; then builds the nodes of a rule once and searches them with little room, with more, and for another rule. Each answer is asked
+ * for a refusal before it is taken apart. */
 #include "../include/yuktrob.h"
 #include <stdio.h>
 
@@ -47,10 +48,8 @@ static void try_course(const uint8_t *rule, size_t rule_len, const uint16_t *pla
     }
 }
 
-/* The decision with room for so many profiles, PROFILES at most. */
-static void decide_within(size_t profiles, const uint8_t *rule, size_t rule_len) {
-    uint64_t answer =
-        yuktrob_decide(rule, rule_len, NODES, profiles, work, sizeof work, course, sizeof course / sizeof course[0]);
+/* What a decision or a search answered. */
+static void print_verdict(uint64_t answer, const uint8_t *rule, size_t rule_len) {
     if (yuktrob_refusal(answer)) {
         print_refusal(answer);
     } else if (yuktrob_is_met(answer)) {
@@ -62,7 +61,38 @@ static void decide_within(size_t profiles, const uint8_t *rule, size_t rule_len)
     }
 }
 
+/* The decision with room for so many profiles, PROFILES at most. */
+static void decide_within(size_t profiles, const uint8_t *rule, size_t rule_len) {
+    uint64_t answer =
+        yuktrob_decide(rule, rule_len, NODES, profiles, work, sizeof work, course, sizeof course / sizeof course[0]);
+    print_verdict(answer, rule, rule_len);
+}
+
 static void decide(const uint8_t *rule, size_t rule_len) { decide_within(PROFILES, rule, rule_len); }
+
+/* Builds the nodes of a rule in the work area and prints each as a word: how many there are. */
+static size_t build(const uint8_t *rule, size_t rule_len) {
+    uint64_t answer = yuktrob_build(rule, rule_len, NODES, work, sizeof work);
+    if (yuktrob_refusal(answer)) {
+        print_refusal(answer);
+        return 0;
+    }
+    printf("K %u:", yuktrob_built(answer));
+    for (size_t i = 0; i < yuktrob_built(answer); i++) {
+        uint64_t node = 0;
+        for (size_t j = 8; j > 0; j--) node = node << 8 | work[YUKTROB_NODES_LEN(i) + j - 1];
+        printf(" %llx", (unsigned long long)node);
+    }
+    printf("\n");
+    return yuktrob_built(answer);
+}
+
+/* The search over the nodes in the work area, with room for so many profiles, PROFILES at most. */
+static void search_within(size_t profiles, size_t built, const uint8_t *rule, size_t rule_len) {
+    size_t places = sizeof course / sizeof course[0];
+    uint64_t answer = yuktrob_search(rule, rule_len, built, NODES, profiles, work, sizeof work, course, places);
+    print_verdict(answer, rule, rule_len);
+}
 
 int main(void) {
     const uint8_t eventually[] = {0x09, 0x06, 0x03, 0x00, 0x08, 0x05, 0x00}; /* sooner or later signal 0 */
@@ -88,5 +118,10 @@ int main(void) {
     decide(never_previous, sizeof never_previous);
     try_course(never_previous, sizeof never_previous, handover, 2, 1);
     try_course(never_previous, sizeof never_previous, no_flag, 2, 1);
+    size_t built = build(often, sizeof often);
+    search_within(3, built, often, sizeof often);
+    search_within(4, built, often, sizeof often);
+    search_within(4, built, eventually, sizeof eventually);
+    build(unguarded, sizeof unguarded);
     return 0;
 }

@@ -1,4 +1,4 @@
-/* Rules of tractor-guidance terminals: reading, truth on a repeating course, and the decision.
+/* Rules of tractor-guidance terminals: reading, truth on a repeating course, and the decision, at once or in two: building and search.
  *
  * Each function answers one number. Its lowest byte is the number of a refusal, or 0; what the answer carries stands above it:
  *   reading    accepted: the number of entries; refused 1 to 9: its places
@@ -7,6 +7,8 @@
  *   truth      told: 1 for true, 0 for false; refused 1 to 9: its places; refused 16 to 19: nothing
  *   decision   1 + 2 * sizes for MET, 2 * sizes for NOT, where sizes has 13 bits each for lead-in length, loop length, nodes and
  *              profiles, the first lowest; refused 1 to 9: its places; refused 11 to 15: nothing
+ *   building   built: the number of nodes, K; refused 1 to 9: its places; refused 11, 12 or 14: nothing
+ *   search     MET and NOT as the decision has them; refused 1 to 9: its places; refused 11 to 13, 15 or 36: nothing
  * The places of a refusal are 8 bits for the byte's place and, of 8 alone, 8 bits above them for where the variable's fixpoint begins.
  * docs/FORMULAS.md lists the refusals; later versions may have more. Ask for a refusal before taking an answer apart.
  *
@@ -28,8 +30,10 @@
 #define YUKTROB_PREVIOUS_SCALE 0x4000u
 #define YUKTROB_CURRENT_SCALE 0x8000u
 
-/* How large the areas must be: the bytes of the work area and the places of the course buffer of a decision, the words of truth. */
-#define YUKTROB_WORK_LEN(nodes, profiles) ((size_t)8 * (nodes) + (size_t)192 * (profiles))
+/* How large the areas must be: the bytes of the work area of building, which are the first ones of a search's; the bytes of the work area
+ * and the places of the course buffer of a decision or a search; the words of truth. */
+#define YUKTROB_NODES_LEN(nodes) ((size_t)8 * (nodes))
+#define YUKTROB_WORK_LEN(nodes, profiles) (YUKTROB_NODES_LEN(nodes) + (size_t)192 * (profiles))
 #define YUKTROB_COURSE_LEN(nodes, profiles) ((size_t)(nodes) + (size_t)(profiles))
 #define YUKTROB_WORDS_LEN(places) ((size_t)(places))
 
@@ -64,6 +68,24 @@ uint64_t yuktrob_truth(const uint8_t *rule, size_t rule_len, const uint16_t *pla
 uint64_t yuktrob_decide(const uint8_t *rule, size_t rule_len, size_t nodes, size_t profiles, uint8_t *work, size_t work_len,
                         uint16_t *course, size_t course_len);
 
+/* Builds the nodes of a rule's graph, with room for so many, to be searched as often as need be. The first YUKTROB_NODES_LEN(nodes) bytes
+ * of the work area then have the nodes: eight bytes each, the lowest first, bit e for entry e, and zeros behind the last. The root comes
+ * first, and the others stand in the order in which they are first come to, breadth first, a node's steps by rising pick word. After 14,
+ * which says that there are more nodes, these bytes are zero; after any other refusal they are unchanged. The bytes behind them are
+ * unchanged always, and 12 does not ask for them. */
+uint64_t yuktrob_build(const uint8_t *rule, size_t rule_len, size_t nodes, uint8_t *work, size_t work_len);
+
+/* The decision over nodes that are built: built is K as building answered it, and the work area begins with the YUKTROB_NODES_LEN(nodes)
+ * bytes that it left, in their place or copied to a larger area, with anything behind them. The answer and the course are those of
+ * yuktrob_decide with the same room, and a search that is refused with 15 can be repeated over the same nodes with more profiles.
+ *
+ * 36, which is asked behind 13 and before 15, says that built or these bytes are not what building with so many nodes leaves for this rule:
+ * they are another rule's, or have been changed, or the rule has more nodes than that. After MET, NOT and 15 the nodes are unchanged, and
+ * the bytes behind them, up to YUKTROB_WORK_LEN(nodes, profiles), are zero; otherwise the work area is unchanged. The course buffer is
+ * written by MET alone, and then begins with the course. */
+uint64_t yuktrob_search(const uint8_t *rule, size_t rule_len, size_t built, size_t nodes, size_t profiles, uint8_t *work, size_t work_len,
+                        uint16_t *course, size_t course_len);
+
 /* Taking an answer apart. Every answer: the refusal's number, or 0; whether the refusal has a byte's place; and the place. Then whether it
  * has a fixpoint's place too, which 8 alone has; and that place. */
 static inline unsigned yuktrob_refusal(uint64_t answer) { return (unsigned)(answer & 255); }
@@ -83,8 +105,11 @@ static inline unsigned yuktrob_end(uint64_t answer) { return (unsigned)(answer >
 /* Truth, not refused. */
 static inline int yuktrob_is_true(uint64_t answer) { return (answer & 255) == 0 && answer >> 8 == 1; }
 
-/* A decision, not refused; the lengths are 0 after NOT. The nodes are K. After NOT the profiles are P; after MET they are those of runs of
- * at most as many steps as the loop has. */
+/* Building, not refused: K. */
+static inline unsigned yuktrob_built(uint64_t answer) { return (unsigned)(answer >> 8); }
+
+/* A decision or a search, not refused; the lengths are 0 after NOT. The nodes are K. After NOT the profiles are P; after MET they are those
+ * of runs of at most as many steps as the loop has. */
 static inline int yuktrob_is_met(uint64_t answer) { return (answer & 255) == 0 && (answer >> 8 & 1) == 1; }
 static inline unsigned yuktrob_lead_len(uint64_t answer) { return (unsigned)(answer >> 9 & 8191); }
 static inline unsigned yuktrob_loop_len(uint64_t answer) { return (unsigned)(answer >> 22 & 8191); }

@@ -1,5 +1,9 @@
 //! One input through the proved library and the independent implementation: what differs, if anything.
 
+mod building;
+
+pub use building::{Buildings, Changed};
+
 use crate::least::{self, Course};
 use crate::random::{nesting, Random};
 use crate::reading::{self, Unreadable};
@@ -244,8 +248,14 @@ pub fn truth(random: &mut Random, Input { rule, turn }: &Input, longest: usize, 
     Err(format!("truth {rule:02x?} on {course:04x?} lead-in {lead_len} room {room}: {ours:?} {words:?}, not {theirs:?} {after:?}"))
 }
 
-/// The areas that are lent again and again.
+/// The areas that are lent again and again, to each implementation its own.
 pub struct Areas {
+    ours: Side,
+    theirs: Side,
+}
+
+#[derive(Clone)]
+struct Side {
     work: Vec<u8>,
     course: Vec<u16>,
 }
@@ -254,9 +264,14 @@ impl Areas {
     #[allow(clippy::new_without_default)]
     pub fn new() -> Self {
         let (n, m) = (MOST_NODES + 1, MOST_PROFILES + 1);
-        Areas { work: vec![0; work_len(n, m) + 64], course: vec![0; course_len(n, m) + 64] }
+        let side = Side { work: vec![0; work_len(n, m) + 64], course: vec![0; course_len(n, m) + 64] };
+        Areas { ours: side.clone(), theirs: side }
     }
 }
+
+/// What areas hold before they are lent.
+const WORK_PATTERN: u8 = 0xa5;
+const COURSE_PATTERN: u16 = 0x5a5a;
 
 /// Room for nodes and profiles, and how much of the areas is lent.
 #[derive(Clone, Copy, Debug)]
@@ -315,7 +330,7 @@ fn our_verdict(answer: Result<yuktrob::Verdict, Refusal>) -> Settled {
     }
 }
 
-fn their_verdict(answer: Verdict) -> (Settled, Vec<u16>) {
+fn their_verdict(answer: Verdict) -> Told {
     match answer {
         Verdict::Unread(why) => (Settled::Refused(theirs(why)), Vec::new()),
         Verdict::Refused(number) => (Settled::Refused(placeless(number)), Vec::new()),
@@ -345,6 +360,7 @@ pub struct Decisions {
     pub again: u64,
     pub rooms: Rooms,
     pub courses: Courses,
+    pub buildings: Buildings,
 }
 
 /// What M, the room for profiles, did in decisions. What is needed are the profiles of runs of at most as many steps as the shortest good
@@ -466,11 +482,12 @@ impl Courses {
     }
 }
 
-/// The decision: the answer, the work area, and the course buffer; of a small rule that the course is the one it must be among all as
-/// short; and often that more room changes neither a verdict nor its numbers nor its course.
+/// The decision: the answer, the work area, and the course buffer; that building and search in a row come to the same; of a small rule that
+/// the course is the one it must be among all as short; and often that more room changes neither a verdict nor its numbers nor its course.
 pub fn decision(random: &mut Random, rule: &[u8], areas: &mut Areas, decisions: &mut Decisions) -> Result<(), String> {
     let lent = lent(random, rule);
     let told = decided(rule, lent, areas)?;
+    decisions.buildings.check(random, rule, lent, &told, areas)?;
     let (settled, course) = &told;
     decisions.rooms.count(rule, lent, settled);
     if matches!(settled, Settled::Refused(_)) {
@@ -491,11 +508,13 @@ pub fn decision(random: &mut Random, rule: &[u8], areas: &mut Areas, decisions: 
     Ok(())
 }
 
-/// The answer of both and the course given.
-fn decided(rule: &[u8], lent: Lent, areas: &mut Areas) -> Result<(Settled, Vec<u16>), String> {
-    let (work, buffer) = (&mut areas.work[..lent.work], &mut areas.course[..lent.course]);
-    work.fill(0xa5);
-    buffer.fill(0x5a5a);
+/// The answer of both, and the course given.
+type Told = (Settled, Vec<u16>);
+
+fn decided(rule: &[u8], lent: Lent, Areas { ours: Side { work, course }, .. }: &mut Areas) -> Result<Told, String> {
+    let (work, buffer) = (&mut work[..lent.work], &mut course[..lent.course]);
+    work.fill(WORK_PATTERN);
+    buffer.fill(COURSE_PATTERN);
     let ours = our_verdict(yuktrob::decide(rule, lent.n, lent.m, work, buffer));
     let (theirs, course) = their_verdict(decision::decide(rule, lent.n, lent.m, lent.work, lent.course));
     let fail = |what: &str| Err(format!("decide {rule:02x?} {lent:?}: {what}: {ours:?}, not {theirs:?}"));
@@ -503,11 +522,11 @@ fn decided(rule: &[u8], lent: Lent, areas: &mut Areas) -> Result<(Settled, Vec<u
         return fail("answer");
     }
     let (cleared, kept) = work.split_at(zeros(&theirs, lent));
-    if cleared.iter().any(|&b| b != 0) || kept.iter().any(|&b| b != 0xa5) {
+    if cleared.iter().any(|&b| b != 0) || kept.iter().any(|&b| b != WORK_PATTERN) {
         return fail("work area");
     }
     let (found, rest) = buffer.split_at(course.len());
-    if rest.iter().any(|&p| p != 0x5a5a) {
+    if rest.iter().any(|&p| p != COURSE_PATTERN) {
         return fail("course buffer");
     }
     if found != course {

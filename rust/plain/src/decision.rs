@@ -5,7 +5,10 @@
 use crate::reading::{read, Command, Unreadable};
 use crate::scale;
 use std::collections::{HashMap, HashSet};
-use std::ops::Range;
+use std::ops::{Range, RangeInclusive};
+
+/// The numbers of nodes for which room may be asked.
+pub(crate) const ROOM_FOR_NODES: RangeInclusive<usize> = 1..=1024;
 
 /// What the decision answers. After MET only the profiles of runs of at most `loop_len` steps count, after NOT all.
 #[derive(Clone, Debug, PartialEq, Eq)]
@@ -22,30 +25,25 @@ pub fn decide(rule: &[u8], n: usize, m: usize, work: usize, buffer: usize) -> Ve
         Ok(entries) => entries,
         Err(why) => return Verdict::Unread(why),
     };
-    if !(1..=1024).contains(&n) || !(1..=4096).contains(&m) {
-        return Verdict::Refused(11);
-    }
-    if work < 8 * n + 192 * m {
-        return Verdict::Refused(12);
-    }
-    if buffer < n + m {
-        return Verdict::Refused(13);
+    if let Some(number) = refused_room(n, m, work, buffer) {
+        return Verdict::Refused(number);
     }
     let graph = Graph::new(&entries);
-    let Some(nodes) = graph.nodes(n) else {
-        return Verdict::Refused(14);
-    };
-    let Some((profiles, good)) = graph.profiles(&nodes, m, |x| graph.good(x)) else {
-        return Verdict::Refused(15);
-    };
-    let (k, p) = (nodes.order.len(), profiles.len());
-    match good {
-        None => Verdict::Not { nodes: k, profiles: p },
-        Some(found) => {
-            let (lead, around) = (lead_to(&nodes, profiles[found].first), around(&profiles, found));
-            Verdict::Met { lead_len: lead.len(), loop_len: around.len(), nodes: k, profiles: p, course: [lead, around].concat() }
-        }
+    match graph.nodes(n) {
+        None => Verdict::Refused(14),
+        Some(nodes) => graph.verdict(&nodes, m),
     }
+}
+
+/// The questions 11 to 13: the number of the first that refuses.
+pub(crate) fn refused_room(n: usize, m: usize, work: usize, buffer: usize) -> Option<u8> {
+    if !ROOM_FOR_NODES.contains(&n) || !(1..=4096).contains(&m) {
+        return Some(11);
+    }
+    if work < 8 * n + 192 * m {
+        return Some(12);
+    }
+    (buffer < n + m).then_some(13)
 }
 
 /// How many profiles a decision works out before it answers.
@@ -62,6 +60,24 @@ pub fn effort(entries: &[Command], nodes: usize, profiles: usize) -> Option<Effo
     let graph = Graph::new(entries);
     let (all, before) = graph.profiles(&graph.nodes(nodes)?, profiles, |x| graph.good(x))?;
     Some(Effort { profiles: all.len(), before })
+}
+
+/// How large a rule and its graph are.
+#[derive(Clone, Copy, Debug, PartialEq, Eq)]
+pub struct Sizes {
+    pub commands: usize,
+    pub nodes: usize,
+    /// The pick words that there are to try, those of every node.
+    pub words: usize,
+    pub steps: usize,
+}
+
+/// The sizes, if there is room for so many nodes.
+pub fn sizes(entries: &[Command], room: usize) -> Option<Sizes> {
+    let graph = Graph::new(entries);
+    let nodes = graph.nodes(room)?;
+    let (count, steps) = (nodes.order.len(), nodes.steps.iter().map(Vec::len).sum());
+    Some(Sizes { commands: entries.len(), nodes: count, words: count << graph.ors.len(), steps })
 }
 
 /// Whether the graph, of at most `nodes` nodes, has more than so many profiles, those of runs longer than a good loop among them.
@@ -118,8 +134,9 @@ pub(crate) struct Step {
     pub(crate) to: u64,
 }
 
-struct Nodes {
-    order: Vec<u64>,
+pub(crate) struct Nodes {
+    /// The sets of entries, bit e for entry e, in the order in which they are found.
+    pub(crate) order: Vec<u64>,
     number: HashMap<u64, usize>,
     came: Vec<Option<(usize, u16)>>,
     steps: Vec<Vec<Step>>,
@@ -260,7 +277,7 @@ impl<'a> Graph<'a> {
     }
 
     /// The reachable nodes, breadth first, if there are at most `room`.
-    fn nodes(&self, room: usize) -> Option<Nodes> {
+    pub(crate) fn nodes(&self, room: usize) -> Option<Nodes> {
         let mut all = Nodes { order: vec![1], number: HashMap::from([(1, 0)]), came: vec![None], steps: Vec::new() };
         let mut i = 0;
         while i < all.order.len() {
@@ -279,6 +296,21 @@ impl<'a> Graph<'a> {
             i += 1;
         }
         Some(all)
+    }
+
+    /// What the decision answers where these are the nodes and there is room for so many profiles.
+    pub(crate) fn verdict(&self, nodes: &Nodes, room: usize) -> Verdict {
+        let Some((profiles, good)) = self.profiles(nodes, room, |x| self.good(x)) else {
+            return Verdict::Refused(15);
+        };
+        let (k, p) = (nodes.order.len(), profiles.len());
+        match good {
+            None => Verdict::Not { nodes: k, profiles: p },
+            Some(found) => {
+                let (lead, around) = (lead_to(nodes, profiles[found].first), around(&profiles, found));
+                Verdict::Met { lead_len: lead.len(), loop_len: around.len(), nodes: k, profiles: p, course: [lead, around].concat() }
+            }
+        }
     }
 
     /// The weights with which traces from entry f reach each next, in a step with this pick.

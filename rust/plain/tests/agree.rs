@@ -1,6 +1,6 @@
 //! The proved library and the independent implementation agree.
 
-use yuktrob_plain::compared::{self, Areas, Courses, Decisions, Input, Rooms, Signals, Truths, Unguarded};
+use yuktrob_plain::compared::{self, Areas, Buildings, Courses, Decisions, Input, Rooms, Signals, Truths, Unguarded};
 use yuktrob_plain::random::Random;
 
 /// Courses are kept this short, so that the test takes seconds; `compare` draws longer ones.
@@ -25,6 +25,7 @@ fn on_some_thousands() {
     check_flags(&truths, &decisions);
     check_rooms(&decisions.rooms);
     check_courses(&decisions.courses);
+    check_buildings(&decisions.buildings);
     assert!(decisions.again > 250, "only {} verdicts asked for again with more room", decisions.again);
 }
 
@@ -73,4 +74,24 @@ fn check_courses(courses: &Courses) {
         (courses.by_places, 150, "courses where comparing places gives other places"),
         (courses.by_first_or, 20, "courses where other places come first with or 0 as the highest bit"),
     ]);
+}
+
+fn check_buildings(buildings: &Buildings) {
+    check_counts(&[
+        (buildings.built, 2000, "nodes built"),
+        (buildings.refused_12, 150, "buildings refused with 12"),
+        (buildings.refused_14, 150, "buildings refused with 14"),
+        (buildings.verdicts, 1500, "searches of nodes just built that come to a verdict"),
+        (buildings.refused_15, 200, "searches of nodes just built that are refused with 15"),
+        (buildings.again, 500, "searches of the same nodes with another M"),
+        (buildings.before_36, 50, "searches refused with 12 or 13 that 36 would refuse as well"),
+    ]);
+    for (name, changed) in buildings.changes() {
+        let passed = changed.all - changed.refused;
+        match name {
+            "bytes behind the nodes" => check_counts(&[(passed, 150, name)]),
+            "another rule's nodes" | "another N" => check_counts(&[(changed.refused, 40, name), (passed, 40, name)]),
+            _ => check_counts(&[(changed.refused, 150, name)]),
+        }
+    }
 }

@@ -1,4 +1,4 @@
-use crate::{exported, Refusal};
+use crate::{exported, nodes_len, Refusal};
 
 /// The most nodes for which room may be asked.
 pub const MOST_NODES: usize = 1024;
@@ -6,16 +6,16 @@ pub const MOST_NODES: usize = 1024;
 /// The most profiles for which room may be asked.
 pub const MOST_PROFILES: usize = 4096;
 
-/// How many bytes the work area of a decision must have.
+/// How many bytes the work area of a decision or of a search must have.
 ///
 /// ```
 /// assert_eq!(yuktrob::work_len(256, 300), 59_648);
 /// ```
 pub const fn work_len(nodes: usize, profiles: usize) -> usize {
-    nodes.saturating_mul(8).saturating_add(profiles.saturating_mul(192))
+    nodes_len(nodes).saturating_add(profiles.saturating_mul(192))
 }
 
-/// How many places the course buffer of a decision must have.
+/// How many places the course buffer of a decision or of a search must have.
 ///
 /// ```
 /// assert_eq!(yuktrob::course_len(256, 300), 556);
@@ -24,7 +24,7 @@ pub const fn course_len(nodes: usize, profiles: usize) -> usize {
     nodes.saturating_add(profiles)
 }
 
-/// What the decision answers.
+/// What the decision answers, and so the search.
 ///
 /// ```
 /// use yuktrob::{Areas, Rule, Verdict};
@@ -106,12 +106,17 @@ pub fn decide<'c>(
     course: &'c mut [u16],
 ) -> Result<Verdict<'c>, Refusal> {
     let told = exported::decide(rule, nodes, profiles, work, course)?;
+    Ok(verdict(told, course))
+}
+
+/// The verdict that an answer carries. After MET the buffer begins with the course.
+pub(crate) fn verdict(told: u64, buffer: &[u16]) -> Verdict<'_> {
     let size = |k: u32| ((told / 2) >> (13 * k) & 8191) as usize;
     let (lead_len, loop_len, nodes, profiles) = (size(0), size(1), size(2), size(3));
     if told % 2 == 0 {
-        return Ok(Verdict::Not { nodes, profiles });
+        return Verdict::Not { nodes, profiles };
     }
-    Ok(Verdict::Met { lead_len, loop_len, nodes, profiles, course: &course[..lead_len + loop_len] })
+    Verdict::Met { lead_len, loop_len, nodes, profiles, course: &buffer[..lead_len + loop_len] }
 }
 
 /// A work area and a course buffer with room for so many nodes and profiles, for any number of decisions.
@@ -126,10 +131,10 @@ pub fn decide<'c>(
 /// ```
 #[derive(Clone, Debug)]
 pub struct Areas {
-    nodes: usize,
-    profiles: usize,
-    work: Vec<u8>,
-    course: Vec<u16>,
+    pub(crate) nodes: usize,
+    pub(crate) profiles: usize,
+    pub(crate) work: Vec<u8>,
+    pub(crate) course: Vec<u16>,
 }
 
 impl Areas {
@@ -142,8 +147,17 @@ impl Areas {
     /// # Ok::<(), yuktrob::Refusal>(())
     /// ```
     pub fn new(nodes: usize, profiles: usize) -> Areas {
-        let (n, m) = (nodes.min(MOST_NODES), profiles.min(MOST_PROFILES));
-        Areas { nodes, profiles, work: vec![0; work_len(n, m)], course: vec![0; course_len(n, m)] }
+        let mut areas = Areas { nodes, profiles, work: Vec::new(), course: Vec::new() };
+        areas.make_room(profiles);
+        areas
+    }
+
+    /// From now on, room for so many profiles. What the areas hold stays, and no area becomes shorter.
+    pub(crate) fn make_room(&mut self, profiles: usize) {
+        let (n, m) = (self.nodes.min(MOST_NODES), profiles.min(MOST_PROFILES));
+        self.profiles = profiles;
+        self.work.resize(self.work.len().max(work_len(n, m)), 0);
+        self.course.resize(self.course.len().max(course_len(n, m)), 0);
     }
 }
 

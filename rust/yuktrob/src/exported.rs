@@ -29,6 +29,18 @@ extern "C" {
         course: *mut u16,
         course_len: usize,
     ) -> u64;
+    fn yuktrob_build(rule: *const u8, rule_len: usize, nodes: usize, work: *mut u8, work_len: usize) -> u64;
+    fn yuktrob_search(
+        rule: *const u8,
+        rule_len: usize,
+        built: usize,
+        nodes: usize,
+        profiles: usize,
+        work: *mut u8,
+        work_len: usize,
+        course: *mut u16,
+        course_len: usize,
+    ) -> u64;
 }
 
 /// What an answer carries, or the refusal: the lowest byte is the number of a refusal, or 0; the rest stands above it.
@@ -64,6 +76,19 @@ pub fn decide(rule: &[u8], nodes: usize, profiles: usize, work: &mut [u8], cours
     })
 }
 
+pub fn build(rule: &[u8], nodes: usize, work: &mut [u8]) -> Result<u64, Refusal> {
+    // SAFETY: pointers and lengths are those of slices; see above.
+    carried(unsafe { yuktrob_build(rule.as_ptr(), rule.len(), nodes, work.as_mut_ptr(), work.len()) })
+}
+
+pub fn search(rule: &[u8], built: usize, nodes: usize, profiles: usize, work: &mut [u8], course: &mut [u16]) -> Result<u64, Refusal> {
+    let (rule_len, work_len, course_len) = (rule.len(), work.len(), course.len());
+    // SAFETY: pointers and lengths are those of slices; see above.
+    carried(unsafe {
+        yuktrob_search(rule.as_ptr(), rule_len, built, nodes, profiles, work.as_mut_ptr(), work_len, course.as_mut_ptr(), course_len)
+    })
+}
+
 #[cfg(test)]
 mod tests {
     use super::*;
@@ -73,8 +98,10 @@ mod tests {
         let unguarded: [(&[u8], u64, u64); 3] = [(&[9, 5, 0], 2, 0), (&[8, 9, 5, 0], 3, 1), (&[10, 9, 6, 3, 0, 5, 1], 6, 0)];
         for (rule, place, fixpoint) in unguarded {
             let expected = Err(Refusal::new(8, place + 256 * fixpoint));
-            let answers = [read(rule), entry(rule, 0), truth(rule, &[0x4000], 0, &mut [0]), decide(rule, 1, 1, &mut [0; 200], &mut [0; 2])];
-            assert_eq!(answers, [expected; 4], "{rule:02x?}");
+            let (work, course) = (&mut [0; 200], &mut [0; 2]);
+            let decided = [decide(rule, 1, 1, work, course), build(rule, 1, work), search(rule, 1, 1, 1, work, course)];
+            let answers = [read(rule), entry(rule, 0), truth(rule, &[0x4000], 0, &mut [0])];
+            assert_eq!((answers, decided), ([expected; 3], [expected; 3]), "{rule:02x?}");
         }
     }
 }

@@ -22,10 +22,25 @@
 //! A place of a course has 16 bits, bit j for signal j. Signals 14 and 15 are the scale flags, [`PREVIOUS_SCALE`] and [`CURRENT_SCALE`];
 //! each place has exactly one of them.
 //!
-//! [`truth`] and [`decide`] take the rule's bytes and areas that the caller lends, as the functions of `include/yuktrob.h` do.
+//! A rule that may need more room for profiles has its graph's nodes built once, and then searched with one room after another. [`Built`]
+//! keeps the nodes with their rule:
+//!
+//! ```
+//! use yuktrob::{Rule, Verdict};
+//! // infinitely often signal 0
+//! let rule = Rule::read(&[0x0A, 0x07, 0x09, 0x06, 0x03, 0x00, 0x08, 0x05, 0x00, 0x08, 0x05, 0x00])?;
+//! let mut built = rule.build(256)?;
+//! assert_eq!(built.search(1).unwrap_err().number, 15);
+//! assert!(matches!(built.search(4)?, Verdict::Met { lead_len: 1, loop_len: 1, nodes: 3, profiles: 4, .. }));
+//! # Ok::<(), yuktrob::Refusal>(())
+//! ```
+//!
+//! [`truth`], [`decide`], [`build`] and [`search`] take the rule's bytes and areas that the caller lends, as the functions of
+//! `include/yuktrob.h` do.
 
 #![deny(unsafe_code, missing_docs)]
 
+mod building;
 mod decision;
 #[allow(unsafe_code)]
 mod exported;
@@ -33,6 +48,7 @@ mod refusal;
 mod rule;
 mod truth;
 
+pub use building::{build, nodes_len, search, Built};
 pub use decision::{course_len, decide, work_len, Areas, Verdict, MOST_NODES, MOST_PROFILES};
 pub use refusal::Refusal;
 pub use rule::{Command, Entry, Rule};

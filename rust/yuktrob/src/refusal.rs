@@ -57,7 +57,7 @@ impl Refusal {
             8 => "no next between the fixpoint and its variable",
             9 => "bytes after the whole rule",
             11 => "N is not 1 to 1,024, or M not 1 to 4,096",
-            12 => "the work area has fewer than 8 N + 192 M bytes",
+            12 => "the work area has fewer than 8 N + 192 M bytes; for building, fewer than 8 N",
             13 => "the course buffer has fewer than N + M places",
             14 => "the graph has more than N nodes",
             15 => "more than M profiles are needed to find a shortest good loop, or to tell that there is none",
@@ -65,6 +65,7 @@ impl Refusal {
             17 => "more than 8,192 places",
             18 => "fewer words than places",
             19 => "a place with both scale flags or neither; it must have either signal 14 or signal 15",
+            36 => "K or the first 8 N bytes of the work area are not what building with N leaves for this rule",
             _ => "a refusal that has no words here",
         }
     }

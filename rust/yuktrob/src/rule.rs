@@ -1,4 +1,4 @@
-use crate::{decision, exported, truth, Areas, Refusal, Verdict};
+use crate::{decision, exported, truth, Areas, Built, Refusal, Verdict};
 
 /// What an entry is, with the numbers of the entries that it leads to.
 ///
@@ -168,6 +168,20 @@ impl Rule {
     /// ```
     pub fn decide<'a>(&self, areas: &'a mut Areas) -> Result<Verdict<'a>, Refusal> {
         decision::decide_in(&self.bytes, areas)
+    }
+
+    /// Builds the nodes of the rule's graph, as [`build`](crate::build) does, with room for `nodes` of them. They can then be searched as
+    /// often as need be. Refused: 11, 14.
+    ///
+    /// ```
+    /// let rule = yuktrob::Rule::read(&[0x03, 0x00])?;
+    /// assert_eq!(rule.build(256)?.count(), 2);
+    /// assert_eq!(rule.build(1).unwrap_err().number, 14);
+    /// assert_eq!(rule.build(0).unwrap_err().number, 11);
+    /// # Ok::<(), yuktrob::Refusal>(())
+    /// ```
+    pub fn build(&self, nodes: usize) -> Result<Built<'_>, Refusal> {
+        Built::new(self, nodes)
     }
 }
 

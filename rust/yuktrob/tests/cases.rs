@@ -1,8 +1,8 @@
 //! The outcomes that document 01 gives, through the wrappers: cases A to L and the truth examples, each place with a scale flag and each
 //! count of profiles as document 02 asks; which course is given of several as short; what the flags refuse; little room for profiles, and
-//! the areas then; and the refusals of reading with their places.
+//! the areas then; nodes that are built and searched, and nodes that are not the rule's; and the refusals of reading with their places.
 
-use yuktrob::{course_len, decide, truth, work_len, Areas, Refusal, Rule, Verdict};
+use yuktrob::{build, course_len, decide, nodes_len, search, truth, work_len, Areas, Refusal, Rule, Verdict};
 
 fn met(lead_len: usize, loop_len: usize, nodes: usize, profiles: usize, course: &[u16]) -> Verdict<'_> {
     Verdict::Met { lead_len, loop_len, nodes, profiles, course }
@@ -45,14 +45,22 @@ const CASE_I: [u8; 10] = [10, 7, 9, 8, 8, 5, 0, 8, 5, 0];
 /// Decides with room for so many nodes and profiles, in areas that are longer than asked for and hold something. Afterwards the work area
 /// is zero as far as it was asked for, the course stands at the beginning of the buffer, and all else is as it was.
 fn check_areas(rule: &[u8], (nodes, profiles): (usize, usize), expected: Result<Verdict, u8>) {
-    let asked = work_len(nodes, profiles);
-    let (mut work, mut buffer) = (vec![0xa5; asked + 40], vec![0x5a5a; course_len(nodes, profiles) + 4]);
+    let (mut work, mut buffer) = lent(nodes, profiles);
     let answer = decide(rule, nodes, profiles, &mut work, &mut buffer).map_err(|why| why.number);
     assert_eq!(answer, expected, "{rule:02x?} {nodes} {profiles}");
-    let written = if let Ok(Verdict::Met { course, .. }) = expected { course.len() } else { 0 };
-    assert!(buffer[written..].iter().all(|&place| place == 0x5a5a), "{rule:02x?} {nodes} {profiles}");
-    let (zero, kept) = work.split_at(asked);
-    assert!(zero.iter().all(|&byte| byte == 0) && kept.iter().all(|&byte| byte == 0xa5), "{rule:02x?} {nodes} {profiles}");
+    assert!(work == [vec![0; work_len(nodes, profiles)], vec![0xa5; 40]].concat(), "{rule:02x?} {nodes} {profiles}");
+    check_buffer(&buffer, expected);
+}
+
+/// A work area and a course buffer that are longer than asked for and hold something.
+fn lent(nodes: usize, profiles: usize) -> (Vec<u8>, Vec<u16>) {
+    (vec![0xa5; work_len(nodes, profiles) + 40], vec![0x5a5a; course_len(nodes, profiles) + 4])
+}
+
+/// A lent buffer begins with the course of MET, and the rest is as it was.
+fn check_buffer(buffer: &[u16], answer: Result<Verdict, u8>) {
+    let course = if let Ok(Verdict::Met { course, .. }) = answer { course } else { &[] };
+    assert!(buffer.starts_with(course) && buffer[course.len()..].iter().all(|&place| place == 0x5a5a), "{answer:?}: {buffer:04x?}");
 }
 
 #[test]
@@ -75,6 +83,215 @@ fn not_needs_room_for_all_profiles() {
     check_areas(&CASE_I, (256, 5), Err(15));
     check_areas(&CASE_I, (256, 6), Ok(not(3, 6)));
     check_areas(&CASE_I, (1024, 4096), Ok(not(3, 6)));
+}
+
+/// The nodes as bytes, with room for so many.
+fn laid_out(words: &[u64], nodes: usize) -> Vec<u8> {
+    let mut bytes: Vec<u8> = words.iter().flat_map(|word| word.to_le_bytes()).collect();
+    bytes.resize(nodes_len(nodes), 0);
+    bytes
+}
+
+#[test]
+fn nodes_by_first_visit() {
+    let table: [(&[u8], &[u64]); 6] = [
+        (&[1], &[1, 0]),
+        (&[2], &[1]),
+        // the left operand first: the next of G alone, then with that of F
+        (&CASE_F, &[1, 0x100, 0x140]),
+        (&CASE_H, &[1, 0xa0, 0x100]),
+        // X X s0 or X true: both nodes behind the root, then the nodes behind these
+        (&[6, 8, 8, 3, 0, 8, 1], &[1, 4, 0x20, 8, 0]),
+        // (false or X s0) or X s1: the outer or is number 0, so the words are 1 and 2
+        (&[6, 6, 2, 8, 3, 0, 8, 3, 1], &[1, 0x40, 0x10, 0]),
+    ];
+    for (rule, words) in table {
+        for nodes in [words.len(), words.len() + 1, 1024] {
+            let (mut work, _) = lent(nodes, 0);
+            assert_eq!(build(rule, nodes, &mut work), Ok(words.len()), "{rule:02x?} {nodes}");
+            assert!(work == [laid_out(words, nodes), vec![0xa5; 40]].concat(), "{rule:02x?} {nodes}");
+        }
+        let read = Rule::read(rule).expect("a rule");
+        let built = read.build(1024).expect("enough room");
+        assert_eq!((built.count(), built.words().collect::<Vec<_>>()), (words.len(), words.to_vec()), "{rule:02x?}");
+    }
+}
+
+/// Building is refused, and of so many bytes lent the first ones are then zero and the rest as they were.
+fn check_unbuilt(rule: &[u8], nodes: usize, lent: usize, number: u8, zeros: usize) {
+    let mut work = vec![0xa5; lent];
+    assert_eq!(build(rule, nodes, &mut work).map_err(|why| why.number), Err(number), "{rule:02x?} {nodes} {lent}");
+    assert_eq!(work, [vec![0; zeros], vec![0xa5; lent - zeros]].concat(), "{rule:02x?} {nodes} {lent}");
+}
+
+#[test]
+fn refusals_of_building_in_order() {
+    check_unbuilt(&[1, 1], 0, 0, 9, 0);
+    for nodes in [0, 1025, usize::MAX] {
+        check_unbuilt(&CASE_F, nodes, 0, 11, 0);
+        check_unbuilt(&CASE_F, nodes, 9000, 11, 0);
+    }
+    check_unbuilt(&CASE_F, 2, 15, 12, 0);
+    check_unbuilt(&CASE_F, 2, 16, 14, 16);
+    check_unbuilt(&CASE_F, 2, 99, 14, 16);
+    assert_eq!(build(&CASE_F, 3, &mut [0; 24]), Ok(3));
+}
+
+/// Searches nodes that were built with the same room, in areas that are longer than asked for and hold something. Afterwards the nodes are
+/// as they were, what lies behind them is zero as far as it was asked for, and all else is as it was.
+fn check_search(rule: &[u8], (nodes, profiles): (usize, usize), expected: Result<Verdict, u8>) {
+    let (mut work, mut buffer) = lent(nodes, profiles);
+    let built = build(rule, nodes, &mut work).expect("enough room for nodes");
+    let kept = work[..nodes_len(nodes)].to_vec();
+    let answer = search(rule, built, nodes, profiles, &mut work, &mut buffer).map_err(|why| why.number);
+    assert_eq!(answer, expected, "{rule:02x?} {nodes} {profiles}");
+    assert!(work == [kept, vec![0; 192 * profiles], vec![0xa5; 40]].concat(), "{rule:02x?} {nodes} {profiles}");
+    check_buffer(&buffer, expected);
+}
+
+#[test]
+fn a_search_is_the_decision() {
+    for (rule, expected) in [(CASE_F, met(1, 1, 3, 4, &[0x4001, 0x4001])), (CASE_H, met(1, 2, 3, 4, &[0x4001, 0x4000, 0x4001]))] {
+        for room in [(3, 1), (3, 3), (256, 3)] {
+            check_search(&rule, room, Err(15));
+        }
+        for room in [(3, 4), (256, 4), (1024, 4096)] {
+            check_search(&rule, room, Ok(expected));
+        }
+    }
+    check_search(&CASE_I, (3, 5), Err(15));
+    check_search(&CASE_I, (3, 6), Ok(not(3, 6)));
+    check_search(&[2], (1, 1), Ok(not(1, 0)));
+}
+
+/// Areas with the nodes of a rule built in them, and how many these are.
+struct Nodes {
+    built: usize,
+    work: Vec<u8>,
+    buffer: Vec<u16>,
+}
+
+impl Nodes {
+    fn of(rule: &[u8], nodes: usize, profiles: usize) -> Self {
+        let (mut work, buffer) = lent(nodes, profiles);
+        let built = build(rule, nodes, &mut work).expect("enough room");
+        Nodes { built, work, buffer }
+    }
+
+    /// A search of them is refused, and nothing is written.
+    fn check_refused(&self, rule: &[u8], nodes: usize, profiles: usize, number: u8) {
+        let (mut work, mut buffer) = (self.work.clone(), self.buffer.clone());
+        let answer = search(rule, self.built, nodes, profiles, &mut work, &mut buffer).map_err(|why| why.number);
+        assert_eq!(answer, Err(number), "{rule:02x?} {nodes} {profiles}, {} built", self.built);
+        assert!(work == self.work && buffer == self.buffer, "{rule:02x?} {nodes} {profiles}, {} built", self.built);
+    }
+
+    /// A search of them comes to this verdict.
+    fn check_found(&mut self, rule: &[u8], nodes: usize, profiles: usize, expected: Verdict) {
+        let answer = search(rule, self.built, nodes, profiles, &mut self.work, &mut self.buffer);
+        assert_eq!(answer, Ok(expected), "{rule:02x?} {nodes} {profiles}, {} built", self.built);
+    }
+}
+
+const F_MET: Verdict = Verdict::Met { lead_len: 1, loop_len: 1, nodes: 3, profiles: 4, course: &[0x4001, 0x4001] };
+
+#[test]
+fn refusals_of_a_search_in_order() {
+    let mut nodes = Nodes::of(&CASE_F, 3, 3);
+    let asked = (work_len(3, 3), course_len(3, 3));
+    nodes.work[0] ^= 1;
+    nodes.work.truncate(asked.0 - 1);
+    nodes.buffer.truncate(asked.1 - 1);
+    nodes.check_refused(&[1, 1], 0, 0, 9);
+    for (n, m) in [(0, 3), (3, 0), (1025, 3), (3, 4097), (usize::MAX, usize::MAX)] {
+        nodes.check_refused(&CASE_F, n, m, 11);
+    }
+    nodes.check_refused(&CASE_F, 3, 3, 12);
+    nodes.work.push(0xa5);
+    nodes.check_refused(&CASE_F, 3, 3, 13);
+    nodes.buffer.push(0x5a5a);
+    nodes.check_refused(&CASE_F, 3, 3, 36);
+    nodes.work[0] ^= 1;
+    let answer = search(&CASE_F, 3, 3, 3, &mut nodes.work, &mut nodes.buffer);
+    assert_eq!(answer.map_err(|why| why.number), Err(15));
+}
+
+#[test]
+fn each_byte_of_the_nodes_counts_and_none_behind() {
+    let (n, m) = (4, 4);
+    let mut nodes = Nodes::of(&CASE_F, n, m);
+    for at in 0..nodes_len(n) {
+        for bit in [0x01, 0x40, 0x80] {
+            nodes.work[at] ^= bit;
+            nodes.check_refused(&CASE_F, n, m, 36);
+            nodes.work[at] ^= bit;
+        }
+    }
+    for at in nodes_len(n)..nodes.work.len() {
+        nodes.work[at] = 0x5a;
+        nodes.check_found(&CASE_F, n, m, F_MET);
+    }
+}
+
+#[test]
+fn not_the_number_of_nodes() {
+    for built in [0, 2, 4, 3 + 256, usize::MAX] {
+        Nodes { built, ..Nodes::of(&CASE_F, 4, 4) }.check_refused(&CASE_F, 4, 4, 36);
+    }
+    // the last node of true is the empty one, whose word is 0: the same bytes with one node more and with one fewer
+    for built in [1, 3] {
+        Nodes { built, ..Nodes::of(&[1], 4, 1) }.check_refused(&[1], 4, 1, 36);
+    }
+}
+
+#[test]
+fn other_nodes() {
+    let listed = |words: &[u64]| {
+        let (mut work, buffer) = lent(4, 4);
+        work[..nodes_len(4)].copy_from_slice(&laid_out(words, 4));
+        Nodes { built: words.len(), work, buffer }
+    };
+    // the nodes of case F are 1, 100 and 140: one too many, a node twice, one too few, two exchanged, and none
+    for words in [&[1, 0x100, 0x140, 0x40][..], &[1, 0x100, 0x140, 0x140], &[1, 0x100], &[1, 0x140, 0x100], &[]] {
+        listed(words).check_refused(&CASE_F, 4, 4, 36);
+    }
+    listed(&[1, 0x100, 0x140]).check_found(&CASE_F, 4, 4, F_MET);
+    Nodes::of(&CASE_H, 4, 4).check_refused(&CASE_F, 4, 4, 36);
+    // signal 1 has the nodes of signal 0
+    Nodes::of(&[3, 0], 4, 4).check_found(&[3, 1], 4, 4, met(1, 1, 2, 1, &[0x4002, 0x4000]));
+}
+
+#[test]
+fn nodes_with_another_room() {
+    // with less room the zeros behind the last node are fewer, with more they may be missing
+    Nodes::of(&CASE_F, 256, 4).check_found(&CASE_F, 3, 4, F_MET);
+    let mut more = Nodes::of(&CASE_F, 3, 8);
+    more.check_refused(&CASE_F, 4, 4, 36);
+    more.work[nodes_len(3)..nodes_len(4)].fill(0);
+    more.check_found(&CASE_F, 4, 4, F_MET);
+    // no room for all: neither all nodes nor the first ones will do, nor the zeros that 14 leaves
+    for built in [3, 2] {
+        Nodes { built, ..Nodes::of(&CASE_F, 3, 4) }.check_refused(&CASE_F, 2, 4, 36);
+    }
+    let mut none = Nodes::of(&CASE_F, 3, 4);
+    assert_eq!(build(&CASE_F, 2, &mut none.work).map_err(|why| why.number), Err(14));
+    none.check_refused(&CASE_F, 2, 4, 36);
+}
+
+#[test]
+fn built_nodes_are_searched_with_any_room() {
+    let rule = Rule::read(&CASE_F).expect("a rule");
+    let mut built = rule.build(1024).expect("enough room");
+    for (profiles, expected) in [(1, Err(15)), (4, Ok(F_MET)), (3, Err(15)), (4096, Ok(F_MET)), (3, Err(15)), (5, Ok(F_MET))] {
+        for none in [0, 4097, usize::MAX] {
+            assert_eq!(built.search(none).map_err(|why| why.number), Err(11), "{none}");
+        }
+        assert_eq!(built.search(profiles).map_err(|why| why.number), expected, "{profiles}");
+        assert_eq!((built.count(), built.words().collect::<Vec<_>>()), (3, vec![1, 0x100, 0x140]), "{profiles}");
+    }
+    for (nodes, number) in [(0, 11), (1, 14), (2, 14), (1025, 11), (usize::MAX, 11)] {
+        assert_eq!(rule.build(nodes).map(|built| built.count()).map_err(|why| why.number), Err(number), "{nodes}");
+    }
 }
 
 #[test]
@@ -165,9 +382,16 @@ fn a_room_beyond_the_limits_is_refused() {
     }
 }
 
-/// What reading, truth and decision refuse a rule with. Course, room and areas would be refused too, but reading is asked first.
-fn refused(rule: &[u8]) -> [Option<Refusal>; 3] {
-    [Rule::read(rule).err(), truth(rule, &[], 0, &mut []).err(), decide(rule, 0, 0, &mut [], &mut []).err()]
+/// What reading, truth, decision, building and search refuse a rule with. Course, room, areas and nodes would be refused too, but reading
+/// is asked first.
+fn refused(rule: &[u8]) -> [Option<Refusal>; 5] {
+    [
+        Rule::read(rule).err(),
+        truth(rule, &[], 0, &mut []).err(),
+        decide(rule, 0, 0, &mut [], &mut []).err(),
+        build(rule, 0, &mut []).err(),
+        search(rule, 0, 0, 0, &mut [], &mut []).err(),
+    ]
 }
 
 #[test]

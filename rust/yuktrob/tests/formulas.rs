@@ -1,6 +1,7 @@
-//! Every line of the ```rules blocks of docs/FORMULAS.md, run; and its words for each refusal, held beside the crate's.
+//! Every line of the ```rules blocks of docs/FORMULAS.md, run; its words for each refusal, held beside the crate's; and a rule that is
+//! searched with more and more room.
 
-use yuktrob::{course_len, decide, truth, work_len, Refusal, Verdict, PREVIOUS_SCALE};
+use yuktrob::{build, course_len, decide, nodes_len, search, truth, work_len, Refusal, Rule, Verdict, PREVIOUS_SCALE};
 
 fn document() -> String {
     std::fs::read_to_string(concat!(env!("CARGO_MANIFEST_DIR"), "/../../docs/FORMULAS.md")).expect("docs/FORMULAS.md")
@@ -44,15 +45,43 @@ fn told(rule: &[u8], text: &str) -> String {
     }
 }
 
-/// `N 1 M 1 work 200 buffer 1`, the areas as asked for if not said.
-fn decided(rule: &[u8], with: &str) -> String {
-    let words: Vec<&str> = with.split_whitespace().collect();
-    let of = |name: &str| words.iter().position(|w| *w == name).map(|i| words[i + 1].parse::<usize>().expect("a number"));
-    let (n, m) = (of("N").unwrap_or(256), of("M").unwrap_or(300));
-    let mut work = vec![0; of("work").unwrap_or(work_len(n, m))];
-    let mut buffer = vec![0; of("buffer").unwrap_or(course_len(n, m))];
+/// `N 1 M 1 work 200 buffer 1`: names, and behind each its numbers.
+struct With<'a>(&'a str);
+
+impl With<'_> {
+    fn numbers(&self, name: &str) -> Vec<usize> {
+        let mut words = self.0.split_whitespace().skip_while(|word| *word != name);
+        let named = words.next().is_some();
+        let numbers: Vec<usize> = words.map_while(|word| word.parse().ok()).collect();
+        assert_eq!(named, !numbers.is_empty(), "a number behind {name}");
+        numbers
+    }
+
+    fn number(&self, name: &str) -> Option<usize> {
+        self.numbers(name).first().copied()
+    }
+
+    /// The room for nodes.
+    fn nodes(&self) -> usize {
+        self.number("N").unwrap_or(256)
+    }
+
+    /// The rooms for profiles, one or more.
+    fn profiles(&self) -> Vec<usize> {
+        let told = self.numbers("M");
+        if told.is_empty() { vec![300] } else { told }
+    }
+
+    /// A work area and a course buffer as asked for with the most of these profiles, if not said.
+    fn areas(&self) -> (Vec<u8>, Vec<u16>) {
+        let (n, m) = (self.nodes(), self.profiles().into_iter().max().expect("a room"));
+        (vec![0; self.number("work").unwrap_or(work_len(n, m))], vec![0; self.number("buffer").unwrap_or(course_len(n, m))])
+    }
+}
+
+fn outcome(answer: Result<Verdict, Refusal>) -> String {
     let hex = |p: &[u16]| p.iter().map(|x| format!("{x:04x}")).collect::<Vec<_>>().join(" ");
-    match decide(rule, n, m, &mut work, &mut buffer) {
+    match answer {
         Ok(Verdict::Met { lead_len, loop_len, nodes, profiles, course }) => {
             let (lead, around) = course.split_at(lead_len);
             format!("MET {lead_len} {loop_len} {nodes} {profiles}: {} ({})", hex(lead), hex(around))
@@ -62,13 +91,46 @@ fn decided(rule: &[u8], with: &str) -> String {
     }
 }
 
+fn decided(rule: &[u8], with: With) -> String {
+    let (mut work, mut buffer) = with.areas();
+    outcome(decide(rule, with.nodes(), with.profiles()[0], &mut work, &mut buffer))
+}
+
+/// K and the nodes.
+fn built(rule: &[u8], with: With) -> String {
+    let mut work = vec![0; with.number("work").unwrap_or(nodes_len(with.nodes()))];
+    match build(rule, with.nodes(), &mut work) {
+        Ok(count) => {
+            let words = work[..nodes_len(count)].as_chunks().0.iter().map(|&word| format!("{:x}", u64::from_le_bytes(word)));
+            format!("BUILT {count}: {}", words.collect::<Vec<_>>().join(" "))
+        }
+        Err(why) => refused(why),
+    }
+}
+
+/// Builds the nodes of a rule once and searches them for a rule with each M in turn; K, if it is said, is handed on for what was built.
+fn searched(rule: &[u8], over: &[u8], with: With) -> String {
+    let (mut work, mut buffer) = with.areas();
+    let count = match build(over, with.nodes(), &mut work) {
+        Ok(count) => with.number("K").unwrap_or(count),
+        Err(why) => return refused(why),
+    };
+    let again = |m: usize| outcome(search(rule, count, with.nodes(), m, &mut work, &mut buffer));
+    with.profiles().into_iter().map(again).collect::<Vec<_>>().join(", ")
+}
+
+/// What a line comes to: `RULE on COURSE`, `RULE built`, `RULE searched`, `RULE searched over RULE`, or a rule alone, which is decided. All
+/// but the first may be followed by ` with ` and numbers.
 fn found(input: &str) -> String {
+    let (input, with) = input.split_once(" with ").unwrap_or((input, ""));
     if let Some((rule, course)) = input.split_once(" on ") {
         told(&bytes(rule), course)
-    } else if let Some((rule, with)) = input.split_once(" with ") {
-        decided(&bytes(rule), with)
+    } else if let Some(rule) = input.strip_suffix(" built") {
+        built(&bytes(rule), With(with))
+    } else if let Some((rule, over)) = input.split_once(" searched") {
+        searched(&bytes(rule), &bytes(over.strip_prefix(" over ").unwrap_or(rule)), With(with))
     } else {
-        decided(&bytes(input), "")
+        decided(&bytes(input), With(with))
     }
 }
 
@@ -91,6 +153,20 @@ fn every_line_of_the_document() {
     assert!(lines >= 30, "only {lines} lines were found");
 }
 
+/// The trainers' use: nodes that are built once are searched with more and more room, lent or with their rule.
+#[test]
+fn searching_again_with_more_room() {
+    // changes, announcements and headings each come infinitely often, and no two of them at one place
+    let apart = "07 06 04 00 04 01 07 06 04 01 04 02 06 04 00 04 02";
+    let often = |signal: u8| format!("0A 07 09 06 03 {signal:02X} 08 05 00 08 05 00");
+    let text = format!("07 0A 07 {apart} 08 05 00 07 {} 07 {} {}", often(0), often(1), often(2));
+    let outcomes = ["REFUSED 15", "REFUSED 15", "MET 1 3 5 55: 4004 (4002 4001 4004)"];
+    assert_eq!(found(&format!("{text} searched with M 4 40 400")), outcomes.join(", "));
+    let rule = Rule::read(&bytes(&text)).expect("a rule");
+    let mut built = rule.build(256).expect("enough room");
+    assert_eq!([4, 40, 400].map(|m| outcome(built.search(m))), outcomes);
+}
+
 /// An input of the document for each of its refusals.
 fn refusal(number: u8) -> Refusal {
     let (mut work, mut buffer) = (vec![0; work_len(256, 300)], vec![0; course_len(256, 300)]);
@@ -107,6 +183,7 @@ fn refusal(number: u8) -> Refusal {
         17 => truth(&[1], &[PREVIOUS_SCALE; 8193], 0, &mut [0; 8193]).unwrap_err(),
         18 => truth(&[1], &[PREVIOUS_SCALE; 2], 1, &mut [0]).unwrap_err(),
         19 => truth(&[1], &[0], 0, &mut [0]).unwrap_err(),
+        36 => search(&often, 3, 256, 300, &mut work, &mut buffer).unwrap_err(),
         _ => panic!("the document has a refusal {number} that no input is known for"),
     }
 }
@@ -119,7 +196,7 @@ fn every_refusal_has_the_words_of_the_document() {
         Some((number.parse::<u8>().ok()?, words.to_string()))
     };
     let rows: Vec<(u8, String)> = document.lines().skip_while(|line| *line != "## Refusals").filter_map(row).collect();
-    assert_eq!(rows.len(), 18);
+    assert_eq!(rows.len(), 19);
     for (number, words) in rows {
         let why = refusal(number);
         let place = why.place.map_or(String::new(), |place| format!(" at byte {place}"));

@@ -2,7 +2,7 @@
 //! `compare [INPUTS [SEED [LONGEST]]]`, where no course that both work out is longer than LONGEST places, 60 at least and 8,192 at most.
 
 use std::time::Instant;
-use yuktrob_plain::compared::{self, Areas, Courses, Decisions, Input, Rooms, Signals, Truths, Unguarded, LONG};
+use yuktrob_plain::compared::{self, Areas, Buildings, Changed, Courses, Decisions, Input, Rooms, Signals, Truths, Unguarded, LONG};
 use yuktrob_plain::random::Random;
 
 fn main() {
@@ -36,9 +36,7 @@ fn main() {
     println!("rules refused with 8: {all}, of these for a fixpoint that is neither the innermost nor at byte 0: {between}");
     println!("rules with one signal both present and absent, of the signal that the fewest have so: {}", signals.fewest());
     report_flags(&truths, &decisions);
-    report_rooms(&decisions.rooms);
-    println!("verdicts asked for again with more room: {}", decisions.again);
-    report_courses(&decisions.courses);
+    report_decisions(&decisions);
     println!("differences: {differences}");
     if differences > 0 {
         std::process::exit(1);
@@ -53,6 +51,13 @@ fn report_flags(truths: &Truths, decisions: &Decisions) {
     println!("verdicts on rules with both scale flags: {with_flags}");
     println!("of these with a step missing for the flags alone, both present: {both_present}, both absent: {both_absent}");
     println!("courses given with a place of the current scale: {current}");
+}
+
+fn report_decisions(decisions: &Decisions) {
+    report_rooms(&decisions.rooms);
+    println!("verdicts asked for again with more room: {}", decisions.again);
+    report_courses(&decisions.courses);
+    report_buildings(&decisions.buildings);
 }
 
 fn report_rooms(rooms: &Rooms) {
@@ -71,4 +76,16 @@ fn report_courses(courses: &Courses) {
     println!("of these where there are several: {several}, of these where some have other places: {differing}");
     println!("of these with other places if the last came first: {by_last}, if the loop's pick words came before the lead-in's: {by_loop}");
     println!("if places were compared and not pick words: {by_places}, if or 0 were a word's highest bit: {by_first_or}");
+}
+
+fn report_buildings(buildings: &Buildings) {
+    let Buildings { built, refused_12, refused_14, verdicts, refused_15, again, before_36, .. } = buildings;
+    println!("nodes built: {built}, refused with 12: {refused_12}, with 14: {refused_14}");
+    println!("nodes just built and searched: {verdicts} verdicts, {refused_15} refused with 15");
+    println!("searched again with another M and other bytes behind them: {again}");
+    println!("searched behind a change, and of these refused with 36:");
+    for (name, Changed { all, refused }) in buildings.changes() {
+        println!("  {name}: {all}, {refused}");
+    }
+    println!("refused with 12 or 13 behind a change that 36 would refuse: {before_36}");
 }

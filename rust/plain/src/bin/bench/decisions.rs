@@ -1,7 +1,7 @@
 //! The decision's tables.
 
-use crate::early;
-use crate::shapes::{always, each, eventually, infinitely_often, until, written};
+use crate::{building, early};
+use crate::shapes::{always, each, each_or_absent_next, eventually, infinitely_often, or_absent_later, until, written};
 use crate::timing::{head, once, row, time, BOTH};
 use std::hint::black_box;
 use std::time::Duration;
@@ -29,13 +29,14 @@ pub fn tables() {
     shapes(&mut areas);
     early::table(&mut areas);
     by_size(&mut areas, &timed);
+    building::tables(&mut areas, &timed);
 }
 
 /// A rule with the time of each implementation.
-struct Timed {
-    ours: Duration,
-    theirs: Duration,
-    rule: Vec<u8>,
+pub struct Timed {
+    pub ours: Duration,
+    pub theirs: Duration,
+    pub rule: Vec<u8>,
 }
 
 /// The times of the proved library and of the independent implementation.
@@ -74,7 +75,7 @@ fn typical(areas: &mut Areas) {
 }
 
 /// Each of 10,000 random rules once, the heaviest last.
-fn random_rules(areas: &mut Areas) -> Vec<Timed> {
+pub fn random_rules(areas: &mut Areas) -> Vec<Timed> {
     let mut random = Random::new(7);
     let mut timed = Vec::new();
     for _ in 0..10_000 {
@@ -121,28 +122,31 @@ const FOUND: [&str; 5] = [
     "0a070707070707070608040107030008030106040008030006080301080401060804000400060301040006080301080300060804000301080500",
 ];
 
-fn shapes(areas: &mut Areas) {
-    head("Decision, N = 1,024, M = 4,096: rules of one shape", &BOTH);
+/// Rules of one shape with their names.
+pub fn shaped() -> [(&'static str, Vec<u8>); 15] {
     let signal_or = |j: u8, limit: u8, part: Vec<u8>| if j < limit { part } else { vec![2] };
-    let later = |steps: usize| [&[6, 3, 0][..], &vec![8; steps], &[4, 0]].concat();
-    let rules: [(&str, Vec<u8>); 15] = [
+    [
         ("F of 3 signals, all", each(3, 7, |j| eventually(&[3, j]))),
         ("F of 5 signals, all", each(5, 7, |j| eventually(&[3, j]))),
         ("F of 7 signals, all", each(7, 7, |j| eventually(&[3, j]))),
         ("G F of 3 signals, all", each(3, 7, |j| infinitely_often(&[3, j]))),
         ("G of one of 12 signals", always(&each(13, 6, |j| signal_or(j, 12, vec![3, j])))),
         ("G of one of 11 signals next", always(&each(12, 6, |j| signal_or(j, 11, vec![8, 3, j])))),
-        ("G of each of 4 signals or its absence next", always(&each(4, 7, |j| vec![6, 3, j, 8, 4, j]))),
-        ("G of each of 7 signals or its absence next", always(&each(7, 7, |j| vec![6, 3, j, 8, 4, j]))),
+        ("G of each of 4 signals or its absence next", each_or_absent_next(4)),
+        ("G of each of 7 signals or its absence next", each_or_absent_next(7)),
         ("G of each of 9 signals or true next", always(&each(9, 7, |j| vec![6, 3, j, 8, 1]))),
-        ("G of a signal or its absence 11 places on", always(&later(11))),
+        ("G of a signal or its absence 11 places on", or_absent_later(11)),
         ("G of 7 ors with nexts and of signals, found: K 97, profiles 360", written(FOUND[0])),
         ("G of 7 ors with nexts and of signals, found: K 49, profiles 198", written(FOUND[1])),
         ("G of 7 ors with nexts and of signals, found: K 129, profiles 864", written(FOUND[2])),
         ("G of 7 ors of signals and nexts, found: K 17, profiles 0", written(FOUND[3])),
         ("G of 7 ors of signals and nexts, found: K 41, profiles 0", written(FOUND[4])),
-    ];
-    for (name, rule) in &rules {
+    ]
+}
+
+fn shapes(areas: &mut Areas) {
+    head("Decision, N = 1,024, M = 4,096: rules of one shape", &BOTH);
+    for (name, rule) in &shaped() {
         let (ours, theirs) = decision(areas, rule, MOST_NODES, MOST_PROFILES);
         row(name, ours, theirs);
     }

@@ -2,7 +2,7 @@
 
 use crate::decisions::{decision, Areas};
 use crate::shapes::{each, eventually, infinitely_often, until, written};
-use crate::timing::{head, micros, ratio};
+use crate::timing::{beside, head};
 use yuktrob::{Verdict, MOST_NODES, MOST_PROFILES};
 use yuktrob_plain::decision::has_more_profiles;
 use yuktrob_plain::reading::read;
@@ -38,7 +38,7 @@ fn rules() -> Vec<(&'static str, Vec<u8>)> {
 }
 
 /// What the proved library answers with the largest room.
-fn outcome(areas: &mut Areas, rule: &[u8]) -> String {
+pub fn outcome(areas: &mut Areas, rule: &[u8]) -> String {
     match yuktrob::decide(rule, MOST_NODES, MOST_PROFILES, &mut areas.work, &mut areas.course) {
         Ok(Verdict::Met { lead_len, loop_len, nodes, profiles, .. }) => format!("MET {lead_len} {loop_len} {nodes} {profiles}"),
         Ok(Verdict::Not { nodes, profiles }) => format!("NOT {nodes} {profiles}"),
@@ -67,7 +67,7 @@ pub fn table(areas: &mut Areas) {
     for (name, rule) in rules() {
         let (all, outcome) = (all_profiles(&rule), outcome(areas, &rule));
         let (ours, theirs) = decision(areas, &rule, MOST_NODES, MOST_PROFILES);
-        println!("| {name} | {all} | {outcome} | {} | {} | {} |", micros(ours), micros(theirs), ratio(ours, theirs));
+        println!("| {name} | {all} | {outcome} | {} |", beside(ours, theirs));
     }
 }
 

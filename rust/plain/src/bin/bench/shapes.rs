@@ -22,6 +22,16 @@ pub fn each(signals: u8, joint: u8, part: impl Fn(u8) -> Vec<u8>) -> Vec<u8> {
     (0..signals).map(part).rev().reduce(|all, one| [&[joint][..], &one, &all].concat()).unwrap_or(vec![1])
 }
 
+/// At every place each of the first signals is present now or absent at the next place.
+pub fn each_or_absent_next(signals: u8) -> Vec<u8> {
+    always(&each(signals, 7, |j| vec![6, 3, j, 8, 4, j]))
+}
+
+/// At every place signal 0 is present now or absent so many places on.
+pub fn or_absent_later(places: usize) -> Vec<u8> {
+    always(&[&[6, 3, 0][..], &vec![8; places], &[4, 0]].concat())
+}
+
 /// A rule written out in hex.
 pub fn written(hex: &str) -> Vec<u8> {
     let byte = |i| u8::from_str_radix(&hex[i..i + 2], 16).expect("two hex digits");

@@ -27,6 +27,11 @@ pub fn micros(d: Duration) -> String {
     format!("{:.1}", d.as_secs_f64() * 1e6)
 }
 
+/// The nanoseconds for one of so many.
+pub fn per(d: Duration, count: usize) -> String {
+    format!("{:.1}", d.as_secs_f64() * 1e9 / count as f64)
+}
+
 /// How many times the second time goes into the first, with three digits.
 pub fn ratio(a: Duration, b: Duration) -> String {
     let x = a.as_secs_f64() / b.as_secs_f64().max(1e-9);
@@ -43,5 +48,10 @@ pub fn head(title: &str, columns: &[&str]) {
 pub const BOTH: [&str; 4] = ["input", "proved, µs", "plain Rust, µs", "ratio"];
 
 pub fn row(name: &str, ours: Duration, theirs: Duration) {
-    println!("| {name} | {} | {} | {} |", micros(ours), micros(theirs), ratio(ours, theirs));
+    println!("| {name} | {} |", beside(ours, theirs));
+}
+
+/// Both times and their ratio, as three columns.
+pub fn beside(ours: Duration, theirs: Duration) -> String {
+    format!("{} | {} | {}", micros(ours), micros(theirs), ratio(ours, theirs))
 }
