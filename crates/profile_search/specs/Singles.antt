@@ -10,7 +10,9 @@ use Rattle.formula.specs.Table.{Table}
 use Rattle.tableau.specs.Saturation.{Subset}
 use Rattle.tableau.specs.Transition.{ors, Transition, by-word, transitions}
 use Rattle.tableau.specs.Inner.{table-of, Unmet-ors}
+use Rattle.tableau.specs.Fringe.{Core-of}
 use Rattle.tableau.specs.Area.{eight, words-at}
+use Rattle.tableau.specs.declared.Core.{Core}
 use Rattle.profile_tables.specs.Runs.{Found-profile, number-of, single-of}
 use Rattle.traces.specs.Inner.{Rows-limited, Ranks-of}
 use Rattle.traces.specs.declared.Ranks.{Ranks}
@@ -55,8 +57,10 @@ pub record Node-ready (rows : List ℕ) (count : ℕ) (r : Ranks) (s : Store) (n
   pub room : had ≤ s .capacity
   pub chained : Chained s area had
 
--- The node of a source is one of the area, with these bits unmet, and there is such a choice word.
-pub record Choice-ready (rows : List ℕ) (count : ℕ) (area unmet : List ℕ) (from : Source) : Type 0 where
+-- The node of a source is one of the area, with these bits unmet and this core, and there is such a choice word.
+pub record Choice-ready (rows : List ℕ) (count : ℕ) (area unmet : List ℕ) (core : Core) (from : Source) : Type 0 where
   pub set-is : from .set ≡ eight area (8 * from .number .0)
   pub unmet-is : Unmet-ors rows count (from .set) unmet
+  pub core-is : Core-of rows count core
+  pub core-node : core .node ≡ from .set
   pub below : from .word < 2 ^ ors (table-of rows count)

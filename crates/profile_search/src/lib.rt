@@ -13,6 +13,7 @@ ghost use Rattle.profile_search.specs.Stored.{Bytes-between, bits-of, ro
 ghost use Rattle.profile_search.specs.Stored.{Chained, Store-chained};
 ghost use Rattle.profile_search.specs.Stored.{Grown, Profiles-added, Two-within};
 ghost use Rattle.profile_search.specs.Singles.{node-in, nodes-in, singles-by, Search-input, Node-ready, Choice-ready};
+use tableau::Core;
 use tableau::Lookup;
 use tableau::NodeNumber;
 use tableau::Target;
@@ -244,16 +245,17 @@ fn single(
     area: &mut [u8],
     nodes: usize,
     unmet: &[u64; 24],
+    core: Core,
     from: Source,
     count: usize,
 ) -> usize
     requires { ⌜ Node-ready (now rows) subformulas r store nodes (now area) (from .number .0) count ⌝ }
-    requires { ⌜ Choice-ready (now rows) subformulas (now area) (now unmet) from ⌝ }
+    requires { ⌜ Choice-ready (now rows) subformulas (now area) (now unmet) core from ⌝ }
     ensures { λ all. ⌜ Profiles-added store count (now (area .entry)) all (now (area .exit))
         (singles-by (table-of (now (rows .entry)) subformulas) (nodes-in subformulas (now (area .entry)) nodes) (from .number .0)
         (node-in subformulas (now (area .entry)) (from .number .0)) (from .word)) ⌝ }
 {
-    match tableau::by_word(rows, subformulas, unmet, from.word, from.set) {
+    match tableau::by_word(rows, subformulas, unmet, core, from.word) {
         Target::Nothing => count,
         Target::Leads { to, required } => match tableau::find(area, nodes, to) {
             Lookup::Absent => count,
@@ -290,6 +292,7 @@ fn singles_of(
         (node-in subformulas (now (area .entry)) (number .0))) ⌝ }
 {
     let set = tableau::node(area, number);
+    let core = tableau::core_of(rows, subformulas, set);
     let unmet = tableau::unmet(rows, subformulas, set);
     let end = base::power(tableau::ors(rows, subformulas));
     let mut all = count;
@@ -303,7 +306,18 @@ fn singles_of(
             set: set,
             word: word,
         };
-        all = single(rows, subformulas, r, store, area, nodes, &unmet, from, all);
+        all = single(
+            rows,
+            subformulas,
+            r,
+            store,
+            area,
+            nodes,
+            &unmet,
+            core,
+            from,
+            all,
+        );
         word += 1;
     }
     all

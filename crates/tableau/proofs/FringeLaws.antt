@@ -31,17 +31,18 @@ use Rattle.formula.specs.Table.{Operator, operator}
 use Rattle.formula.specs.Rows.{operator-at}
 use Rattle.tableau.specs.Saturation.{Subset, has, add, moves, saturate}
 use Rattle.tableau.specs.Inner.{table-of, Formed, with-bits, Saturated}
-use Rattle.tableau.proofs.SaturationLaws.{inside-has, has-lt, add-inside, add-has, add-least, Follows-moves, saturate-length}
+use Rattle.tableau.specs.Fringe.{Follows-moves, Moves-closing, Spread, moves-at}
+use Rattle.tableau.proofs.SaturationLaws.{inside-has, has-lt, add-inside, add-has, add-least, saturate-length}
 use Rattle.tableau.proofs.SaturationLaws.{saturate-holds, saturate-closed, saturate-least}
 use Rattle.tableau.proofs.WordSets.{All-below, with-bits-bit, word-add}
 use Rattle.tableau.proofs.RowLaws.{moves-below}
 use Rattle.tableau.proofs.LoopLaws.{table-length}
 
 -- A turn of the loop: subformula e leaves the fringe, its moves ms go into the set.
-record Turn (ms : List ℕ) (fringe e rest set grown : ℕ) : Type 0 where
-  there : T (bit fringe e)
-  left : Without fringe e rest
-  gains : grown ≡ with-bits ms set
+pub record Turn (ms : List ℕ) (fringe e rest set grown : ℕ) : Type 0 where
+  pub there : T (bit fringe e)
+  pub left : Without fringe e rest
+  pub gains : grown ≡ with-bits ms set
 
 -- the next fringe, bit by bit: it has the rest and what is new in the set
 module _ {ms : List ℕ} {fringe e rest set grown : ℕ} (u : Turn ms fringe e rest set grown) where
@@ -86,20 +87,11 @@ module _ {ms : List ℕ} {fringe e rest set grown : ℕ} (u : Turn ms fringe e r
       new false false h = h
 
   -- what is new is missing twice in what the set has room for, and comes once into the fringe, which loses bit e
-  falls : (room : ℕ) → grown ≤ room → 2 * (room - grown) + bitOr rest (bitXor grown set) < 2 * (room - set) + fringe
+  pub falls : (room : ℕ) → grown ≤ room → 2 * (room - grown) + bitOr rest (bitXor grown set) < 2 * (room - set) + fringe
   falls room h =
       let new : bitXor grown set + set ≡ grown =
       taken-off grown set (λ k t. subst⁻¹ T (grown-bit k) (or-right (member k ms) (bit set k) t)) in
       omega (arith, or-add-and rest (bitXor grown set), u .left .less, pow-pos e)
-
--- A set that holds v and follows the moves `go` of its subformulas but those of the fringe, inside every set that holds v and follows all.
-pub record Moves-closing (go : ℕ → List ℕ) (v : Subset) (set fringe : ℕ) : Type 0 where
-  pub now : Subset
-  pub word-is : set ≡ word now
-  pub holds : Inside v now
-  pub least : (x : Subset) → Inside v x → Follows-moves go x → Inside now x
-  pub part : (k : ℕ) → T (bit fringe k) → T (has now k)
-  pub follows : (e m : ℕ) → T (has now e) → (T (bit fringe e) → ⊥) → List·Memᴰ m (go e) → m < length now → T (has now m)
 
 module _ {go : ℕ → List ℕ} {v : Subset} {set fringe e rest grown : ℕ} (below : All-below (length v) (go e))
     (u : Turn (go e) fringe e rest set grown)
@@ -143,11 +135,7 @@ module _ {go : ℕ → List ℕ} {v : Subset} {set fringe e rest grown : ℕ} (b
     follows = still-follows;
   }
 
--- The loop's invariant. The fringe has only subformulas, even where the node's word is no set's.
-pub record Spread (go : ℕ → List ℕ) (count node set fringe : ℕ) : Type 0 where
-  pub few : (k : ℕ) → T (bit fringe k) → k < count
-  pub is : (v : Subset) → length v ≡ count → node ≡ word v → Moves-closing go v set fringe
-
+-- the loop's invariant
 pub spread-start : (go : ℕ → List ℕ) {count fringe : ℕ} (node : ℕ) → fringe ≡ node % 2 ^ count → Spread go count node node fringe
 spread-start go {count} {fringe} node q = record {
   few = λ k h. low-below count node k (subst (λ (x : ℕ). T (bit x k)) q h);
@@ -169,27 +157,29 @@ module _ {go : ℕ → List ℕ} {count node set fringe : ℕ} (s : Spread go co
   pub spread-below : {e : ℕ} → Lowest fringe e → e < count
   spread-below {e} l = s .few e (to-T (bit fringe e) (l .there))
 
+  -- a turn with any subformula of the fringe
+  pub spread-with : {e rest grown : ℕ} → Turn (go e) fringe e rest set grown → ((i : ℕ) → i < count → All-below count (go i))
+      → Spread go count node grown (bitOr rest (bitXor grown set))
+  spread-with {e} u f =
+      let below = f e (s .few e (u .there)) in
+      record {
+        few = λ k h. elim (came u k h) [ inl p ↦ s .few k p | inr r ↦ below k r ];
+        is = λ v n d. closing-turn (λ m r. omega (arith, below m r)) u (s .is v n d);
+      }
+
+  -- with the lowest one
   module _ {e rest grown : ℕ} (l : Lowest fringe e) (o : Without fringe e rest) (g : grown ≡ with-bits (go e) set) where
     turn : Turn (go e) fringe e rest set grown
     turn = record { there = to-T (bit fringe e) (l .there); left = o; gains = g }
 
     pub spread-turn : ((i : ℕ) → i < count → All-below count (go i)) → Spread go count node grown (bitOr rest (bitXor grown set))
-    spread-turn f =
-        let below = f e (spread-below l) in
-        record {
-          few = λ k h. elim (came turn k h) [ inl p ↦ s .few k p | inr r ↦ below k r ];
-          is = λ v n d. closing-turn (λ m r. omega (arith, below m r)) turn (s .is v n d);
-        }
+    spread-turn f = spread-with turn f
 
     pub spread-less : (room : ℕ) → grown ≤ room → 2 * (room - grown) + bitOr rest (bitXor grown set) < 2 * (room - set) + fringe
     spread-less = falls turn
 
   pub spread-rest : fringe ≡ 0 → (v : Subset) (l : length v ≡ count) (n : node ≡ word v) → Follows-moves go (s .is v l n .now)
   spread-rest z v l n e m h = s .is v l n .follows e m h (λ t. subst T (ap (λ (x : ℕ). bit x e) z ∙ no-bit e) t)
-
--- the moves of a subformula under the choice of a word
-abbrev pub moves-at : List ℕ → (choice e : ℕ) → List ℕ
-moves-at rows choice e = moves (operator-at rows e) (bit choice e)
 
 pub moves-at-below : {rows : List ℕ} {count : ℕ} → Formed rows count → (choice e : ℕ) → e < count → All-below count (moves-at rows choice e)
 moves-at-below {rows} {count} f choice e h = moves-below count (operator-at rows e) (bit choice e) (f .fits e h)
@@ -201,6 +191,18 @@ moves-same rows count {choice} {e} w c h =
     ∙ ap (λ (o : Operator). moves o (has w e))
     (sym (values-at (operator-at rows) 0 count e (Operator.leaf (Leaf.constant false)) h ∙ ap (operator-at rows) (zero-add e)))
 
+-- under the choice w it is inside the saturation
+pub closing-inside : (rows : List ℕ) {count choice set fringe : ℕ} {v : Subset} (w : Subset)
+    (b : Moves-closing (moves-at rows choice) v set fringe) → length v ≡ count → choice ≡ word w
+    → Inside (b .now) (saturate (table-of rows count) w v)
+closing-inside rows {count} {v = v} w b l c =
+    let t = table-of rows count in
+    let whole = saturate t w v in
+    b .least whole (saturate-holds t w v)
+    (λ e m h r k.
+    saturate-closed t w v (l ∙ sym (table-length rows count)) e m h
+    (subst (List·Memᴰ m) (moves-same rows count w c (omega (arith, has-lt whole e h, saturate-length t w v))) r) k)
+
 pub saturated-rest : {rows : List ℕ} {count choice node set fringe : ℕ} → Spread (moves-at rows choice) count node set fringe → fringe ≡ 0
     → Saturated rows count choice node set
 saturated-rest {rows} {count} {choice} {node} {set} s z = record { is = λ w v l c n. go w v l c n }
@@ -209,12 +211,7 @@ saturated-rest {rows} {count} {choice} {node} {set} s z = record { is = λ w v l
     go w v l c n =
         let t = table-of rows count in
         let b = s .is v l n in
-        let whole = saturate t w v in
-        b .word-is ∙ ap word (inside-both
-        (b .least whole (saturate-holds t w v)
-        (λ e m h r k.
-        saturate-closed t w v (l ∙ sym (table-length rows count)) e m h
-        (subst (List·Memᴰ m) (moves-same rows count w c (omega (arith, has-lt whole e h, saturate-length t w v))) r) k))
+        b .word-is ∙ ap word (inside-both (closing-inside rows w b l c)
         (saturate-least t w (b .holds)
         (λ e m h r k.
         spread-rest s z v l n e m h

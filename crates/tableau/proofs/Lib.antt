@@ -10,7 +10,9 @@ pub mod WordSets
 pub mod RowLaws
 pub mod LoopLaws
 pub mod FringeLaws
+pub mod PartLaws
 pub mod TargetLaws
+pub mod CoreLaws
 pub mod WidestLaws
 pub mod UnmetLaws
 pub mod AreaLaws

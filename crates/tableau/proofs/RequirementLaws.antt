@@ -49,11 +49,11 @@ listed-in false m = flat-map-in (requires false) m (List·Memᴰ·head refl)
 
 -- one word
 module _ (p : Bool) (os : List Operator) where
-  required-bit : (j : ℕ) → j < 16 → bit (required-word p os) j ≡ member j (signals p os)
+  pub required-bit : (j : ℕ) → j < 16 → bit (required-word p os) j ≡ member j (signals p os)
   unfolding required-word
   required-bit j h = values-bit (λ i. member i (signals p os)) 16 j h
 
-  required-past : (j : ℕ) → 16 ≤ j → bit (required-word p os) j ≡ false
+  pub required-past : (j : ℕ) → 16 ≤ j → bit (required-word p os) j ≡ false
   unfolding required-word
   required-past j h = values-past (λ i. member i (signals p os)) 16 j h
 

@@ -20,6 +20,7 @@ use Rattle.base.proofs.Inside.{below-greatest, inside-at, inside-of, inside-len
 use Rattle.base.proofs.Inside.{rests}
 use Rattle.formula.specs.Table.{Operator, Table, operator}
 use Rattle.tableau.specs.Saturation.{Subset, has, same-subset, nothing, add, moves, sweep, saturate}
+use Rattle.tableau.specs.Fringe.{Follows-moves}
 
 -- the test of subsets
 pub subset-sound : (v u : Subset) → T (same-subset v u) → v ≡ u
@@ -138,10 +139,7 @@ sweep-mono : (t : Table) (w : Subset) (e : ℕ) {v u : Subset} → Inside v u �
 sweep-mono [] w e i = i
 sweep-mono (o ∷ t) w e i = sweep-mono t w (suc e) (added-mono o w e i)
 
--- a move from a subformula of the set to one of the table stays in the set: for any moves, and for those of a choice
-abbrev pub Follows-moves : (ℕ → List ℕ) → Subset → Type 0
-Follows-moves go v = (e m : ℕ) → T (has v e) → List·Memᴰ m (go e) → m < length v → T (has v m)
-
+-- a move from a subformula of the set to one of the table stays in the set
 abbrev pub Closed-under : Table → (choice : Subset) → Subset → Type 0
 Closed-under t w v = Follows-moves (λ e. moves (operator t e) (has w e)) v
 

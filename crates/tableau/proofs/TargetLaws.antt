@@ -68,9 +68,14 @@ target-unmet {rows} {count} {choice} {set = set} st h = record {
       ap target (sym (no-transition t w s p));
 }
 
+-- What is gathered of the saturation of a node under a choice is r.
+pub record Required-of (rows : List ℕ) (count choice node : ℕ) (r : Gathered) : Type 0 where
+  pub is : (w v : Subset) → length v ≡ count → choice ≡ word w → node ≡ word v
+      → Required (operators-in (table-of rows count) (saturate (table-of rows count) w v)) r
+
 -- the answer, from the outcome of the tests of what is required
 module _ {rows : List ℕ} {count choice node set : ℕ} {r : Gathered} (f : Formed rows count)
-    (st : Saturated rows count choice node set) (rq : Required-by rows count set r) where
+    (st : Saturated rows count choice node set) (rq : Required-of rows count choice node r) where
   abbrev test : Bool
   test = eqb (bitAnd choice set) choice && (not (r .falsum) && not (clash (gathered-words r)))
 
@@ -84,7 +89,7 @@ module _ {rows : List ℕ} {count choice node set : ℕ} {r : Gathered} (f : For
       go w v l c n =
           let s : Subset = saturate t w v in
           let k : set ≡ word s = st .is w v l c n in
-          let q : Required (operators-in t s) r = rq .is s (saturate-length t w v ∙ l) k in
+          let q : Required (operators-in t s) r = rq .is w v l c n in
           let p : (within w s && possible (operators-in t s)) ≡ b = test-is f s r q w ∙ rw (← c, ← k) h in
           e ∙ by b (required-is f s r q) (to-is f s r q) ∙ ap target (sym (transition-by t w s b p))
         where

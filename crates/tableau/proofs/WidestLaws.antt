@@ -21,9 +21,10 @@ use Rattle.formula.specs.Table.{Operator, Table, operator, is-or}
 use Rattle.tableau.specs.Saturation.{Subset, has, moves, saturate}
 use Rattle.tableau.specs.Transition.{ors, choice-of}
 use Rattle.tableau.specs.Inner.{table-of, Formed, with-bits, Choice-between, Widest}
+use Rattle.tableau.specs.Fringe.{Spread, moves-at}
 use Rattle.tableau.proofs.SaturationLaws.{inside-has, has-lt, saturate-least}
 use Rattle.tableau.proofs.WordSets.{All-below, with-bits-append}
-use Rattle.tableau.proofs.FringeLaws.{Spread, spread-turn, spread-less, spread-rest, moves-at, moves-at-below, moves-same}
+use Rattle.tableau.proofs.FringeLaws.{spread-turn, spread-less, spread-rest, moves-at-below, moves-same}
 
 -- a choice word with more bits picks right at more ors
 choice-inside : (t : Table) (x y : ℕ) → ((i : ℕ) → i < ors t → T (bit x i) → T (bit y i)) → Inside (choice-of t x) (choice-of t y)

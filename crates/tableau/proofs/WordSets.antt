@@ -53,7 +53,7 @@ with-bits-bit (m ∷ ms) x k =
     turn false q r = refl
 
 -- the word whose bits are a list's numbers
-bits-of : (ms : List ℕ) (k : ℕ) → bit (with-bits ms 0) k ≡ member k ms
+pub bits-of : (ms : List ℕ) (k : ℕ) → bit (with-bits ms 0) k ≡ member k ms
 bits-of ms k = with-bits-bit ms 0 k ∙ ap (λ (b : Bool). member k ms || b) (no-bit k) ∙ or-false (member k ms)
 
 -- what is added to a set is put into its word

@@ -4,5 +4,6 @@ pub mod Nodes
 pub mod Run
 pub mod Foremost
 pub mod Inner
+pub mod Fringe
 pub mod Area
 pub mod Origins

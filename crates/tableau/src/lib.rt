@@ -6,13 +6,14 @@ ghost use mathlib.Core.Path.{_≡_};
 ghost use Prim.Native.Nat.{_+_, _*_, _^_, _≤_, _<_};
 ghost use lib.Dec.{eqb};
 ghost use lib.ListN.{length};
-ghost use Rattle.base.specs.Bits.{bit, word};
+ghost use Rattle.base.specs.Bits.{bit, word, Lowest};
 ghost use Rattle.base.specs.Lists.{member, index};
 ghost use Rattle.formula.specs.Rows.{operator-at};
 ghost use Rattle.formula.specs.Access.{Placed};
 ghost use Rattle.tableau.specs.Saturation.{moves};
 ghost use Rattle.tableau.specs.Transition.{ors, choice-of};
 ghost use Rattle.tableau.specs.Inner.{table-of, Formed, with-bits, Saturated, Requires-more, Required-by, Target-is};
+ghost use Rattle.tableau.specs.Fringe.{Closes-by, Closing-of, Joined, Core-of};
 ghost use Rattle.tableau.specs.Inner.{Target-by, Widest, Unmet-between, is-unmet, Unmet-ors};
 ghost use Rattle.tableau.specs.Area.{eight, words-at, lookup, cleared, Node-room, Nodes-held, reachable, slot-of, Slots-marked};
 ghost use Rattle.tableau.specs.Area.{with-note};
@@ -41,6 +42,23 @@ struct Gathered {
     absent: u16,
     falsum: bool,
     to: u64,
+}
+
+// A node on the way to its core: the set so far, the subformulas whose moves are still to be followed, and the ors, which wait.
+struct Closing {
+    set: u64,
+    fringe: u64,
+    waiting: u64,
+}
+
+// What every saturation of a node has in common: what the moves of all operators but the ors lead to; the ors among them, whose moves a
+// choice settles; what the set gathers; and whether that fails already, so that the node has no transition.
+pub struct Core {
+    pub node: u64,
+    pub set: u64,
+    pub fringe: u64,
+    gathered: Gathered,
+    pub fails: bool,
 }
 
 // Where a transition leads, with what it requires of its letter, if it exists.
@@ -111,14 +129,55 @@ fn moved(rows: &[u8; 144], choice: u64, s: Subformula, set: u64) -> u64
     }
 }
 
-// The least set around the node that no move leaves. The fringe has the subformulas whose moves are still to be followed. A node has
-// no bit from count on: `low` changes none, and bounds e for any word.
-fn saturated(rows: &[u8; 144], count: usize, choice: u64, node: u64) -> u64
-    requires { ⌜ Formed (now rows) count ⌝ }
-    ensures { λ r. ⌜ Saturated (now (rows .entry)) count choice node r ⌝ }
+// A turn on the way to a core: of the fringe an or goes to those that wait, and the moves of any other operator are followed.
+fn closed_by(rows: &[u8; 144], s: Subformula, had: Closing) -> Closing
+    requires { ⌜ Placed (now rows) (s .0) ⌝ }
+    requires { ⌜ Lowest (had .fringe) (s .0) ⌝ }
+    ensures { λ r. ⌜ Closes-by (operator-at (now (rows .entry)) (s .0)) (s .0) had r ⌝ }
 {
-    let mut set = node;
-    let mut fringe = base::low(node, count);
+    let rest = base::without(had.fringe, s.0);
+    if formula::is_or(rows, s) {
+        return Closing {
+            set: had.set,
+            fringe: rest,
+            waiting: had.waiting | base::power(s.0),
+        };
+    }
+    let grown = moved(rows, 0, s, had.set);
+    Closing {
+        set: grown,
+        fringe: rest | (grown ^ had.set),
+        waiting: had.waiting,
+    }
+}
+
+// The least set around the node that no move leaves, but those of the ors. A node has no bit from count on: `low` changes none, and
+// bounds e for any word.
+fn closed(rows: &[u8; 144], count: usize, node: u64) -> Closing
+    requires { ⌜ Formed (now rows) count ⌝ }
+    ensures { λ r. ⌜ Closing-of (now (rows .entry)) count node r ⌝ }
+    ensures { λ r. ⌜ r .fringe ≡ 0 ⌝ }
+{
+    let mut c = Closing {
+        set: node,
+        fringe: base::low(node, count),
+        waiting: 0,
+    };
+    while c.fringe != 0 {
+        let e = base::lowest(c.fringe);
+        c = closed_by(rows, Subformula(e), c);
+    }
+    c
+}
+
+// The least set around the core's node that no move leaves. The fringe has the subformulas whose moves are still to be followed.
+fn saturated(rows: &[u8; 144], count: usize, choice: u64, core: Core) -> u64
+    requires { ⌜ Formed (now rows) count ⌝ }
+    requires { ⌜ Core-of (now rows) count core ⌝ }
+    ensures { λ r. ⌜ Saturated (now (rows .entry)) count choice (core .node) r ⌝ }
+{
+    let mut set = core.set;
+    let mut fringe = core.fringe;
     while fringe != 0 {
         let e = base::lowest(fringe);
         let grown = moved(rows, choice, Subformula(e), set);
@@ -266,16 +325,51 @@ fn required_by(rows: &[u8; 144], count: usize, set: u64) -> Gathered
     all
 }
 
-// The transition of a node under a choice, which picks nothing at an or that is not met.
-fn transition(rows: &[u8; 144], count: usize, choice: u64, node: u64) -> Target
-    requires { ⌜ Formed (now rows) count ⌝ }
-    ensures { λ r. ⌜ Target-is (now (rows .entry)) count choice node r ⌝ }
+// What two sets gather together.
+fn joined(a: Gathered, b: Gathered) -> Gathered
+    ensures { λ r. ⌜ Joined a b r ⌝ }
 {
-    let set = saturated(rows, count, choice, node);
+    Gathered {
+        present: a.present | b.present,
+        absent: a.absent | b.absent,
+        falsum: a.falsum | b.falsum,
+        to: a.to | b.to,
+    }
+}
+
+// The core of a node.
+pub fn core_of(rows: &[u8; 144], count: usize, node: u64) -> Core
+    requires { ⌜ Formed (now rows) count ⌝ }
+    ensures { λ r. ⌜ Core-of (now (rows .entry)) count r × (r .node ≡ node) ⌝ }
+{
+    let c = closed(rows, count, node);
+    let g = required_by(rows, count, c.set);
+    let required = Requirement {
+        present: g.present,
+        absent: g.absent,
+    };
+    Core {
+        node: node,
+        set: c.set,
+        fringe: c.waiting,
+        gathered: g,
+        fails: g.falsum | letters::clashes(required),
+    }
+}
+
+// The transition of the core's node under a choice, which picks nothing at an or that is not met. What the core gathers need not be
+// gathered again.
+fn transition(rows: &[u8; 144], count: usize, choice: u64, core: Core) -> Target
+    requires { ⌜ Formed (now rows) count ⌝ }
+    requires { ⌜ Core-of (now rows) count core ⌝ }
+    ensures { λ r. ⌜ Target-is (now (rows .entry)) count choice (core .node) r ⌝ }
+{
+    let set = saturated(rows, count, choice, core);
     if choice & set != choice {
         return Target::Nothing;
     }
-    let r = required_by(rows, count, set);
+    let common = core.gathered;
+    let r = joined(common, required_by(rows, count, set ^ core.set));
     if r.falsum {
         return Target::Nothing;
     }
@@ -292,23 +386,27 @@ fn transition(rows: &[u8; 144], count: usize, choice: u64, node: u64) -> Target
     }
 }
 
-// The transition of a node under a choice word. Most words that pick at an or that they do not meet are known by `unmet`.
+// The transition of the core's node under a choice word. Most words that pick at an or that they do not meet are known by `unmet`.
 pub fn by_word(
     rows: &[u8; 144],
     count: usize,
     unmet: &[u64; 24],
+    core: Core,
     choice_word: u64,
-    node: u64,
 ) -> Target
     requires { ⌜ Formed (now rows) count ⌝ }
-    requires { ⌜ Unmet-ors (now rows) count node (now unmet) ⌝ }
-    ensures { λ r. ⌜ Target-by (now (rows .entry)) count «choice_word» node r ⌝ }
+    requires { ⌜ Core-of (now rows) count core ⌝ }
+    requires { ⌜ Unmet-ors (now rows) count (core .node) (now unmet) ⌝ }
+    ensures { λ r. ⌜ Target-by (now (rows .entry)) count «choice_word» (core .node) r ⌝ }
 {
+    if core.fails {
+        return Target::Nothing;
+    }
     if is_unmet(unmet, choice_word) {
         return Target::Nothing;
     }
     let choice = choice_of(rows, count, choice_word);
-    transition(rows, count, choice, node)
+    transition(rows, count, choice, core)
 }
 
 pub fn node(area: &[u8], number: NodeNumber) -> u64
@@ -454,6 +552,7 @@ fn expand(
     ensures { λ r. ⌜ (r ≤ capacity → Slots-marked r (now (area .exit)) (now (slots .exit))) ⌝ }
 {
     let from = node(area, number);
+    let core = core_of(rows, count, from);
     let unmet = unmet(rows, count, from);
     let end = base::power(ors(rows, count));
     let mut all = known;
@@ -462,7 +561,7 @@ fn expand(
         if capacity < all {
             return all;
         }
-        let target = by_word(rows, count, &unmet, word, from);
+        let target = by_word(rows, count, &unmet, core, word);
         all = follow(area, slots, origins, number, target, all, capacity);
         word += 1;
     }

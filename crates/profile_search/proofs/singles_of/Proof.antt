@@ -18,33 +18,38 @@ record Turned (rows : List ℕ) (count : ℕ) (s : Store) (a : List ℕ) (nodes 
   grown : Grown s had a all b (of-first (table-of rows count) count s nodes a i had word)
 
 abbrev Inv-loop : tie.InvT-loop
-Inv-loop rows subformulas r store area₀ nodes number count set unmet end all₀ word₀ area all word =
+Inv-loop rows subformulas r store area₀ nodes number count set core unmet end all₀ word₀ area all word =
     Turned rows subformulas store area₀ nodes (number .0) count end area all word
 
 abbrev μ-loop : tie.MeasureT-loop
-μ-loop rows subformulas r store area₀ nodes number count set unmet end all₀ word₀ area all word = end - word
+μ-loop rows subformulas r store area₀ nodes number count set core unmet end all₀ word₀ area all word = end - word
 
 node-requires : tie.Need-node-requires Inv-loop μ-loop
 node-requires c κs = search needs
 
+core-of-requires : tie.Need-core-of-requires Inv-loop μ-loop
+core-of-requires c κs =
+    let start = c .before .before .before in
+    start .pre .given .limited .formed
+
 unmet-requires : tie.Need-unmet-requires Inv-loop μ-loop
 unmet-requires c κs =
-    let start = c .before .before .before in
+    let start = c .before .before .before .before in
     start .pre .given .limited .formed
 
 ors-requires : tie.Need-ors-requires Inv-loop μ-loop
 ors-requires c κs =
-    let start = c .before .before .before .before in
+    let start = c .before .before .before .before .before in
     start .pre .given .limited .formed
 
 power-requires : tie.Need-power-requires Inv-loop μ-loop
 power-requires c κs =
-    let start = c .before .before .before .before .before in
+    let start = c .before .before .before .before .before .before in
     omega (arith, c .ors .ensures, start .pre .given .limited .formed .few-ors)
 
 loop-holds : tie.Need-loop-holds Inv-loop μ-loop
 loop-holds c =
-    let start = c .before .before .before .before .before .before in
+    let start = c .before .before .before .before .before .before .before in
     record { turn = omega arith; grown = grown-still _ _ _ (start .pre .room) (start .pre .chained) }
 
 same-length : tie.Need-same-length Inv-loop μ-loop
@@ -56,7 +61,7 @@ returns : tie.Need-returns Inv-loop μ-loop
 returns c =
     let power = c .before .before .before .before .power in
     let ors = c .before .before .before .before .before .ors in
-    let start = c .before .before .before .before .before .before .before .before .before .before in
+    let start = c .before .before .before .before .before .before .before .before .before .before .before in
     let loop = c .before .before .before .loop in
     let end-is = power .ensures ∙ ap (λ (n : ℕ). 2 ^ n) (ors .ensures) in
     of-stop (start .pre .given) (start .args .number .0) (start .args .count) (loop .word) (power .result) end-is (c .if1 .taken)
@@ -64,13 +69,14 @@ returns c =
 
 single-requires : tie.Need-single-requires Inv-loop μ-loop
 single-requires c κs =
-    let start = c .before .before .before .before .before .before .before .before .before .before .before .before in
+    let start = c .before .before .before .before .before .before .before .before .before .before .before .before .before in
     let loop = c .before .before .before .before .before .loop in
     let power = c .before .before .before .before .before .before .power in
     let ors = c .before .before .before .before .before .before .before .ors in
     let if1 = c .before .before .if1 in
-    let node = c .before .before .before .before .before .before .before .before .before .node in
-    let unmet = c .before .before .before .before .before .before .before .before .unmet in
+    let unmet = c .before .before .before .before .before .before .before .before in
+    let core = unmet .before .core-of in
+    let node = unmet .before .before .node in
     let test = c .before .before .before .before .loop-test in
     let ready = start .pre in
     let grown = loop .inv .grown in
@@ -83,7 +89,9 @@ single-requires c κs =
       },
       record {
         set-is = from-kept (ready .given) (grown .elsewhere) (omega arith) (start .args .number .0) (ready .node) (node .ensures);
-        unmet-is = unmet .ensures;
+        unmet-is = unmet .unmet .ensures;
+        core-is = core .ensures .0;
+        core-node = core .ensures .1;
         below = omega (arith, test .taken, end-is);
       },
     )
@@ -96,12 +104,13 @@ loop-less c = search needs
 
 loop-again : tie.Need-loop-again Inv-loop μ-loop
 loop-again c =
-    let start = c .before .before .before .before .before .before .before .before .before .before .before .before .before .before .before in
-    let loop = c .before .before .before .before .before .before .before .before .loop in
+    let at-loop = c .before .before .before .before .before .before .before .before in
+    let start = at-loop .before .before .before .before .before .before .before .before in
+    let loop = at-loop .loop in
     let if1 = c .before .before .before .before .before .if1 in
     let single = c .before .before .single in
     record {
-      turn = omega arith;
+      turn = omega (arith, c .before .before .before .before .before .before .before .loop-test .taken);
       grown = of-turn (start .pre .given) (start .args .number .0) (start .args .count) (loop .word) (start .pre .node) (if1 .left)
           (loop .inv .grown) (single .ensures);
     }
@@ -113,7 +122,7 @@ returns-2 : tie.Need-returns-2 Inv-loop μ-loop
 returns-2 c =
     let power = c .before .before .power in
     let ors = c .before .before .before .ors in
-    let start = c .before .before .before .before .before .before .before .before in
+    let start = c .before .before .before .before .before .before .before .before .before in
     let loop = c .before .loop in
     let end-is = power .ensures ∙ ap (λ (n : ℕ). 2 ^ n) (ors .ensures) in
     of-done (start .pre .given) (start .args .number .0) (start .args .count) (loop .word) (power .result) end-is (loop .inv .turn)
@@ -126,6 +135,7 @@ singles-of-spec =
     Inv-loop
     μ-loop
     node-requires
+    core-of-requires
     unmet-requires
     ors-requires
     power-requires

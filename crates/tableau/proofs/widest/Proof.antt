@@ -1,5 +1,6 @@
 -- `tableau::widest` follows the moves under both choices by a fringe, as `saturated` does those under one: a turn is two calls of `moved`.
-use Rattle.tableau.proofs.FringeLaws.{Spread, spread-start, spread-below}
+use Rattle.tableau.proofs.FringeLaws.{spread-start, spread-below}
+use Rattle.tableau.specs.Fringe.{Spread}
 use Rattle.tableau.proofs.WidestLaws.{moves-both, widest-turn, widest-less, widest-rest}
 use Rattle.tableau.proofs.RowLaws.{placed}
 use borrow.Author.Needs.{needs}
