@@ -115,12 +115,13 @@ unfolding parse table search
 search-verdict K N M workspace buffer bytes =
     after-reading (λ (t : Table). ask-capacities N M (length workspace) buffer (search K N M workspace t)) (parse bytes)
 
--- Building and then searching: what building refuses, or the search over the nodes that it leaves.
+-- What comes behind building (MEANING 5.13): its refusal, or the search over the nodes that it leaves.
 abbrev pub search-built : (N M : ℕ) (workspace : List ℕ) (buffer : ℕ) (bytes : List ℕ) → Construction → Verdict
 search-built N M workspace buffer bytes (Construction.unread why) = Verdict.unread why
 search-built N M workspace buffer bytes (Construction.refused code) = Verdict.refused code
 search-built N M workspace buffer bytes (Construction.built words) =
     search-verdict (length words) N M (built.leaves N (Construction.built words) workspace) buffer bytes
 
+-- Building and then searching.
 abbrev pub pair-verdict : (N M : ℕ) (workspace : List ℕ) (buffer : ℕ) → List ℕ → Verdict
 pair-verdict N M workspace buffer bytes = search-built N M workspace buffer bytes (construction N (length workspace) bytes)
