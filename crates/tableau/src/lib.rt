@@ -36,7 +36,7 @@ pub struct Arrival {
     pub letter: u16,
 }
 
-// What one pass over a saturated set gathers: the two words of what it requires, whether it holds false, and the operands of its nexts.
+// What one pass over a set of subformulas gathers: the two words of what it requires, whether it holds false, and the operands of its nexts.
 struct Gathered {
     present: u16,
     absent: u16,
