@@ -1,6 +1,6 @@
 /* Lists the entries of a rule, decides a few, one of them with little room, tries the course of each that has one, and a course that is
- * refused; then builds the nodes of a rule once and searches them with little room, with more, and for another rule. Each answer is asked
- * for a refusal before it is taken apart. */
+ * refused; then builds the nodes of a rule once and searches them with little room, with more, and for another rule; then decides safety
+ * rules with room for nodes alone. Each answer is asked for a refusal before it is taken apart. */
 #include "../include/yuktrob.h"
 #include <stdio.h>
 
@@ -29,10 +29,12 @@ static void list(const uint8_t *rule, size_t rule_len) {
     }
 }
 
+static void print_sizes(uint64_t answer) {
+    printf("MET, lead-in %u, loop %u, K %u", yuktrob_lead_len(answer), yuktrob_loop_len(answer), yuktrob_nodes(answer));
+}
+
 static void print_course(uint64_t answer) {
     unsigned n = yuktrob_lead_len(answer) + yuktrob_loop_len(answer);
-    printf("MET, lead-in %u, loop %u, ", yuktrob_lead_len(answer), yuktrob_loop_len(answer));
-    printf("K %u, profiles up to the loop's length %u:", yuktrob_nodes(answer), yuktrob_profiles(answer));
     for (unsigned i = 0; i < n; i++) printf(" %04x", (unsigned)course[i]);
     printf("\n");
 }
@@ -54,6 +56,8 @@ static void print_verdict(uint64_t answer, const uint8_t *rule, size_t rule_len)
         print_refusal(answer);
     } else if (yuktrob_is_met(answer)) {
         size_t lead_len = yuktrob_lead_len(answer);
+        print_sizes(answer);
+        printf(", profiles up to the loop's length %u:", yuktrob_profiles(answer));
         print_course(answer);
         try_course(rule, rule_len, course, lead_len + yuktrob_loop_len(answer), lead_len);
     } else {
@@ -94,6 +98,22 @@ static void search_within(size_t profiles, size_t built, const uint8_t *rule, si
     print_verdict(answer, rule, rule_len);
 }
 
+/* The decision of a safety rule, with room for so many nodes, NODES at most, in areas that are just as long. */
+static void decide_safety(size_t nodes, const uint8_t *rule, size_t rule_len) {
+    uint64_t answer = yuktrob_decide_safety(rule, rule_len, nodes, work, YUKTROB_NODES_LEN(nodes), course, nodes);
+    if (yuktrob_refusal(answer)) {
+        print_refusal(answer);
+    } else if (yuktrob_is_met(answer)) {
+        size_t lead_len = yuktrob_lead_len(answer);
+        print_sizes(answer);
+        printf(":");
+        print_course(answer);
+        try_course(rule, rule_len, course, lead_len + yuktrob_loop_len(answer), lead_len);
+    } else {
+        printf("NOT, K %u\n", yuktrob_nodes(answer));
+    }
+}
+
 int main(void) {
     const uint8_t eventually[] = {0x09, 0x06, 0x03, 0x00, 0x08, 0x05, 0x00}; /* sooner or later signal 0 */
     const uint8_t either[] = {0x06, 0x03, 0x01, 0x03, 0x00}; /* signal 1 or signal 0: two courses as short, the left one is given */
@@ -103,6 +123,9 @@ int main(void) {
     const uint8_t unfinished[] = {0x06, 0x01};
     const uint8_t often[] = {0x0A, 0x07, 0x09, 0x06, 0x03, 0x00, 0x08, 0x05, 0x00, 0x08, 0x05, 0x00}; /* infinitely often signal 0 */
     const uint8_t never_previous[] = {0x0A, 0x07, 0x04, 0x0E, 0x08, 0x05, 0x00}; /* always signal 14 absent */
+    /* signal 0 at every second place and signal 1 at every third */
+    const uint8_t by_turns[] = {0x07, 0x0A, 0x07, 0x03, 0x00, 0x08, 0x08, 0x05, 0x00,
+                                0x0A, 0x07, 0x03, 0x01, 0x08, 0x08, 0x08, 0x05, 0x00};
     const uint16_t handover[] = {YUKTROB_PREVIOUS_SCALE, YUKTROB_CURRENT_SCALE};
     const uint16_t no_flag[] = {YUKTROB_CURRENT_SCALE, 0x0000};
     list(eventually, sizeof eventually);
@@ -123,5 +146,11 @@ int main(void) {
     search_within(4, built, often, sizeof often);
     search_within(4, built, eventually, sizeof eventually);
     build(unguarded, sizeof unguarded);
+    decide_safety(NODES, by_turns, sizeof by_turns);
+    decide_safety(6, by_turns, sizeof by_turns);
+    decide_safety(NODES, never_previous, sizeof never_previous);
+    decide_safety(NODES, never, sizeof never);
+    decide_safety(NODES, often, sizeof often);
+    decide_safety(NODES, unguarded, sizeof unguarded);
     return 0;
 }

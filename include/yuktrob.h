@@ -1,4 +1,5 @@
-/* Rules of tractor-guidance terminals: reading, truth on a repeating course, and the decision, at once or in two: building and search.
+/* Rules of tractor-guidance terminals: reading, truth on a repeating course, and the decision, at once or in two: building and search; and
+ * that of safety rules, which takes no profiles.
  *
  * Each function answers one number. Its lowest byte is the number of a refusal, or 0; what the answer carries stands above it:
  *   reading    accepted: the number of entries; refused 1 to 9: its places
@@ -9,6 +10,8 @@
  *              profiles, the first lowest; refused 1 to 9: its places; refused 11 to 15: nothing
  *   building   built: the number of nodes, K; refused 1 to 9: its places; refused 11, 12 or 14: nothing
  *   search     MET and NOT as the decision has them; refused 1 to 9: its places; refused 11 to 13, 15 or 36: nothing
+ *   safety     MET and NOT as the decision has them, the 13 bits of the profiles being 0; refused 1 to 9 or 43: its places; refused 11 to
+ *              14: nothing
  * The places of a refusal are 8 bits for the byte's place and, of 8 alone, 8 bits above them for where the variable's fixpoint begins.
  * docs/FORMULAS.md lists the refusals; later versions may have more. Ask for a refusal before taking an answer apart.
  *
@@ -30,8 +33,9 @@
 #define YUKTROB_PREVIOUS_SCALE 0x4000u
 #define YUKTROB_CURRENT_SCALE 0x8000u
 
-/* How large the areas must be: the bytes of the work area of building, which are the first ones of a search's; the bytes of the work area
- * and the places of the course buffer of a decision or a search; the words of truth. */
+/* How large the areas must be: the bytes of the work area of building, which are the first ones of a search's, and of a safety rule, whose
+ * course buffer has as many places as there is room for nodes; the bytes of the work area and the places of the course buffer of a decision
+ * or a search; the words of truth. */
 #define YUKTROB_NODES_LEN(nodes) ((size_t)8 * (nodes))
 #define YUKTROB_WORK_LEN(nodes, profiles) (YUKTROB_NODES_LEN(nodes) + (size_t)192 * (profiles))
 #define YUKTROB_COURSE_LEN(nodes, profiles) ((size_t)(nodes) + (size_t)(profiles))
@@ -86,10 +90,23 @@ uint64_t yuktrob_build(const uint8_t *rule, size_t rule_len, size_t nodes, uint8
 uint64_t yuktrob_search(const uint8_t *rule, size_t rule_len, size_t built, size_t nodes, size_t profiles, uint8_t *work, size_t work_len,
                         uint16_t *course, size_t course_len);
 
-/* Taking an answer apart. Every answer: the refusal's number, or 0; whether the refusal has a byte's place; and the place. Then whether it
- * has a fixpoint's place too, which 8 alone has; and that place. */
+/* The decision of a safety rule, which has greatest fixpoints alone, with room for so many nodes. Such a rule has no bad loop, so there are
+ * no profiles to find room for, and no 15. The work area needs YUKTROB_NODES_LEN(nodes) bytes, the course buffer nodes places. The answer
+ * and the course are those of yuktrob_decide with as many nodes, wherever that has room for the profiles that it needs; lead-in and loop
+ * together have at most K places. More room changes nothing.
+ *
+ * 43, which is asked behind reading and before 11, says that the rule has a least fixpoint, and has the place of the first one's byte 09.
+ * After MET, NOT and 14 the first YUKTROB_NODES_LEN(nodes) bytes of the work area are zero; otherwise the work area is unchanged. The
+ * course buffer is written by MET alone, and then begins with the course. */
+uint64_t yuktrob_decide_safety(const uint8_t *rule, size_t rule_len, size_t nodes, uint8_t *work, size_t work_len, uint16_t *course,
+                               size_t course_len);
+
+/* Taking an answer apart. Every answer: the refusal's number, or 0; whether the refusal has a byte's place, as 1 to 9 and 43 have; and the
+ * place. Then whether it has a fixpoint's place too, which 8 alone has; and that place. */
 static inline unsigned yuktrob_refusal(uint64_t answer) { return (unsigned)(answer & 255); }
-static inline int yuktrob_has_place(uint64_t answer) { return 1 <= yuktrob_refusal(answer) && yuktrob_refusal(answer) <= 9; }
+static inline int yuktrob_has_place(uint64_t answer) {
+    return (1 <= yuktrob_refusal(answer) && yuktrob_refusal(answer) <= 9) || yuktrob_refusal(answer) == 43;
+}
 static inline unsigned yuktrob_place(uint64_t answer) { return (unsigned)(answer >> 8 & 255); }
 static inline int yuktrob_has_fixpoint(uint64_t answer) { return yuktrob_refusal(answer) == 8; }
 static inline unsigned yuktrob_fixpoint(uint64_t answer) { return (unsigned)(answer >> 16 & 255); }
@@ -109,7 +126,7 @@ static inline int yuktrob_is_true(uint64_t answer) { return (answer & 255) == 0 
 static inline unsigned yuktrob_built(uint64_t answer) { return (unsigned)(answer >> 8); }
 
 /* A decision or a search, not refused; the lengths are 0 after NOT. The nodes are K. After NOT the profiles are P; after MET they are those
- * of runs of at most as many steps as the loop has. */
+ * of runs of at most as many steps as the loop has; of a safety rule's decision they are 0 and say nothing. */
 static inline int yuktrob_is_met(uint64_t answer) { return (answer & 255) == 0 && (answer >> 8 & 1) == 1; }
 static inline unsigned yuktrob_lead_len(uint64_t answer) { return (unsigned)(answer >> 9 & 8191); }
 static inline unsigned yuktrob_loop_len(uint64_t answer) { return (unsigned)(answer >> 22 & 8191); }

@@ -53,8 +53,8 @@ module _ {L K : Type 0} where
       (λ y m. elim (g (y .at) (f y (List·Memᴰ·tail m))) [ inl e ↦ absurd (n (y, m, sym e)) | inr r ↦ r ]) in
       omega arith
 
-  -- so two lists of distinct items at the same vertices have as many: that many vertices there are
-  fewer : (xs ys : List (Item L K)) → Distinct xs → ((k : K) → Visits k xs → Visits k ys) → length xs ≤ length ys
+  -- so they are no more than the items of a list that visits all their vertices,
+  pub fewer : (xs ys : List (Item L K)) → Distinct xs → ((k : K) → Visits k xs → Visits k ys) → length xs ≤ length ys
   fewer xs ys d f =
       omega (
         arith,
@@ -63,6 +63,7 @@ module _ {L K : Type 0} where
         length-map ys (λ (y : Item L K). y .at),
       )
 
+  -- and two lists of distinct items at the same vertices have as many: that many vertices there are
   pub same-number : (xs ys : List (Item L K)) → Distinct xs → Distinct ys → ((k : K) → Visits k xs → Visits k ys)
       → ((k : K) → Visits k ys → Visits k xs) → length xs ≡ length ys
   same-number xs ys d c f g = omega (arith, fewer xs ys d f, fewer ys xs c g)

@@ -10,15 +10,10 @@ use Rattle.base.proofs.AskLaws.{Asked, passed, every-outcome}
 use Rattle.formula.specs.Formula.{Formula}
 use Rattle.formula.specs.Table.{Table, table}
 use Rattle.formula.specs.Reading.{Reading, parse}
-use Rattle.formula.proofs.Guarded.{parse-guarded}
-use Rattle.formula.proofs.Limits.{parse-limited}
 use Rattle.lasso.specs.Lasso.{Lasso, over-alphabet, meets}
-use Rattle.tableau.specs.Saturation.{Subset}
-use Rattle.tableau.specs.Transition.{Transition}
 use Rattle.theory.proofs.Soundness.{lasso-of}
-use Rattle.theory.proofs.CoreTheorem.{cycle-over-alphabet, cycle-meets, meets-cycle}
+use Rattle.theory.proofs.ReadLaws.{run-such, run-holds, no-lasso}
 use Rattle.decision.specs.Verdict.{Verdict, verdict}
-use Rattle.profile.specs.Cycle.{AcceptingCycle}
 use Rattle.construction.specs.Construction.{node-count}
 use Rattle.decision.specs.Contract.{Witness, Met, Unmet}
 use Rattle.decision.specs.Lends.{Lends}
@@ -66,22 +61,12 @@ witness-is w i = lasso (w .letters-are i) (w .stem-is i)
 
 pub witness-such : {t : Table} {stem cycle : ℕ} {letters : List ℕ} → Witness t stem cycle letters
     → over-alphabet (lasso letters stem) ≡ true
-witness-such {t} w =
-    let r = w .foremost .is-one in
-    subst⁻¹ (λ (c : Lasso). over-alphabet c ≡ true) (witness-is w) (cycle-over-alphabet t (r .leads) (r .counts))
+witness-such w = subst⁻¹ (λ (c : Lasso). over-alphabet c ≡ true) (witness-is w) (run-such (w .foremost .is-one))
 
 module _ (bytes : List ℕ) (f : Formula) (reads : parse bytes ≡ Reading.accepted f) where
   pub witness-holds : {stem cycle : ℕ} {letters : List ℕ} → Witness (table f) stem cycle letters → meets (lasso letters stem) f ≡ true
   witness-holds w =
-      let r = w .foremost .is-one in
-      subst⁻¹ (λ (c : Lasso). meets c f ≡ true) (witness-is w)
-      (cycle-meets f (parse-guarded bytes f reads) (parse-limited bytes f reads .signals) (r .leads) (r .counts))
-
-  pub no-lasso : ((v : Subset) (ss : List Transition) → AcceptingCycle (table f) v ss → ⊥)
-      → (c : Lasso) → over-alphabet c ≡ true → meets c f ≡ true → ⊥
-  no-lasso n c s h =
-      let (v, ss, a) = meets-cycle f (parse-guarded bytes f reads) (parse-limited bytes f reads .signals) c s h in
-      n v ss a
+      subst⁻¹ (λ (c : Lasso). meets c f ≡ true) (witness-is w) (run-holds bytes f reads (w .foremost .is-one))
 
   concluded-says : {o : Verdict} → Concluded (table f) o → Says bytes o
   concluded-says (Concluded.met w) =
@@ -98,7 +83,7 @@ module _ (bytes : List ℕ) (f : Formula) (reads : parse bytes ≡ Reading.accep
       record {
         formula = f;
         reads = reads;
-        none-holds = no-lasso n;
+        none-holds = no-lasso bytes f reads n;
         nodes-counted = refl;
         profiles-counted = refl;
       }

@@ -18,6 +18,7 @@ use Rattle.formula.specs.Formula.{Formula}
 use Rattle.formula.specs.Table.{Table, table}
 use Rattle.formula.specs.Reading.{Reading, parse}
 use Rattle.lasso.specs.Lasso.{Lasso, over-alphabet, meets}
+use Rattle.theory.proofs.ReadLaws.{no-lasso}
 use Rattle.decision.specs.Verdict.{Verdict, after-reading, verdict}
 use Rattle.construction.specs.Construction.{node-count}
 use Rattle.decision.specs.Contract.{says, profile-count, profile-count-within, Witness, leaves, Decided}
@@ -27,7 +28,7 @@ use Rattle.decision.specs.Lends.{Lends}
 use Rattle.decision.proofs.VerdictLaws.{Shortest, Profiles-fit, Concluded, witness-shortest, one-shortest}
 use Rattle.decision.proofs.VerdictLaws.{From14, questions, asked-all}
 use Rattle.decision.proofs.VerdictLaws.{concluded-cases, Verdict-cases, verdict-answered}
-use Rattle.decision.proofs.Answer.{lasso, past-13, read-of, witness-such, witness-holds, no-lasso}
+use Rattle.decision.proofs.Answer.{lasso, past-13, read-of, witness-such, witness-holds}
 
 -- the verdict is no refusal
 abbrev pub IsAnswer : Verdict → Type 0

@@ -3,8 +3,11 @@
 use mathlib.Core.Path.{_≡_, sym, ap, subst}
 use mathlib.Core.Logic.{inl, inr}
 use mathlib.Core.Bool.{not, _&&_}
-use mathlib.Core.List.{List, List·Memᴰ}
+use mathlib.Core.List.{List, [], _∷_, List·Memᴰ}
+use Prim.Native.Nat.{_<_}
+use native.Mathlib.Omega.{arith}
 use lib.Dec.{T, T-not, not-T}
+use lib.ListN.{length, length-append}
 use Rattle.base.specs.Order.{NoLater}
 use Rattle.base.specs.Search.{Item}
 use Rattle.base.proofs.BoolLaws.{and-left, and-right, and-both}
@@ -16,6 +19,7 @@ use Rattle.tableau.specs.Run.{Along}
 use Rattle.tableau.specs.Foremost.{standing}
 use Rattle.tableau.proofs.SaturationLaws.{subset-sound, subset-refl}
 use Rattle.tableau.proofs.NodeLaws.{stem}
+use Rattle.profile.specs.Traces.{Triple, triples, join}
 use Rattle.profile.specs.Profiles.{Profile, profiles, rejecting, accepting}
 use Rattle.profile.specs.Cycle.{AcceptingCycle, Run}
 use Rattle.profile.proofs.RejectLaws.{rejecting-of, rejecting-in}
@@ -65,3 +69,12 @@ cycle-accepting t {v} c n =
 pub run-along : (t : Table) {p : Profile} {ss : List Transition} → Run t p ss → Along t (p .first) ss (p .last)
 run-along t (Run.one m) = Along.on Along.stay m
 run-along t (Run.more r m) = Along.on (run-along t r) m
+
+-- and transitions that lead from a node to a node, one or more, are a run with some triples
+pub along-run : (t : Table) {v u : Subset} {ss : List Transition} → Along t v ss u → 0 < length ss
+    → (xs : List Triple) × Run t (record { first = v; last = u; triple-set = xs }) ss
+along-run t Along.stay h = absurd (omega arith)
+along-run t {v} (Along.on {s = s} Along.stay m) h = (triples t v (s .choice), Run.one m)
+along-run t (Along.on {s = r} (Along.on {ss = ss} {s = s} a n) m) h =
+    let (xs, q) = along-run t (Along.on a n) (omega (arith, length-append ss (s ∷ []))) in
+    (join t xs (triples t (s .to) (r .choice)), Run.more q m)

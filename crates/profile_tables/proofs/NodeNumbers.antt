@@ -49,7 +49,7 @@ module _ (t : Table) where
   pub root-first : At node-sets 0 (root t)
   root-first = subst⁻¹ (λ (l : List (Item Transition Subset)). At (sets l) 0 (root t)) (nodes-first t) At.here
 
-  node-reachable : {j : ℕ} {v : Subset} → At node-sets j v → Reachable t v
+  pub node-reachable : {j : ℕ} {v : Subset} → At node-sets j v → Reachable t v
   node-reachable a =
       let (x, b, e) = at-unmap set-at (nodes t) a in
       nodes-reachable t (x, at-in b, sym e)

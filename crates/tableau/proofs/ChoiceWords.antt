@@ -95,7 +95,7 @@ module _ (t : Table) where
   Rises s r = word s < word r
 
   module _ (v : Subset) where
-    word-is : (x : ℕ) → List·Memᴰ x (range 0 (2 ^ ors t)) → {s : Transition} → List·Memᴰ s (by-word t x v) → word s ≡ x
+    pub word-is : (x : ℕ) → List·Memᴰ x (range 0 (2 ^ ors t)) → {s : Transition} → List·Memᴰ s (by-word t x v) → word s ≡ x
     word-is x i m = ap (choice-word t) (by-word-choice t v x m) ∙ word-read t x (omega (arith, range-of 0 (2 ^ ors t) i))
 
     one-sorted : (x : ℕ) → Sorted Rises (by-word t x v)

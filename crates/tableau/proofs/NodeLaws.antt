@@ -1,8 +1,9 @@
 -- The nodes are what MEANING 3.7 says, without search and fuel: `nodes` lists exactly the sets that transitions lead to from the root
--- (`nodes-along`, `nodes-all`), each once (`nodes-distinct`), so that K, its length, is their number (`nodes-count`); each comes with the
--- first of all runs to it from the root (`nodes-led`, `stem-first`), which has fewer than K transitions (`nodes-short`); and K is at most
--- 1 + 2^n for n next operators (`nodes-few`, and `nodes-few-next` for those of the formula): every node but the root is a part of their
--- operands. That bound is below the search's fuel, so the laws of the search apply. Assumes nothing.
+-- (`nodes-along`, `nodes-all`), each once (`nodes-distinct`), so that K, its length, is their number (`nodes-count`, `nodes-most`); each
+-- comes with the first of all runs to it from the root (`nodes-led`, `stem-first`), which has fewer than K transitions (`nodes-short`); and
+-- K is at most 1 + 2^n for n next operators (`nodes-few`, and `nodes-few-next` for those of the formula): every node but the root is a part
+-- of their operands, and so is every node that a search from another node finds (`found-few`). That bound is below the search's fuel, so
+-- the laws of the search apply. Assumes nothing.
 use mathlib.Core.Path.{_≡_, refl, sym, ap, subst, subst⁻¹, _∙_}
 use mathlib.Core.Logic.{inl, inr}
 use mathlib.Core.Bool.{cond}
@@ -14,11 +15,11 @@ use lib.Dec.{T}
 use lib.ListN.{length, length-map}
 use Rattle.base.specs.Lists.{tail}
 use Rattle.base.specs.Order.{Before, NoLater}
-use Rattle.base.specs.Search.{Edge, Item, onward}
+use Rattle.base.specs.Search.{Edge, Item, onward, search-from}
 use Rattle.base.proofs.BoolLaws.{by-test}
 use Rattle.base.proofs.MemberLaws.{parts, parts-length, parts-in}
 use Rattle.base.proofs.SearchLaws.{Visits, visits-cons, Distinct, Reachable-by, same-number, search-found, search-first, search-distinct}
-use Rattle.base.proofs.SearchLaws.{search-few}
+use Rattle.base.proofs.SearchLaws.{search-few, fewer}
 use Rattle.base.proofs.WithinLaws.{search-short}
 use Rattle.base.proofs.SortedLaws.{Sorted, sorted-map}
 use Rattle.base.proofs.SearchOrder.{Led}
@@ -46,35 +47,50 @@ by-transition {s} (ss, a) m = (ss ++ (s ∷ []), Along.on a m)
 abbrev pub way-length : {K : Type 0} → Item Transition K → ℕ
 way-length x = length (x .way)
 
-abbrev edge-of : Transition → Edge Transition Subset
+abbrev pub edge-of : Transition → Edge Transition Subset
 edge-of s = record { label = s; to = s .to }
 
 abbrev starts : Table → List (Item Transition Subset)
 starts t = record { way = []; at = root t } ∷ []
 
-abbrev fuel : Table → ℕ
+abbrev pub fuel : Table → ℕ
 fuel t = 2 + 2 ^ length (operands t)
 
--- the root, and the parts of the operands of next
-abbrev node-sets : Table → List Subset
-node-sets t = root t ∷ map (λ (ms : List ℕ). add ms (nothing t)) (parts (operands t))
+-- a node, and the parts of the operands of next
+abbrev pub node-sets : Table → Subset → List Subset
+node-sets t v = v ∷ map (λ (ms : List ℕ). add ms (nothing t)) (parts (operands t))
+
+-- each of these items is at a node that its way leads to from v
+abbrev pub Leads : Table → (v : Subset) → List (Item Transition Subset) → Type 0
+Leads t v xs = (y : Item Transition Subset) → List·Memᴰ y xs → Along t v (y .way) (y .at)
 
 module _ (t : Table) where
-  found-along : {x : Item Transition Subset} → Reachable-by same-subset (edges t) (starts t) x → Along t (root t) (x .way) (x .at)
+  -- what is found from runs of a node are runs of this node,
+  pub found-along : {v : Subset} {xs : List (Item Transition Subset)} → Leads t v xs → {x : Item Transition Subset}
+      → Reachable-by same-subset (edges t) xs x → Along t v (x .way) (x .at)
   unfolding transitions
-  found-along (Reachable-by.start m) =
-      subst⁻¹ (λ (y : Item Transition Subset). Along t (root t) (y .way) (y .at)) (List·Memᴰ·eq-of-singleton m) Along.stay
-  found-along (Reachable-by.go {x} {e} f m) =
+  found-along b {x} (Reachable-by.start m) = b x m
+  found-along {v} b (Reachable-by.go {x} {e} f m) =
       let (s, r, q) = Memᴰ·of-map edge-of (transitions t (x .at)) m in
-      subst (λ (d : Edge Transition Subset). Along t (root t) (x .way ++ (d .label ∷ [])) (d .to)) q (Along.on (found-along f) r)
+      subst (λ (d : Edge Transition Subset). Along t v (x .way ++ (d .label ∷ [])) (d .to)) q (Along.on (found-along b f) r)
+
+  -- and where a run is found, so is one with a transition more
+  pub found-on : {xs : List (Item Transition Subset)} {u : Subset} {ss : List Transition} {s : Transition}
+      → Reachable-by same-subset (edges t) xs (record { way = ss; at = u }) → List·Memᴰ s (transitions t u)
+      → Reachable-by same-subset (edges t) xs (record { way = ss ++ (s ∷ []); at = s .to })
+  unfolding transitions
+  found-on {s = s} r m = Reachable-by.go {e = edge-of s} r (Memᴰ·map edge-of m)
+
+  starts-lead : Leads t (root t) (starts t)
+  starts-lead y m =
+      subst⁻¹ (λ (z : Item Transition Subset). Along t (root t) (z .way) (z .at)) (List·Memᴰ·eq-of-singleton m) Along.stay
 
   along-found : {v : Subset} {ss : List Transition} → Along t (root t) ss v
       → Reachable-by same-subset (edges t) (starts t) (record { way = ss; at = v })
-  unfolding transitions
   along-found Along.stay = Reachable-by.start (List·Memᴰ·head refl)
-  along-found (Along.on {s} a m) = Reachable-by.go {e = edge-of s} (along-found a) (Memᴰ·map edge-of m)
+  along-found (Along.on a m) = found-on (along-found a) m
 
-  along-set : {v : Subset} {ss : List Transition} → Along t (root t) ss v → List·Memᴰ v (node-sets t)
+  along-set : {v u : Subset} {ss : List Transition} → Along t v ss u → List·Memᴰ u (node-sets t v)
   along-set Along.stay = List·Memᴰ·head refl
   along-set (Along.on {u} {s} a m) =
       let (ms, p, e) = transition-to t u s m in
@@ -94,32 +110,38 @@ module _ (t : Table) where
   -- Theorem: each node comes with transitions that lead to it from the root.
   pub nodes-along : {x : Item Transition Subset} → List·Memᴰ x (nodes t) → Along t (root t) (x .way) (x .at)
   unfolding nodes
-  nodes-along m = found-along (search-found same-subset (edges t) (fuel t) (starts t) m)
+  nodes-along m = found-along starts-lead (search-found same-subset (edges t) (fuel t) (starts t) m)
 
   -- Theorem: no node is listed twice.
   pub nodes-distinct : Distinct (nodes t)
   unfolding nodes
   nodes-distinct = search-distinct same-subset (edges t) subset-refl (fuel t) (starts t)
 
-  -- Theorem: K is at most 1 + 2^n.
-  pub nodes-few : length (nodes t) ≤ 1 + 2 ^ length (operands t)
-  unfolding nodes
-  nodes-few =
+  -- a search from runs of a node finds at most 1 + 2^n nodes
+  pub found-few : (v : Subset) (xs : List (Item Transition Subset)) → Leads t v xs
+      → length (search-from same-subset (edges t) (fuel t) xs) ≤ 1 + 2 ^ length (operands t)
+  unfolding transitions
+  found-few v xs b =
       omega (
         arith,
-        search-few same-subset (edges t) subset-refl (fuel t) (starts t) (node-sets t) (λ x f. along-set (found-along f)),
+        search-few same-subset (edges t) subset-refl (fuel t) xs (node-sets t v) (λ x f. along-set (found-along b f)),
         length-map (parts (operands t)) (λ (ms : List ℕ). add ms (nothing t)),
         parts-length (operands t),
       )
+
+  -- Theorem: K is at most 1 + 2^n.
+  pub nodes-few : length (nodes t) ≤ 1 + 2 ^ length (operands t)
+  unfolding nodes
+  nodes-few = found-few (root t) (starts t) starts-lead
 
   start-way : (y : Item Transition Subset) → List·Memᴰ y (starts t) → way-length y ≡ 0
   start-way y m = ap (λ (z : Item Transition Subset). way-length z) (List·Memᴰ·eq-of-singleton m)
 
   -- The nearer node is ahead, and of two as near the one whose way has the choice words that come first.
-  abbrev word : Transition → ℕ
+  abbrev pub word : Transition → ℕ
   word s = choice-word t (s .choice)
 
-  abbrev words : Item Transition Subset → List ℕ
+  abbrev pub words : Item Transition Subset → List ℕ
   words n = choice-words t (n .way)
 
   abbrev pub by-way : Item Transition Subset → List ℕ
@@ -128,11 +150,11 @@ module _ (t : Table) where
   abbrev pub Nearer : Item Transition Subset → Item Transition Subset → Type 0
   Nearer n m = Before (by-way n) (by-way m)
 
-  adds : (n : Item Transition Subset) (e : Edge Transition Subset) → List·Memᴰ e (edges t (n .at))
+  pub adds : (n : Item Transition Subset) (e : Edge Transition Subset) → List·Memᴰ e (edges t (n .at))
       → words (onward same-subset (edges t) n e) ≡ words n ++ (word (e .label) ∷ [])
   adds n e m = map-append word (n .way) (e .label ∷ [])
 
-  edges-rising : (v : Subset) → Sorted (Rising same-subset (edges t) word words) (edges t v)
+  pub edges-rising : (v : Subset) → Sorted (Rising same-subset (edges t) word words) (edges t v)
   unfolding transitions
   edges-rising v =
       sorted-map (Rises t) (Rising same-subset (edges t) word words) edge-of (transitions t v) (transitions-rising t v) (λ s r m n l. l)
@@ -164,6 +186,11 @@ module _ (t : Table) where
   pub nodes-count : (xs : List (Item Transition Subset)) → Distinct xs → ((v : Subset) → Visits v xs → Reachable t v)
       → ((v : Subset) → Reachable t v → Visits v xs) → length xs ≡ length (nodes t)
   nodes-count xs d f g = same-number xs (nodes t) d nodes-distinct (λ v h. nodes-all (f v h)) (λ v h. g v (nodes-reachable h))
+
+  -- so that distinct items at reachable nodes are at most K
+  pub nodes-most : (xs : List (Item Transition Subset)) → Distinct xs → ((v : Subset) → Visits v xs → Reachable t v)
+      → length xs ≤ length (nodes t)
+  nodes-most xs d f = fewer xs (nodes t) d (λ v h. nodes-all (f v h))
 
   -- Theorem: a way has fewer than K transitions.
   pub nodes-short : {x : Item Transition Subset} → List·Memᴰ x (nodes t) → way-length x < length (nodes t)

@@ -6,4 +6,5 @@ pub mod Foremost
 pub mod Inner
 pub mod Fringe
 pub mod Area
+pub mod Steps
 pub mod Origins

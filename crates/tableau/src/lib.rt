@@ -15,7 +15,10 @@ ghost use Rattle.tableau.specs.Transition.{ors, choice-of};
 ghost use Rattle.tableau.specs.Inner.{table-of, Formed, with-bits, Saturated, Requires-more, Required-by, Target-is};
 ghost use Rattle.tableau.specs.Fringe.{Closes-by, Closing-of, Joined, Core-of};
 ghost use Rattle.tableau.specs.Inner.{Target-by, Widest, Unmet-between, is-unmet, Unmet-ors};
+ghost use mathlib.Core.Bool.{false};
+ghost use Rattle.relation.specs.Relation.{relation-words, Related, Unrelated};
 ghost use Rattle.tableau.specs.Area.{eight, words-at, lookup, cleared, Node-room, Nodes-held, reachable, slot-of, Slots-marked};
+ghost use Rattle.tableau.specs.Steps.{Located, Came-in, Step-noted, Steps-of, Steps-noted};
 ghost use Rattle.tableau.specs.Area.{with-note};
 ghost use Rattle.tableau.specs.Area.{Growing, Node-added, Followed, Expanded};
 ghost use Rattle.tableau.specs.Origins.{Origins};
@@ -34,6 +37,12 @@ pub struct Arrival {
     pub set: u64,
     pub from: NodeNumber,
     pub letter: u16,
+}
+
+// The node of an arrival among those known: how many there are then, or one more than there is room for, and its number.
+struct Added {
+    known: usize,
+    at: NodeNumber,
 }
 
 // What one pass over a set of subformulas gathers: the two words of what it requires, whether it holds false, and the operands of its nexts.
@@ -440,26 +449,23 @@ fn slot(set: u64) -> usize
     (set % 2029) as usize
 }
 
-// Whether a set is one of the first `known` nodes. Without a mark it is not; else the marked node is tried first.
-fn is_known(area: &[u8], slots: &[u16; 2048], known: usize, set: u64) -> bool
+// Where a set stands among the first `known` nodes. Without a mark it is none of them; else the marked node is tried first.
+pub fn located(area: &[u8], slots: &[u16; 2048], known: usize, set: u64) -> Lookup
     requires { ⌜ (known ≤ 1024) × (8 * known ≤ length (now area)) ⌝ }
     requires { ⌜ Slots-marked known (now area) (now slots) ⌝ }
-    ensures { λ r. ⌜ r ≡ member set (words-at (now (area .entry)) 0 known) ⌝ }
+    ensures { λ r. ⌜ Located known (now (area .entry)) set r ⌝ }
 {
     let k = slot(set);
     let mark = base::wide16(slots[k]);
     if mark == 0 {
-        return false;
+        return Lookup::Absent;
     }
     if mark <= known {
         if node(area, NodeNumber(mark - 1)) == set {
-            return true;
+            return Lookup::Number(NodeNumber(mark - 1));
         }
     }
-    match find(area, known, set) {
-        Lookup::Number(_) => true,
-        Lookup::Absent => false,
-    }
+    find(area, known, set)
 }
 
 // Notes where the search came to a node from.
@@ -472,7 +478,38 @@ fn note(origins: &mut [u16], number: NodeNumber, from: NodeNumber, letter: u16)
     origins[2 * j + 1] = letter;
 }
 
-// How many nodes are known once that of an arrival is one of them; capacity + 1 where there is no room for it.
+// The node of an arrival, which is not known, as the last of those known; without room for it, only counted.
+fn append(
+    area: &mut [u8],
+    slots: &mut [u16; 2048],
+    origins: &mut [u16],
+    known: usize,
+    capacity: usize,
+    new: Arrival,
+) -> Added
+    requires { ⌜ Growing known capacity (now area) (now slots) (now origins) ⌝ }
+    requires { ⌜ new .from .0 < 1024 ⌝ }
+    requires { ⌜ member (new .set) (words-at (now area) 0 known) ≡ false ⌝ }
+    ensures { λ r. ⌜ Node-added known capacity new (now (area .entry)) (now (origins .entry)) (now (area .exit)) (now (origins .exit))
+        (r .known) ⌝ }
+    ensures { λ r. ⌜ Came-in known capacity (new .set) (now (area .entry)) (now (area .exit)) (now (slots .exit)) r ⌝ }
+{
+    let count = known + 1;
+    if known < capacity {
+        let set = new.set;
+        base::put_number(area, 8 * known, 8, set);
+        let k = slot(set);
+        slots[k] = count as u16;
+        let from = new.from;
+        note(origins, NodeNumber(known), from, new.letter);
+    }
+    Added {
+        known: count,
+        at: NodeNumber(known),
+    }
+}
+
+// The node of an arrival as one of those known.
 fn add(
     area: &mut [u8],
     slots: &mut [u16; 2048],
@@ -480,33 +517,42 @@ fn add(
     known: usize,
     capacity: usize,
     new: Arrival,
-) -> usize
+) -> Added
     requires { ⌜ Growing known capacity (now area) (now slots) (now origins) ⌝ }
     requires { ⌜ new .from .0 < 1024 ⌝ }
-    ensures { λ r. ⌜ Node-added known capacity new (now (area .entry)) (now (origins .entry)) (now (area .exit)) (now (origins .exit)) r ⌝ }
-    ensures { λ r. ⌜ (known ≤ r) × (r ≤ capacity + 1) ⌝ }
-    ensures { λ r. ⌜ (r ≤ capacity → Slots-marked r (now (area .exit)) (now (slots .exit))) ⌝ }
+    ensures { λ r. ⌜ Node-added known capacity new (now (area .entry)) (now (origins .entry)) (now (area .exit)) (now (origins .exit))
+        (r .known) ⌝ }
+    ensures { λ r. ⌜ Came-in known capacity (new .set) (now (area .entry)) (now (area .exit)) (now (slots .exit)) r ⌝ }
 {
-    let set = new.set;
-    if is_known(area, slots, known, set) {
-        return known;
+    match located(area, slots, known, new.set) {
+        Lookup::Absent => append(area, slots, origins, known, capacity, new),
+        Lookup::Number(at) => Added {
+            known: known,
+            at: at,
+        },
     }
-    if known < capacity {
-        base::put_number(area, 8 * known, 8, set);
-        let k = slot(set);
-        slots[k] = (known + 1) as u16;
-        let from = new.from;
-        note(origins, NodeNumber(known), from, new.letter);
-        return known + 1;
-    }
-    known + 1
 }
 
-// Adds the node that a step leads to, if it leads to one, from the node with this number.
+// Notes that a transition leads from one node to that which came in, where a relation is kept.
+fn note_step(relation: &mut [u64], from: NodeNumber, to: Added, capacity: usize)
+    requires { ⌜ (from .0 < 1024) × (capacity ≤ 1024) ⌝ }
+    requires { ⌜ (to .known ≤ capacity → to .at .0 < to .known) ⌝ }
+    ensures { λ _. ⌜ (length (now (relation .entry)) ≡ relation-words → to .known ≤ capacity
+        → Related (to .at .0) (from .0) (now (relation .entry)) (now (relation .exit))) ⌝ }
+{
+    if relation.len() == relation::WORDS {
+        if to.known <= capacity {
+            relation::relate(relation, to.at.0, from.0);
+        }
+    }
+}
+
+// Adds the node that a step leads to, if it leads to one, from the node with this number, and notes the step.
 fn follow(
     area: &mut [u8],
     slots: &mut [u16; 2048],
     origins: &mut [u16],
+    relation: &mut [u64],
     number: NodeNumber,
     target: Target,
     known: usize,
@@ -518,6 +564,8 @@ fn follow(
         (now (origins .exit)) r ⌝ }
     ensures { λ r. ⌜ (known ≤ r) × (r ≤ capacity + 1) ⌝ }
     ensures { λ r. ⌜ (r ≤ capacity → Slots-marked r (now (area .exit)) (now (slots .exit))) ⌝ }
+    ensures { λ r. ⌜ (length (now (relation .entry)) ≡ relation-words → r ≤ capacity → Step-noted (number .0) target known
+        (now (area .entry)) (now (area .exit)) (now (relation .entry)) (now (relation .exit)) r) ⌝ }
 {
     match target {
         Target::Nothing => known,
@@ -527,18 +575,21 @@ fn follow(
                 from: number,
                 letter: letters::letter_of(required),
             };
-            add(area, slots, origins, known, capacity, new)
+            let added = add(area, slots, origins, known, capacity, new);
+            note_step(relation, number, added, capacity);
+            added.known
         }
     }
 }
 
-// Adds the nodes to which the transitions of a node lead, by rising choice word.
+// Adds the nodes to which the transitions of a node lead, by rising choice word, and notes these transitions.
 fn expand(
     rows: &[u8; 144],
     count: usize,
     area: &mut [u8],
     slots: &mut [u16; 2048],
     origins: &mut [u16],
+    relation: &mut [u64],
     number: NodeNumber,
     known: usize,
     capacity: usize,
@@ -550,6 +601,8 @@ fn expand(
         (now (area .exit)) (now (origins .exit)) r ⌝ }
     ensures { λ r. ⌜ (known ≤ r) × (r ≤ capacity + 1) ⌝ }
     ensures { λ r. ⌜ (r ≤ capacity → Slots-marked r (now (area .exit)) (now (slots .exit))) ⌝ }
+    ensures { λ r. ⌜ (length (now (relation .entry)) ≡ relation-words → r ≤ capacity → Steps-of (now (rows .entry)) count (number .0) known
+        (now (area .entry)) (now (area .exit)) (now (relation .entry)) (now (relation .exit)) r) ⌝ }
 {
     let from = node(area, number);
     let core = core_of(rows, count, from);
@@ -562,13 +615,71 @@ fn expand(
             return all;
         }
         let target = by_word(rows, count, &unmet, core, word);
-        all = follow(area, slots, origins, number, target, all, capacity);
+        all = follow(
+            area,
+            slots,
+            origins,
+            relation,
+            number,
+            target,
+            all,
+            capacity,
+        );
         word += 1;
     }
     all
 }
 
-// Writes the reachable nodes, the root first, breadth first, and notes where each was found from; how many, or capacity + 1.
+// Writes the reachable nodes, the root first, breadth first, and notes where each was found from; how many, or capacity + 1. Slots that
+// hold anything will do. A relation that is as long as all rows gets the transitions, from node to node.
+pub fn nodes_and_steps(
+    rows: &[u8; 144],
+    count: usize,
+    area: &mut [u8],
+    capacity: usize,
+    slots: &mut [u16; 2048],
+    origins: &mut [u16],
+    relation: &mut [u64],
+) -> usize
+    requires { ⌜ Formed (now rows) count ⌝ }
+    requires { ⌜ Node-room 1 capacity (length (now area)) ⌝ }
+    requires { ⌜ 2 * capacity ≤ length (now origins) ⌝ }
+    requires { ⌜ 2048 ≤ length (now slots) ⌝ }
+    requires { ⌜ Unrelated (now relation) ⌝ }
+    ensures { λ r. ⌜ Nodes-held capacity r (now (area .entry)) (now (area .exit)) (reachable (table-of (now (rows .entry)) count)) ⌝ }
+    ensures { λ r. ⌜ (r ≤ capacity → Origins (table-of (now (rows .entry)) count) (now (origins .exit)) r) ⌝ }
+    ensures { λ r. ⌜ (r ≤ capacity → Slots-marked r (now (area .exit)) (now (slots .exit))) ⌝ }
+    ensures { λ r. ⌜ (length (now (relation .entry)) ≡ relation-words → r ≤ capacity
+        → Steps-noted (now (rows .entry)) count r (now (area .exit)) (now (relation .exit))) ⌝ }
+{
+    let root = Arrival {
+        set: 1,
+        from: NodeNumber(0),
+        letter: 0,
+    };
+    let mut known = add(area, slots, origins, 0, capacity, root).known;
+    let mut i = 0;
+    while i < known {
+        if capacity < known {
+            return known;
+        }
+        known = expand(
+            rows,
+            count,
+            area,
+            slots,
+            origins,
+            relation,
+            NodeNumber(i),
+            known,
+            capacity,
+        );
+        i += 1;
+    }
+    known
+}
+
+// The same without a relation.
 pub fn nodes(
     rows: &[u8; 144],
     count: usize,
@@ -583,30 +694,16 @@ pub fn nodes(
     ensures { λ r. ⌜ (r ≤ capacity → Origins (table-of (now (rows .entry)) count) (now (origins .exit)) r) ⌝ }
 {
     let mut slots = [0u16; 2048];
-    let root = Arrival {
-        set: 1,
-        from: NodeNumber(0),
-        letter: 0,
-    };
-    let mut known = add(area, &mut slots, origins, 0, capacity, root);
-    let mut i = 0;
-    while i < known {
-        if capacity < known {
-            return known;
-        }
-        known = expand(
-            rows,
-            count,
-            area,
-            &mut slots,
-            origins,
-            NodeNumber(i),
-            known,
-            capacity,
-        );
-        i += 1;
-    }
-    known
+    let mut no_relation = [0u64; 1];
+    nodes_and_steps(
+        rows,
+        count,
+        area,
+        capacity,
+        &mut slots,
+        origins,
+        &mut no_relation,
+    )
 }
 
 // Zeros in the bytes from one up to another.

@@ -11,6 +11,7 @@ pub mod LapLaws
 pub mod Soundness
 pub mod Completeness
 pub mod CoreTheorem
+pub mod ReadLaws
 pub mod Pitfalls
 pub mod TraceTheorem
 pub mod Existence

@@ -1,5 +1,5 @@
--- What is written letter by letter from the back is the whole list, with the rest of the buffer as before (`Backward`); and one list behind
--- another is both at once (`over-both`). Assumes nothing.
+-- What is written letter by letter from the back is the whole list, with the rest of the buffer as before (`Backward`); so is one letter
+-- behind another (`written-on`); and one list behind another is both at once (`over-both`). Assumes nothing.
 use mathlib.Core.Path.{_≡_, refl, sym, ap, subst⁻¹, _∙_}
 use mathlib.Core.List.{List, [], _∷_, _++_, append-nil, append-assoc}
 use Prim.Native.Nat.{ℕ, zero, suc, _+_, _-_, _≤_, _<_}
@@ -23,6 +23,22 @@ pub written-more : (a : ℕ) (ws l : List ℕ) (x : ℕ) → a < length l → se
 written-more a ws [] x h = absurd (omega arith)
 written-more zero ws (y ∷ l) x h = refl
 written-more (suc a) ws (y ∷ l) x h = ap (λ (m : List ℕ). y ∷ m) (written-more a ws l x (omega arith))
+
+-- one letter more behind
+over-on : (ws l : List ℕ) (x : ℕ) → length ws < length l → set (over ws l) (length ws) x ≡ over (ws ++ (x ∷ [])) l
+over-on [] [] x h = absurd (omega arith)
+over-on [] (y ∷ l) x h = refl
+over-on (w ∷ ws) [] x h = absurd (omega arith)
+over-on (w ∷ ws) (y ∷ l) x h = ap (λ (m : List ℕ). w ∷ m) (over-on ws l x (omega arith))
+
+pub written-on : (a : ℕ) (ws l : List ℕ) (x : ℕ) → a + length ws < length l
+    → set (written a ws l) (a + length ws) x ≡ written a (ws ++ (x ∷ [])) l
+written-on a ws [] x h = absurd (omega arith)
+written-on zero ws (y ∷ l) x h =
+    ap (λ (i : ℕ). set (over ws (y ∷ l)) i x) {x = 0 + length ws} {y = length ws} (omega arith) ∙ over-on ws (y ∷ l) x (omega arith)
+written-on (suc a) ws (y ∷ l) x h =
+    ap (λ (i : ℕ). set (y ∷ written a ws l) i x) {x = suc a + length ws} {y = suc (a + length ws)} (omega arith)
+    ∙ ap (λ (m : List ℕ). y ∷ m) (written-on a ws l x (omega arith))
 
 -- one list behind the other
 pub over-both : (xs ys l : List ℕ) → length xs ≤ length l → written (length xs) ys (over xs l) ≡ over (xs ++ ys) l

@@ -46,7 +46,7 @@ fn origin_of(origins: &[u16], node: NodeNumber) -> Origin
 }
 
 // How many letters the stem to a node has.
-fn stem_length(origins: &[u16], node: NodeNumber) -> usize
+pub fn stem_length(origins: &[u16], node: NodeNumber) -> usize
     requires { ⌜ Stem-noted (now origins) (node .0) ⌝ }
     ensures { λ r. ⌜ r ≡ length (stem-letters (now (origins .entry)) (node .0)) ⌝ }
 {
@@ -61,7 +61,7 @@ fn stem_length(origins: &[u16], node: NodeNumber) -> usize
 }
 
 // Writes the n letters of the stem to a node from position 0 on, the last first.
-fn write_stem(origins: &[u16], node: NodeNumber, letters: &mut [u16], n: usize)
+pub fn write_stem(origins: &[u16], node: NodeNumber, letters: &mut [u16], n: usize)
     requires { ⌜ Stem-noted (now origins) (node .0) ⌝ }
     requires { ⌜ Letters-fit (stem-letters (now origins) (node .0)) n 0 (length (now letters)) ⌝ }
     ensures { λ r. ⌜ now (letters .exit) ≡ written 0 (stem-letters (now (origins .entry)) (node .0)) (now (letters .entry)) ⌝ }

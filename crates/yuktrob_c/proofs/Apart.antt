@@ -72,6 +72,11 @@ apart-by (Unguarded at binder-at) s (h, k) =
 pub refusal-apart : (bytes : List ℕ) (why : Refusal) → parse bytes ≡ Reading.refused why → RefusalApart (refusal-number why) why
 refusal-apart bytes why e = apart-by why (parse-stopped bytes e) (parse-early bytes why e)
 
+-- Theorem: so is the number of 43, by yuktrob_refusal and yuktrob_place.
+pub least-apart : (place : ℕ) → place ≤ 97 → (number 43 place % 256 ≡ 43) × (number 43 place / 256 % 256 ≡ place)
+least-apart place h =
+    (low 43 256 place (omega arith), part (number 43 place) 43 256 place 256 0 (omega arith) (omega arith) (omega arith))
+
 -- the header's yuktrob_refusal, yuktrob_is_met, yuktrob_lead_len, yuktrob_loop_len, yuktrob_nodes and yuktrob_profiles: shifts by 8, 9,
 -- 22, 35 and 48 bits
 pub record Apart (n met stem cycle K P : ℕ) : Type 0 where

@@ -1,6 +1,6 @@
 -- The sizes of a verdict are small, as N is at most 1,024 and M at most 4,096 where it is given, and a refusal of reading is early
--- (Bounds); so the number of every verdict fits. A search answers as the decision does, or 36; building has at most N nodes. Assumes
--- nothing.
+-- (Bounds); so the number of every verdict fits. A search answers as the decision does, or 36; building has at most N nodes, and so has the
+-- safety decision. Assumes nothing.
 use mathlib.Core.Path.{_≡_, refl, subst⁻¹}
 use mathlib.Core.Logic.{inl, inr}
 use mathlib.Core.List.{List}
@@ -24,7 +24,11 @@ use Rattle.decision.specs.declared.Verdict as code
 use Rattle.decision.specs.declared.Verdict.the-variants.{Satisfiable, Unsatisfiable, Refused, Unread}
 use Rattle.decision.proofs.Bounds.{Answer-sized, Bounded, verdict-bounded, decided-bounded}
 use Rattle.decision.proofs.SearchLaws.{search-either}
-use Rattle.yuktrob_c.specs.Numbers.{Letters-16, ConstructionFits, VerdictFits}
+use Rattle.safety.specs.Contract as safe
+use Rattle.safety.specs.declared.Verdict as safe-code
+use Rattle.safety.specs.declared.Verdict.the-variants as safety
+use Rattle.safety.proofs.Bounds as safe-bounds
+use Rattle.yuktrob_c.specs.Numbers.{Letters-16, ConstructionFits, VerdictFits, SafetyFits}
 
 small : {N M stem cycle K P : ℕ} → Answer-sized N M stem cycle K P → Letters-16 stem cycle K P
 small s =
@@ -75,3 +79,24 @@ constructed-fits {bytes} {N} {w} c = subst⁻¹ ConstructionFits (c .answered) (
     by : (r : Reading Formula) → parse bytes ≡ r → ConstructionFits (built.says (after-reading N (length w) r))
     by (Reading.refused why) e = parse-early bytes why e
     by (Reading.accepted f) e = room-fits N (length w) (table f)
+
+-- the safety decision
+safe-fits : (N : ℕ) (v : safe-code.Verdict) → safe-bounds.Bounded N v → SafetyFits v
+safe-fits N (safety.Satisfiable stem cycle K) (s, k) = record {
+  stem-fits = omega (arith, s .nodes-few, s .together, s .cycle-some);
+  cycle-fits = omega (arith, s .nodes-few, s .together);
+  nodes-fit = s .nodes-few;
+  profiles-fit = omega arith;
+}
+safe-fits N (safety.Unsatisfiable K) (h, k) = record {
+  stem-fits = omega arith;
+  cycle-fits = omega arith;
+  nodes-fit = h;
+  profiles-fit = omega arith;
+}
+safe-fits N (safety.Refused s) h = tt
+safe-fits N (safety.LeastAt place) h = omega arith
+safe-fits N (safety.Unread why) h = h
+
+pub safety-fits : {bytes : List ℕ} {N : ℕ} {w w′ b b′ : List ℕ} {v : safe-code.Verdict} → safe.Decided bytes N w w′ b b′ v → SafetyFits v
+safety-fits {N = N} {v = v} d = safe-fits N v (safe-bounds.decided-bounded d)

@@ -1,4 +1,4 @@
--- The number that stands for each answer: its lowest byte is the number of a refusal (MEANING 1.4, 2.5, 5.2, 5.11, 5.12), or 0, and what
+-- The number that stands for each answer: its lowest byte is the number of a refusal (MEANING 1.4, 2.5, 5.2, 5.11, 5.12, 5.14), or 0, and what
 -- the answer carries stands above it. include/yuktrob.h says the same in C. Assumes nothing.
 use mathlib.Core.Bool.{cond}
 use mathlib.Core.List.{List}
@@ -19,6 +19,10 @@ use Rattle.decision.specs.Verdict.{max-profiles, verdict, search-verdict}
 use Rattle.decision.specs.Verdict as meaning
 use Rattle.decision.specs.declared.Verdict.{Verdict}
 use Rattle.decision.specs.declared.Verdict.the-variants as decision
+use Rattle.safety.specs.Safety as safe
+use Rattle.safety.specs.Contract.{shortage-code}
+use Rattle.safety.specs.declared.Verdict as safe-code
+use Rattle.safety.specs.declared.Verdict.the-variants as safety
 
 -- the number of a refusal, or 0, with what is carried
 abbrev pub number : (code carried : ℕ) → ℕ
@@ -61,6 +65,14 @@ verdict-number (decision.Unsatisfiable K P) = number 0 (found 0 0 0 K P)
 verdict-number (decision.Refused code) = number code 0
 verdict-number (decision.Unread why) = refusal-number why
 
+-- the safety decision: the same without profiles; 43 carries its place, and a refusal for want of room nothing
+abbrev pub safety-number : safe-code.Verdict → ℕ
+safety-number (safety.Satisfiable stem cycle K) = number 0 (found 1 stem cycle K 0)
+safety-number (safety.Unsatisfiable K) = number 0 (found 0 0 0 K 0)
+safety-number (safety.Refused s) = number (shortage-code s) 0
+safety-number (safety.LeastAt place) = number 43 place
+safety-number (safety.Unread why) = refusal-number why
+
 -- the definition's verdict, by the formula's bytes, the capacities and the lent areas
 abbrev pub verdict-of : (bytes : List ℕ) (N M : ℕ) (workspace buffer : List ℕ) → meaning.Verdict
 verdict-of bytes N M workspace buffer = verdict N M (length workspace) (length buffer) bytes
@@ -72,6 +84,10 @@ construction-of bytes N workspace = construction N (length workspace) bytes
 -- and of a search over K nodes, which goes by what the workspace holds
 abbrev pub search-of : (bytes : List ℕ) (K N M : ℕ) (workspace buffer : List ℕ) → meaning.Verdict
 search-of bytes K N M workspace buffer = search-verdict K N M workspace (length buffer) bytes
+
+-- The same of the safety decision.
+abbrev pub safety-of : (bytes : List ℕ) (N : ℕ) (workspace buffer : List ℕ) → safe.Verdict
+safety-of bytes N workspace buffer = safe.verdict N (length workspace) (length buffer) bytes
 
 -- Why the numbers fit into 64 bits: by question 11 and MEANING 5.6 the sizes of a verdict have room in 13 bits each.
 pub record Letters-16 (stem cycle K c : ℕ) : Type 0 where
@@ -96,9 +112,17 @@ ConstructionFits (construction.Built K) = K ≤ max-nodes
 ConstructionFits (construction.Refused code) = Unit {0}
 ConstructionFits (construction.Unread why) = Early why
 
--- and of those of the decision and the search, whose sizes are small, too
+-- of those of the decision and the search, whose sizes are small, too
 abbrev pub VerdictFits : Verdict → Type 0
 VerdictFits (decision.Satisfiable stem cycle K c) = Letters-16 stem cycle K c
 VerdictFits (decision.Unsatisfiable K P) = Letters-16 0 0 K P
 VerdictFits (decision.Refused code) = Unit {0}
 VerdictFits (decision.Unread why) = Early why
+
+-- and of the safety decision, whose place is one of the formula's bytes
+abbrev pub SafetyFits : safe-code.Verdict → Type 0
+SafetyFits (safety.Satisfiable stem cycle K) = Letters-16 stem cycle K 0
+SafetyFits (safety.Unsatisfiable K) = Letters-16 0 0 K 0
+SafetyFits (safety.Refused s) = Unit {0}
+SafetyFits (safety.LeastAt place) = place ≤ 97
+SafetyFits (safety.Unread why) = Early why

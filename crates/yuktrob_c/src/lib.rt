@@ -20,6 +20,8 @@ ghost use Rattle.decision.specs.Contract.{says, leaves, cleared, kept};
 ghost use Rattle.yuktrob_c.specs.Numbers.{number, refusal-number, Letters-16, Early, TruthFits, VerdictFits};
 ghost use Rattle.yuktrob_c.specs.Numbers.{reading-number, truth-number, found, verdict-number, verdict-of};
 ghost use Rattle.yuktrob_c.specs.Numbers.{construction-number, construction-of, search-of, ConstructionFits};
+ghost use Rattle.safety.specs.Contract as safe;
+ghost use Rattle.yuktrob_c.specs.Numbers.{safety-number, safety-of, SafetyFits};
 ghost use Rattle.yuktrob_c.specs.Entry.{argument-of, packed, entry-number};
 
 // The lowest byte is a refusal's code or 0; what the answer carries stands above it.
@@ -88,6 +90,19 @@ fn verdict_number(v: Verdict) -> u64
             profiles,
         } => found(1, stem, cycle, nodes, profiles),
         Verdict::Unsatisfiable { nodes, profiles } => found(0, 0, 0, nodes, profiles),
+    }
+}
+
+fn safety_number(v: safety::Verdict) -> u64
+    requires { ⌜ SafetyFits v ⌝ }
+    ensures { λ r. ⌜ r ≡ safety-number v ⌝ }
+{
+    match v {
+        safety::Verdict::Unread(why) => refusal_number(why),
+        safety::Verdict::LeastAt(place) => number(43, place),
+        safety::Verdict::Refused(s) => number(safety::shortage_code(s), 0),
+        safety::Verdict::Satisfiable { stem, cycle, nodes } => found(1, stem, cycle, nodes, 0),
+        safety::Verdict::Unsatisfiable(nodes) => found(0, 0, 0, nodes, 0),
     }
 }
 
@@ -219,4 +234,21 @@ pub extern "C" fn yuktrob_search(
         (search-of (now (rule .entry)) built nodes profiles (now (work .entry)) (now (course .entry))) (now (work .entry)) ⌝ }
 {
     verdict_number(decision::search(rule, built, nodes, profiles, work, course))
+}
+
+// Whether any lasso meets a formula whose fixpoints are all greatest.
+#[no_mangle]
+pub extern "C" fn yuktrob_decide_safety(
+    rule: &[u8],
+    nodes: usize,
+    work: &mut [u8],
+    course: &mut [u16],
+) -> u64
+    ensures numbered { λ r. ⌜ r ≡ safety-number (safe.says (safety-of (now (rule .entry)) nodes (now (work .entry)) (now (course .entry)))) ⌝ }
+    ensures filled { λ _. ⌜ now (course .exit) ≡ safe.leaves
+        (safety-of (now (rule .entry)) nodes (now (work .entry)) (now (course .entry))) (now (course .entry)) ⌝ }
+    ensures emptied { λ _. ⌜ now (work .exit) ≡ safe.cleared nodes
+        (safety-of (now (rule .entry)) nodes (now (work .entry)) (now (course .entry))) (now (work .entry)) ⌝ }
+{
+    safety_number(safety::decide_safety(rule, nodes, work, course))
 }

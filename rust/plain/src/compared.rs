@@ -1,8 +1,10 @@
 //! One input through the proved library and the independent implementation: what differs, if anything.
 
 mod building;
+mod safety;
 
 pub use building::{Buildings, Changed};
+pub use safety::{safety, Safeties};
 
 use crate::least::{self, Course};
 use crate::random::{nesting, Random};
@@ -43,6 +45,11 @@ pub struct Input {
 
 impl Input {
     pub fn new(random: &mut Random) -> Self {
+        Input::of(random, rule)
+    }
+
+    /// Over rules that are drawn so.
+    fn of(random: &mut Random, rule: fn(&mut Random) -> Vec<u8>) -> Self {
         let mut rule = rule(random);
         if random.one_in(3) {
             let size = 1 + random.below(12);

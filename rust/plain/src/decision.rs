@@ -142,6 +142,19 @@ pub(crate) struct Nodes {
     steps: Vec<Vec<Step>>,
 }
 
+impl Nodes {
+    /// The nodes to which the steps of a node lead, each once, in the order of the least pick words that lead there.
+    pub(crate) fn targets(&self, node: usize) -> Vec<usize> {
+        let mut seen = HashSet::new();
+        self.steps[node].iter().filter(|step| seen.insert(step.to)).map(|step| self.number[&step.to]).collect()
+    }
+
+    /// The step from one node to another, if there is one: of several the one with the least pick word.
+    pub(crate) fn step(&self, from: usize, to: usize) -> Option<&Step> {
+        self.steps[from].iter().find(|step| step.to == self.order[to])
+    }
+}
+
 /// Row f, column g: bit k for a trace with the k-th fixpoint's weight, bit 7 for none.
 pub(crate) type Triples = Vec<u8>;
 

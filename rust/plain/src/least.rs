@@ -3,7 +3,7 @@
 
 use crate::decision::{Graph, Step, Triples};
 use crate::reading::Command;
-use std::collections::BTreeMap;
+use std::collections::{BTreeMap, BTreeSet};
 
 /// A step's pick word and its place. The or that is number j in the rule has bit j of the word, which is 1 if its right operand is taken.
 #[derive(Clone, Copy, Debug, PartialEq, Eq)]
@@ -50,6 +50,17 @@ pub fn shortest(entries: &[Command], most: usize) -> Option<Vec<Course>> {
     let courses: Vec<Course> =
         joined.take(most + 1).map(|(lead, around)| Course { lead: lead.steps.clone(), around: around.steps.clone() }).collect();
     (courses.len() <= most).then_some(courses)
+}
+
+/// Whether some run from the root has as many steps as there are nodes, so that it comes to one of them again: round by round those nodes
+/// are kept that have a step to one kept before. Nothing if there are more than `most` pick words of nodes.
+pub fn runs_on(entries: &[Command], most: usize) -> Option<bool> {
+    let tries = Tries::new(entries, most)?;
+    let mut kept: BTreeSet<u64> = tries.steps.keys().copied().collect();
+    for _ in 0..tries.steps.len() {
+        kept = tries.steps.iter().filter(|(_, steps)| steps.iter().any(|step| kept.contains(&step.last))).map(|(&node, _)| node).collect();
+    }
+    Some(kept.contains(&ROOT))
 }
 
 /// The course that comes first by a key. Of the shortest, a decision gives the first by pick words.

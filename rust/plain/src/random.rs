@@ -30,6 +30,22 @@ pub fn nesting(entries: &[Command]) -> Nesting {
     found
 }
 
+/// The bytes with a greatest fixpoint for each least one.
+pub fn greatest_alone(mut bytes: Vec<u8>) -> Vec<u8> {
+    let mut at = 0;
+    while at < bytes.len() {
+        at += match bytes[at] {
+            3..=5 => 2,
+            9 => {
+                bytes[at] = 10;
+                1
+            }
+            _ => 1,
+        };
+    }
+    bytes
+}
+
 impl Random {
     pub fn new(seed: u64) -> Self {
         Random(seed.wrapping_mul(0x9e37_79b9_7f4a_7c15) | 1)
@@ -202,6 +218,118 @@ impl Random {
             return vec![2];
         }
         vec![3 + self.below(2) as u8, self.below(3) as u8]
+    }
+
+    /// A rule with greatest fixpoints alone that reading accepts: a random one with others for its least ones, or of a shape that has none.
+    pub fn safety(&mut self) -> Vec<u8> {
+        loop {
+            let rule = self.safety_draft();
+            if read(&rule).is_ok() {
+                return rule;
+            }
+        }
+    }
+
+    fn safety_draft(&mut self) -> Vec<u8> {
+        let most = [4, 12, 24, 40][self.below(4)];
+        let size = 1 + self.below(most);
+        match self.below(20) {
+            0..=3 => greatest_alone(self.rule(size)),
+            4..=7 => greatest_alone(self.crossing()),
+            8..=9 => greatest_alone([vec![7], self.beat(), self.rule(size)].concat()),
+            10..=11 => self.fork(),
+            12..=13 => self.returns(),
+            14..=15 => [vec![7], self.returns(), self.whenever()].concat(),
+            16 => self.many(),
+            _ => self.whenever(),
+        }
+    }
+
+    /// At every place each of a few promises. One more signal may be as asked at the first place.
+    fn whenever(&mut self) -> Vec<u8> {
+        let promises = 1 + self.below(4);
+        let first = if self.one_in(3) { [vec![7], self.literal()].concat() } else { Vec::new() };
+        let parts: Vec<Vec<u8>> = (0..promises).map(|_| self.promise()).collect();
+        [first, vec![10, 7], vec![7; promises - 1], parts.concat(), vec![8, 5, 0]].concat()
+    }
+
+    /// A signal is as asked, or another one is, here or at most three places on; or the other way round.
+    fn promise(&mut self) -> Vec<u8> {
+        let mut operands = [self.literal(), [vec![8; self.below(4)], self.literal()].concat()];
+        operands.rotate_left(self.below(2));
+        [vec![6], operands.concat()].concat()
+    }
+
+    /// At every place each of several signals is present, or as asked at the next place: many nodes, and many steps from each. Now and then
+    /// no step leads on from the fourth place.
+    fn many(&mut self) -> Vec<u8> {
+        let (begun, signals) = if self.one_in(4) { (vec![7, 8, 8, 8, 2], 6 + self.below(2)) } else { (Vec::new(), 5 + self.below(4)) };
+        let parts: Vec<Vec<u8>> = (0..signals as u8).map(|j| vec![6, 3, j, 8, 3 + self.below(2) as u8, j]).collect();
+        [begun, vec![10, 7], vec![7; signals - 1], parts.concat(), vec![8, 5, 0]].concat()
+    }
+
+    /// One to three signals, each as asked again and again. The loops have as many steps as it takes until all come round together, up to
+    /// 60.
+    fn returns(&mut self) -> Vec<u8> {
+        // twelve nexts in all
+        let most = [&[12][..], &[5, 7], &[3, 4, 5]][self.below(3)];
+        let parts: Vec<Vec<u8>> = most.iter().map(|&most| self.again(most)).collect();
+        [vec![7; parts.len() - 1], parts.concat()].concat()
+    }
+
+    /// A signal is as asked at every so many places, or now and then at one of two distances; with at most so many nexts.
+    fn again(&mut self, most: usize) -> Vec<u8> {
+        let behind = |steps: usize| [&vec![8; steps][..], &[5, 0]].concat();
+        let nexts = if self.one_in(2) { most } else { 1 + self.below(most) };
+        let begun = [vec![10, 7], self.literal()].concat();
+        if nexts > 1 && self.one_in(4) {
+            let steps = 1 + self.below(nexts - 1);
+            return [begun, vec![6], behind(steps), behind(nexts - steps)].concat();
+        }
+        [begun, behind(nexts)].concat()
+    }
+
+    /// Always a rule of 12 ors, and together with the always of 12 nexts, over a few ands and greatest fixpoints: with as many commands as
+    /// there may be, or somewhat fewer.
+    pub fn fullest(&mut self) -> Vec<u8> {
+        let fixpoints = self.below(4);
+        let ands = self.below((8 - fixpoints) / 2 + 1);
+        let mut inner = [vec![6; 12], vec![8; 11], vec![7; ands], vec![10; fixpoints]].concat();
+        for i in (1..inner.len()).rev() {
+            inner.swap(i, self.below(i + 1));
+        }
+        let mut rule = vec![10, 7];
+        self.filled(&inner, &mut vec![false], &mut rule);
+        rule.extend([8, 5, 0]);
+        rule
+    }
+
+    /// The commands, one inside the other or side by side, with a variable or a signal wherever none is left.
+    fn filled(&mut self, inner: &[u8], scope: &mut Vec<bool>, rule: &mut Vec<u8>) {
+        let Some((&command, rest)) = inner.split_first() else {
+            let guarded: Vec<usize> = (0..scope.len()).filter(|&d| scope[scope.len() - 1 - d]).collect();
+            let variable = !guarded.is_empty() && self.one_in(4);
+            return rule.extend(if variable { [5, guarded[self.below(guarded.len())] as u8] } else { self.signal(12) });
+        };
+        rule.push(command);
+        match command {
+            8 => self.filled(rest, &mut vec![true; scope.len()], rule),
+            10 => {
+                scope.push(false);
+                self.filled(rest, scope, rule);
+                scope.pop();
+            }
+            _ => {
+                let (left, right) = rest.split_at(self.below(rest.len() + 1));
+                self.filled(left, scope, rule);
+                self.filled(right, scope, rule);
+            }
+        }
+    }
+
+    /// One of so many signals, present or absent.
+    fn signal(&mut self, signals: usize) -> [u8; 2] {
+        [3 + self.below(2) as u8, self.below(signals) as u8]
     }
 
     /// Bytes that are nearly a rule, or no rule at all.

@@ -1,6 +1,6 @@
 //! The proved library and the independent implementation agree.
 
-use yuktrob_plain::compared::{self, Areas, Buildings, Courses, Decisions, Input, Rooms, Signals, Truths, Unguarded};
+use yuktrob_plain::compared::{self, Areas, Buildings, Courses, Decisions, Input, Rooms, Safeties, Signals, Truths, Unguarded};
 use yuktrob_plain::random::Random;
 
 /// Courses are kept this short, so that the test takes seconds; `compare` draws longer ones.
@@ -27,6 +27,15 @@ fn on_some_thousands() {
     check_courses(&decisions.courses);
     check_buildings(&decisions.buildings);
     assert!(decisions.again > 250, "only {} verdicts asked for again with more room", decisions.again);
+}
+
+#[test]
+fn on_some_thousands_of_safety_rules() {
+    let (mut random, mut areas, mut safeties) = (Random::new(42), Areas::new(), Safeties::default());
+    for _ in 0..6000 {
+        assert_eq!(compared::safety(&mut random, &mut areas, &mut safeties), Ok(()));
+    }
+    check_safeties(&safeties);
 }
 
 /// Each count is above the number behind it.
@@ -94,4 +103,33 @@ fn check_buildings(buildings: &Buildings) {
             _ => check_counts(&[(changed.refused, 150, name)]),
         }
     }
+}
+
+fn check_safeties(safeties: &Safeties) {
+    let [refused_11, refused_12, refused_13, refused_14] = safeties.refused;
+    check_counts(&[
+        (safeties.met, 1200, "safety rules that are MET"),
+        (safeties.not, 300, "safety rules that are NOT"),
+        (safeties.unread, 200, "bytes refused by reading"),
+        (safeties.least, 200, "rules refused with 43"),
+        (refused_11, 200, "safety rules refused with 11"),
+        (refused_12, 150, "safety rules refused with 12"),
+        (refused_13, 100, "safety rules refused with 13"),
+        (refused_14, 200, "safety rules refused with 14"),
+        (safeties.later, 200, "MET with a loop of several steps"),
+        (safeties.long, 10, "MET with a loop of ten steps or more"),
+        (safeties.led, 200, "MET with a lead-in of several steps"),
+        (safeties.full, 200, "MET with as many places as nodes"),
+        (safeties.exact, 300, "verdicts with room for just the nodes that there are"),
+        (safeties.by_one, 150, "14 with one node fewer than there are"),
+        (safeties.behind_9, 10, "43 behind a signal 9"),
+        (safeties.several, 50, "43 with another least fixpoint behind"),
+        (safeties.before_others, 20, "43 where 11, 12 or 13 would refuse as well"),
+        (safeties.before_13, 10, "12 where 13 would refuse as well"),
+        (safeties.general, 1500, "verdicts of the general decision too"),
+        (safeties.beyond_met, 15, "MET where the general decision has no room"),
+        (safeties.beyond_not, 5, "NOT where the general decision has no room"),
+        (safeties.again, 300, "verdicts asked for again with more room"),
+        (safeties.courses.differing, 200, "courses with others as short that have other places"),
+    ]);
 }

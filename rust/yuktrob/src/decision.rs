@@ -119,7 +119,8 @@ pub(crate) fn verdict(told: u64, buffer: &[u16]) -> Verdict<'_> {
     Verdict::Met { lead_len, loop_len, nodes, profiles, course: &buffer[..lead_len + loop_len] }
 }
 
-/// A work area and a course buffer with room for so many nodes and profiles, for any number of decisions.
+/// A work area and a course buffer with room for so many nodes and profiles, for any number of decisions. For safety rules room for nodes
+/// is enough.
 ///
 /// ```
 /// use yuktrob::{Areas, Rule};
@@ -139,7 +140,7 @@ pub struct Areas {
 
 impl Areas {
     /// Areas for so many nodes and profiles. A room that no decision takes (below 1, above [`MOST_NODES`] or [`MOST_PROFILES`]) is kept as
-    /// it is, and each decision in these areas is refused with 11.
+    /// it is, and each decision in these areas is refused with 11; that of a safety rule only for the room for nodes.
     ///
     /// ```
     /// let mut none = yuktrob::Areas::new(0, 300);

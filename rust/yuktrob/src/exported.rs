@@ -41,6 +41,15 @@ extern "C" {
         course: *mut u16,
         course_len: usize,
     ) -> u64;
+    fn yuktrob_decide_safety(
+        rule: *const u8,
+        rule_len: usize,
+        nodes: usize,
+        work: *mut u8,
+        work_len: usize,
+        course: *mut u16,
+        course_len: usize,
+    ) -> u64;
 }
 
 /// What an answer carries, or the refusal: the lowest byte is the number of a refusal, or 0; the rest stands above it.
@@ -89,6 +98,14 @@ pub fn search(rule: &[u8], built: usize, nodes: usize, profiles: usize, work: &m
     })
 }
 
+pub fn decide_safety(rule: &[u8], nodes: usize, work: &mut [u8], course: &mut [u16]) -> Result<u64, Refusal> {
+    let (work_len, course_len) = (work.len(), course.len());
+    // SAFETY: pointers and lengths are those of slices; see above.
+    carried(unsafe {
+        yuktrob_decide_safety(rule.as_ptr(), rule.len(), nodes, work.as_mut_ptr(), work_len, course.as_mut_ptr(), course_len)
+    })
+}
+
 #[cfg(test)]
 mod tests {
     use super::*;
@@ -99,9 +116,21 @@ mod tests {
         for (rule, place, fixpoint) in unguarded {
             let expected = Err(Refusal::new(8, place + 256 * fixpoint));
             let (work, course) = (&mut [0; 200], &mut [0; 2]);
-            let decided = [decide(rule, 1, 1, work, course), build(rule, 1, work), search(rule, 1, 1, 1, work, course)];
+            let decided = [decide(rule, 1, 1, work, course), decide_safety(rule, 1, work, course)];
+            let parted = [build(rule, 1, work), search(rule, 1, 1, 1, work, course)];
             let answers = [read(rule), entry(rule, 0), truth(rule, &[0x4000], 0, &mut [0])];
-            assert_eq!((answers, decided), ([expected; 3], [expected; 3]), "{rule:02x?}");
+            assert_eq!((answers, decided, parted), ([expected; 3], [expected; 2], [expected; 2]), "{rule:02x?}");
         }
+    }
+
+    /// The number of MET and NOT has nothing where the decision has its profiles, that of 43 nothing but the place.
+    #[test]
+    fn numbers_of_safety_rules() {
+        let (work, course) = (&mut [0; 16], &mut [0; 2]);
+        let met = 1 + 2 * (1 + (1 << 13) + (2 << 26));
+        assert_eq!(decide_safety(&[1], 2, work, course), Ok(met));
+        assert_eq!(decide_safety(&[2], 2, work, course), Ok(2 << 26));
+        assert_eq!(decide_safety(&[7, 1, 9, 1], 2, work, course), Err(Refusal::new(43, 2)));
+        assert_eq!(decide_safety(&[1], 1, work, course), Err(Refusal::new(14, 0)));
     }
 }

@@ -35,8 +35,19 @@
 //! # Ok::<(), yuktrob::Refusal>(())
 //! ```
 //!
-//! [`truth`], [`decide`], [`build`] and [`search`] take the rule's bytes and areas that the caller lends, as the functions of
-//! `include/yuktrob.h` do.
+//! A safety rule, which has greatest fixpoints alone, needs room for nodes and no profiles:
+//!
+//! ```
+//! use yuktrob::{Areas, Rule, SafetyVerdict};
+//! // at every second place signal 0, and at every third signal 1
+//! let rule = Rule::read(&[0x07, 0x0A, 0x07, 0x03, 0x00, 0x08, 0x08, 0x05, 0x00, 0x0A, 0x07, 0x03, 0x01, 0x08, 0x08, 0x08, 0x05, 0x00])?;
+//! let mut areas = Areas::new(256, 0);
+//! assert!(matches!(rule.decide_safety(&mut areas)?, SafetyVerdict::Met { lead_len: 1, loop_len: 6, nodes: 7, .. }));
+//! # Ok::<(), yuktrob::Refusal>(())
+//! ```
+//!
+//! [`truth`], [`decide`], [`build`], [`search`] and [`decide_safety`] take the rule's bytes and areas that the caller lends, as the
+//! functions of `include/yuktrob.h` do.
 
 #![deny(unsafe_code, missing_docs)]
 
@@ -46,10 +57,12 @@ mod decision;
 mod exported;
 mod refusal;
 mod rule;
+mod safety;
 mod truth;
 
 pub use building::{build, nodes_len, search, Built};
 pub use decision::{course_len, decide, work_len, Areas, Verdict, MOST_NODES, MOST_PROFILES};
 pub use refusal::Refusal;
 pub use rule::{Command, Entry, Rule};
+pub use safety::{decide_safety, SafetyVerdict};
 pub use truth::{truth, words_len, CURRENT_SCALE, MOST_PLACES, PREVIOUS_SCALE};

@@ -22,7 +22,7 @@ use std::fmt;
 pub struct Refusal {
     /// The refusal's number.
     pub number: u8,
-    /// Of a refusal of reading, 1 to 9, the byte's place in the rule, counted from 0.
+    /// Of a refusal of reading, 1 to 9, and of 43 the byte's place in the rule, counted from 0.
     pub place: Option<usize>,
     /// Of refusal 8, where the variable's fixpoint begins: the place of its byte 09 or 0A.
     pub fixpoint: Option<usize>,
@@ -34,7 +34,7 @@ impl Refusal {
         let [place, fixpoint, ..] = carried.to_le_bytes();
         Refusal {
             number,
-            place: (1..=9).contains(&number).then_some(place.into()),
+            place: matches!(number, 1..=9 | 43).then_some(place.into()),
             fixpoint: (number == 8).then_some(fixpoint.into()),
         }
     }
@@ -56,9 +56,9 @@ impl Refusal {
             7 => "a depth at or above the number of enclosing fixpoints",
             8 => "no next between the fixpoint and its variable",
             9 => "bytes after the whole rule",
-            11 => "N is not 1 to 1,024, or M not 1 to 4,096",
-            12 => "the work area has fewer than 8 N + 192 M bytes; for building, fewer than 8 N",
-            13 => "the course buffer has fewer than N + M places",
+            11 => "N is not 1 to 1,024, or M, where it is asked for, not 1 to 4,096",
+            12 => "the work area has fewer than 8 N + 192 M bytes; for building and for safety rules, fewer than 8 N",
+            13 => "the course buffer has fewer than N + M places; for safety rules, fewer than N",
             14 => "the graph has more than N nodes",
             15 => "more than M profiles are needed to find a shortest good loop, or to tell that there is none",
             16 => "the lead-in is not shorter than the course; an empty course",
@@ -66,6 +66,7 @@ impl Refusal {
             18 => "fewer words than places",
             19 => "a place with both scale flags or neither; it must have either signal 14 or signal 15",
             36 => "K or the first 8 N bytes of the work area are not what building with N leaves for this rule",
+            43 => "a least fixpoint, where safety rules have greatest ones alone",
             _ => "a refusal that has no words here",
         }
     }
@@ -107,11 +108,12 @@ mod tests {
 
     #[test]
     fn one_place_or_none_otherwise() {
-        for number in (1..=7).chain([9]) {
+        for number in (1..=7).chain([9, 43]) {
             assert_eq!(parts(number, 48), (number, Some(48), None));
         }
-        for number in 10..=255 {
+        for number in (10..=255).filter(|&number| number != 43) {
             assert_eq!(parts(number, 0), (number, None, None));
         }
+        assert!(Refusal::new(43, 0).to_string().starts_with("refused 43 at byte 0: "));
     }
 }

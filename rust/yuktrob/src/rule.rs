@@ -1,4 +1,4 @@
-use crate::{decision, exported, truth, Areas, Built, Refusal, Verdict};
+use crate::{decision, exported, safety, truth, Areas, Built, Refusal, SafetyVerdict, Verdict};
 
 /// What an entry is, with the numbers of the entries that it leads to.
 ///
@@ -168,6 +168,21 @@ impl Rule {
     /// ```
     pub fn decide<'a>(&self, areas: &'a mut Areas) -> Result<Verdict<'a>, Refusal> {
         decision::decide_in(&self.bytes, areas)
+    }
+
+    /// Whether any course meets the rule, if it is a safety rule, as [`decide_safety`](crate::decide_safety) has it, with the room for
+    /// nodes that the areas have. They may have room for no profiles. Refused: 43, 11, 14.
+    ///
+    /// ```
+    /// use yuktrob::{Areas, Rule, SafetyVerdict};
+    /// let mut areas = Areas::new(1, 0);
+    /// assert_eq!(Rule::read(&[0x02])?.decide_safety(&mut areas), Ok(SafetyVerdict::Not { nodes: 1 }));
+    /// assert_eq!(Rule::read(&[0x01])?.decide_safety(&mut areas).unwrap_err().number, 14);
+    /// assert_eq!(Rule::read(&[0x08, 0x09, 0x01])?.decide_safety(&mut areas).unwrap_err().place, Some(1));
+    /// # Ok::<(), yuktrob::Refusal>(())
+    /// ```
+    pub fn decide_safety<'a>(&self, areas: &'a mut Areas) -> Result<SafetyVerdict<'a>, Refusal> {
+        safety::decide_safety_in(&self.bytes, areas)
     }
 
     /// Builds the nodes of the rule's graph, as [`build`](crate::build) does, with room for `nodes` of them. They can then be searched as

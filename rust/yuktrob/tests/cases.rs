@@ -1,8 +1,10 @@
 //! The outcomes that document 01 gives, through the wrappers: cases A to L and the truth examples, each place with a scale flag and each
 //! count of profiles as document 02 asks; which course is given of several as short; what the flags refuse; little room for profiles, and
-//! the areas then; nodes that are built and searched, and nodes that are not the rule's; and the refusals of reading with their places.
+//! the areas then; nodes that are built and searched, and nodes that are not the rule's; safety rules, their refusals and what they leave
+//! in the areas; and the refusals of reading with their places.
 
-use yuktrob::{build, course_len, decide, nodes_len, search, truth, work_len, Areas, Refusal, Rule, Verdict};
+use yuktrob::{build, course_len, decide, decide_safety, nodes_len, search, truth, work_len};
+use yuktrob::{Areas, Refusal, Rule, SafetyVerdict, Verdict, MOST_NODES};
 
 fn met(lead_len: usize, loop_len: usize, nodes: usize, profiles: usize, course: &[u16]) -> Verdict<'_> {
     Verdict::Met { lead_len, loop_len, nodes, profiles, course }
@@ -382,15 +384,196 @@ fn a_room_beyond_the_limits_is_refused() {
     }
 }
 
-/// What reading, truth, decision, building and search refuse a rule with. Course, room, areas and nodes would be refused too, but reading
-/// is asked first.
-fn refused(rule: &[u8]) -> [Option<Refusal>; 5] {
+fn met_safely(lead_len: usize, loop_len: usize, nodes: usize, course: &[u16]) -> Result<SafetyVerdict<'_>, u8> {
+    Ok(SafetyVerdict::Met { lead_len, loop_len, nodes, course })
+}
+
+fn unmet(nodes: usize) -> Result<SafetyVerdict<'static>, u8> {
+    Ok(SafetyVerdict::Not { nodes })
+}
+
+/// A safety rule is decided in areas of these lengths, which hold something. Afterwards so many bytes are zero, the course stands at the
+/// beginning of the buffer, and all else is as it was.
+fn check_safety(rule: &[u8], nodes: usize, (work, buffer): (usize, usize), expected: Result<SafetyVerdict, u8>, zeros: usize) {
+    let (mut work, mut buffer) = (vec![0xa5; work], vec![0x5a5a; buffer]);
+    let (whole, lent) = (work.len(), buffer.len());
+    let answer = decide_safety(rule, nodes, &mut work, &mut buffer).map_err(|why| why.number);
+    assert_eq!(answer, expected, "{rule:02x?} {nodes} {whole} {lent}");
+    assert_eq!(work, [vec![0; zeros], vec![0xa5; whole - zeros]].concat(), "{rule:02x?} {nodes} {whole} {lent}");
+    let course = if let Ok(SafetyVerdict::Met { course, .. }) = expected { course } else { &[] };
+    assert_eq!(buffer, [course, &vec![0x5a5a; lent - course.len()]].concat(), "{rule:02x?} {nodes} {whole} {lent}");
+}
+
+/// With as many nodes as there are, with more and with most, in areas just as asked and longer; and with one node fewer.
+fn check_safety_rooms(rule: &[u8], count: usize, expected: Result<SafetyVerdict, u8>) {
+    for nodes in [count, count + 1, 256, MOST_NODES] {
+        let asked = nodes_len(nodes);
+        check_safety(rule, nodes, (asked, nodes), expected, asked);
+        check_safety(rule, nodes, (asked + 1, nodes + 1), expected, asked);
+        check_safety(rule, nodes, (asked + 40, nodes + 4), expected, asked);
+    }
+    if count > 1 {
+        let asked = nodes_len(count - 1);
+        check_safety(rule, count - 1, (asked, count - 1), Err(14), asked);
+        check_safety(rule, count - 1, (asked + 40, count + 4), Err(14), asked);
+    }
+}
+
+#[test]
+fn safety_rules() {
+    let table: [(&[u8], usize, Result<SafetyVerdict, u8>); 11] = [
+        (&[1], 2, met_safely(1, 1, 2, &[0x4000, 0x4000])),
+        (&[2], 1, unmet(1)),
+        (&[10, 7, 3, 0, 8, 5, 0], 2, met_safely(1, 1, 2, &[0x4001, 0x4001])),
+        // case H, whose loop has two places
+        (&CASE_H, 3, met_safely(1, 2, 3, &[0x4001, 0x4000, 0x4001])),
+        // whenever s0 then s1 at the next place, and s0 now: a node with s1 that leads back to itself is nearer than one without
+        (&[7, 3, 0, 10, 7, 6, 4, 0, 8, 3, 1, 8, 5, 0], 3, met_safely(1, 1, 3, &[0x4001, 0x4002])),
+        // from the third place on always s0
+        (&[8, 8, 10, 7, 3, 0, 8, 5, 0], 4, met_safely(3, 1, 4, &[0x4000, 0x4000, 0x4001, 0x4001])),
+        // s0 at every second place and s1 at every third: lead-in and loop have as many places as there are nodes
+        (
+            &[7, 10, 7, 3, 0, 8, 8, 5, 0, 10, 7, 3, 1, 8, 8, 8, 5, 0],
+            7,
+            met_safely(1, 6, 7, &[0x4003, 0x4000, 0x4001, 0x4002, 0x4001, 0x4000, 0x4003]),
+        ),
+        // from the announcement on never the previous scale, and it is announced at once
+        (&[7, 3, 1, 10, 7, 6, 4, 1, 10, 7, 4, 14, 8, 5, 0, 8, 5, 0], 2, met_safely(1, 1, 2, &[0x8002, 0x8000])),
+        // always one scale flag and the other one next to it
+        (&[10, 7, 3, 14, 8, 7, 4, 14, 8, 5, 0], 3, met_safely(1, 2, 3, &[0x4000, 0x8000, 0x4000])),
+        // always s0, and three places on not; both flags at the next place
+        (&[7, 10, 7, 3, 0, 8, 5, 0, 8, 8, 8, 4, 0], 4, unmet(4)),
+        (&[8, 7, 3, 14, 3, 15], 2, unmet(2)),
+    ];
+    for (rule, count, expected) in table {
+        check_safety_rooms(rule, count, expected);
+    }
+}
+
+/// The rules of the table above of courses as short that have no least fixpoint.
+#[test]
+fn of_safety_courses_as_short_the_first_by_pick_words() {
+    let table: [(&[u8], usize, Result<SafetyVerdict, u8>); 8] = [
+        (&[6, 3, 0, 3, 1], 2, met_safely(1, 1, 2, &[0x4001, 0x4000])),
+        (&[6, 3, 1, 3, 0], 2, met_safely(1, 1, 2, &[0x4002, 0x4000])),
+        (&[6, 6, 2, 3, 1, 3, 0], 2, met_safely(1, 1, 2, &[0x4001, 0x4000])),
+        (&[6, 10, 7, 3, 1, 8, 5, 0, 10, 7, 3, 0, 8, 5, 0], 3, met_safely(1, 1, 3, &[0x4002, 0x4002])),
+        (&[7, 4, 1, 10, 7, 6, 3, 1, 3, 0, 8, 5, 0], 2, met_safely(1, 1, 2, &[0x4001, 0x4002])),
+        (&[10, 7, 8, 5, 0, 8, 6, 3, 0, 5, 0], 2, met_safely(1, 1, 2, &[0x4000, 0x4001])),
+        (&[10, 8, 7, 6, 3, 1, 3, 0, 8, 5, 0], 3, met_safely(1, 2, 3, &[0x4000, 0x4002, 0x4000])),
+        (&[6, 8, 10, 7, 6, 2, 3, 0, 8, 5, 0, 8, 10, 7, 3, 1, 8, 5, 0], 5, met_safely(2, 1, 5, &[0x4000, 0x4001, 0x4001])),
+    ];
+    for (rule, count, expected) in table {
+        check_safety_rooms(rule, count, expected);
+    }
+}
+
+#[test]
+fn refusals_of_safety_rules_in_order() {
+    let often = CASE_F;
+    // reading, then 43, then 11, whatever comes behind
+    for (rule, number) in [(&[][..], 1), (&[9, 1, 1], 9), (&[9, 5, 0], 8), (&often, 43)] {
+        for nodes in [0, 1, 3, 1025, usize::MAX] {
+            check_safety(rule, nodes, (0, 0), Err(number), 0);
+            check_safety(rule, nodes, (9000, 2000), Err(number), 0);
+        }
+    }
+    for nodes in [0, 1025, usize::MAX / 8 + 1, usize::MAX] {
+        for lent in [(0, 0), (9000, 0), (0, 2000), (9000, 2000)] {
+            check_safety(&CASE_H, nodes, lent, Err(11), 0);
+        }
+    }
+    for nodes in [1, 2, 3, 256, MOST_NODES] {
+        let asked = nodes_len(nodes);
+        for short in [0, asked - 1] {
+            check_safety(&CASE_H, nodes, (short, 0), Err(12), 0);
+            check_safety(&CASE_H, nodes, (short, nodes - 1), Err(12), 0);
+            check_safety(&CASE_H, nodes, (short, nodes), Err(12), 0);
+        }
+        for long in [asked, asked + 40] {
+            check_safety(&CASE_H, nodes, (long, 0), Err(13), 0);
+            check_safety(&CASE_H, nodes, (long, nodes - 1), Err(13), 0);
+        }
+    }
+    // case H has three nodes
+    check_safety(&CASE_H, 2, (16, 2), Err(14), 16);
+    check_safety(&CASE_H, 2, (99, 9), Err(14), 16);
+    check_safety(&CASE_H, 3, (24, 3), met_safely(1, 2, 3, &[0x4001, 0x4000, 0x4001]), 24);
+}
+
+#[test]
+fn the_first_least_fixpoint_has_its_place() {
+    let table: [(&[u8], usize); 8] = [
+        (&[9, 1], 0),
+        (&[9, 9, 1], 0),
+        (&[10, 8, 9, 1], 2),
+        // signal 9 is no fixpoint
+        (&[7, 3, 9, 9, 1], 3),
+        (&[7, 4, 9, 7, 3, 9, 9, 1], 6),
+        (&[7, 10, 8, 5, 0, 10, 9, 1], 6),
+        // in the left operand, though the right one has one too
+        (&[6, 10, 9, 1, 9, 1], 2),
+        (&CASE_F, 2),
+    ];
+    for (rule, place) in table {
+        let why = decide_safety(rule, 256, &mut [0; nodes_len(256)], &mut [0; 256]).unwrap_err();
+        assert_eq!((why.number, why.place, why.fixpoint), (43, Some(place), None), "{rule:02x?}");
+    }
+    // the latest that there is: behind 23 signals of two bytes each and as many ands
+    let last = [&[7; 23][..], &[3, 9].repeat(23), &[9, 1]].concat();
+    let why = decide_safety(&last, 256, &mut [], &mut []).unwrap_err();
+    assert_eq!((why.number, why.place), (43, Some(69)));
+    check_safety(&[3, 9], 2, (16, 2), met_safely(1, 1, 2, &[0x4200, 0x4000]), 16);
+}
+
+/// Where the general decision comes to a verdict, that of safety rules has it too; and where it lacks room for profiles, one as well.
+#[test]
+fn safety_rules_need_no_profiles() {
+    let mut areas = Areas::new(256, 300);
+    // s0 at every fifth place and s1 at every seventh
+    let fives_and_sevens = [&[7, 10, 7, 3, 0][..], &[8; 5], &[5, 0, 10, 7, 3, 1], &[8; 7], &[5, 0]].concat();
+    let rule = Rule::read(&fives_and_sevens).expect("a rule");
+    assert_eq!(rule.decide(&mut areas).map_err(|why| why.number), Err(15));
+    let Ok(SafetyVerdict::Met { lead_len: 1, loop_len: 35, nodes: 36, course }) = rule.decide_safety(&mut areas) else { panic!("no loop") };
+    let signals = |i: usize| 0x4000 + i.is_multiple_of(5) as u16 + 2 * i.is_multiple_of(7) as u16;
+    assert_eq!(course, (0..36).map(signals).collect::<Vec<_>>());
+    assert_eq!(rule.truth(course, 1, &mut [0; 36]), Ok(true));
+    for bytes in [&CASE_H[..], &[1], &[2], &[6, 3, 1, 3, 0]] {
+        let rule = Rule::read(bytes).expect("a rule");
+        let general = match rule.decide(&mut Areas::new(256, 300)).expect("enough room") {
+            Verdict::Met { lead_len, loop_len, nodes, course, .. } => (lead_len, loop_len, nodes, course.to_vec()),
+            Verdict::Not { nodes, .. } => (0, 0, nodes, Vec::new()),
+        };
+        let told = match rule.decide_safety(&mut areas).expect("enough room") {
+            SafetyVerdict::Met { lead_len, loop_len, nodes, course } => (lead_len, loop_len, nodes, course.to_vec()),
+            SafetyVerdict::Not { nodes } => (0, 0, nodes, Vec::new()),
+        };
+        assert_eq!(told, general, "{bytes:02x?}");
+    }
+}
+
+#[test]
+fn areas_for_safety_rules() {
+    let rule = Rule::read(&CASE_H).expect("a rule");
+    for profiles in [0, 1, 300, 4097, usize::MAX] {
+        assert!(rule.decide_safety(&mut Areas::new(3, profiles)).is_ok(), "{profiles}");
+    }
+    for (nodes, number) in [(0, 11), (1, 14), (2, 14), (1025, 11), (usize::MAX, 11)] {
+        assert_eq!(rule.decide_safety(&mut Areas::new(nodes, 0)).map_err(|why| why.number), Err(number), "{nodes}");
+    }
+    assert_eq!(Rule::read(&CASE_F).expect("a rule").decide_safety(&mut Areas::new(0, 0)).map_err(|why| why.number), Err(43));
+}
+
+/// What reading, truth, decision, building, search and the decision of safety rules refuse a rule with. Course, room, areas and nodes would
+/// be refused too, but reading is asked first.
+fn refused(rule: &[u8]) -> [Option<Refusal>; 6] {
     [
         Rule::read(rule).err(),
         truth(rule, &[], 0, &mut []).err(),
         decide(rule, 0, 0, &mut [], &mut []).err(),
         build(rule, 0, &mut []).err(),
         search(rule, 0, 0, 0, &mut [], &mut []).err(),
+        decide_safety(rule, 0, &mut [], &mut []).err(),
     ]
 }
 

@@ -1,7 +1,8 @@
 //! Every line of the ```rules blocks of docs/FORMULAS.md, run; its words for each refusal, held beside the crate's; and a rule that is
 //! searched with more and more room.
 
-use yuktrob::{build, course_len, decide, nodes_len, search, truth, work_len, Refusal, Rule, Verdict, PREVIOUS_SCALE};
+use yuktrob::{build, course_len, decide, decide_safety, nodes_len, search, truth, work_len};
+use yuktrob::{Refusal, Rule, SafetyVerdict, Verdict, MOST_NODES, PREVIOUS_SCALE};
 
 fn document() -> String {
     std::fs::read_to_string(concat!(env!("CARGO_MANIFEST_DIR"), "/../../docs/FORMULAS.md")).expect("docs/FORMULAS.md")
@@ -79,8 +80,11 @@ impl With<'_> {
     }
 }
 
+fn hex(places: &[u16]) -> String {
+    places.iter().map(|place| format!("{place:04x}")).collect::<Vec<_>>().join(" ")
+}
+
 fn outcome(answer: Result<Verdict, Refusal>) -> String {
-    let hex = |p: &[u16]| p.iter().map(|x| format!("{x:04x}")).collect::<Vec<_>>().join(" ");
     match answer {
         Ok(Verdict::Met { lead_len, loop_len, nodes, profiles, course }) => {
             let (lead, around) = course.split_at(lead_len);
@@ -119,9 +123,27 @@ fn searched(rule: &[u8], over: &[u8], with: With) -> String {
     with.profiles().into_iter().map(again).collect::<Vec<_>>().join(", ")
 }
 
+/// The decision of a safety rule. What 12 and 13 ask is lent where 11 allows N, if `lent WORK COURSE` does not say otherwise.
+fn decided_safely(rule: &[u8], nodes: usize, lent: With) -> String {
+    let (work, buffer) = match lent.numbers("lent")[..] {
+        [work, buffer] => (work, buffer),
+        _ if nodes <= MOST_NODES => (nodes_len(nodes), nodes),
+        _ => (0, 0),
+    };
+    match decide_safety(rule, nodes, &mut vec![0; work], &mut vec![0; buffer]) {
+        Ok(SafetyVerdict::Met { lead_len, loop_len, nodes, course }) => format!("MET {lead_len} {loop_len} {nodes} {}", hex(course)),
+        Ok(SafetyVerdict::Not { nodes }) => format!("NOT {nodes}"),
+        Err(why) => refused(why),
+    }
+}
+
 /// What a line comes to: `RULE on COURSE`, `RULE built`, `RULE searched`, `RULE searched over RULE`, or a rule alone, which is decided. All
-/// but the first may be followed by ` with ` and numbers.
+/// but the first may be followed by ` with ` and numbers. Or `safety | RULE | N`, as the test runner has it, and perhaps
+/// ` | lent WORK COURSE`.
 fn found(input: &str) -> String {
+    if let ["safety", rule, nodes, ref lent @ ..] = input.split(" | ").collect::<Vec<_>>()[..] {
+        return decided_safely(&bytes(rule), nodes.parse().expect("a room for nodes"), With(lent.first().unwrap_or(&"")));
+    }
     let (input, with) = input.split_once(" with ").unwrap_or((input, ""));
     if let Some((rule, course)) = input.split_once(" on ") {
         told(&bytes(rule), course)
@@ -143,7 +165,7 @@ fn every_line_of_the_document() {
             "```rules" => inside = true,
             "```" => inside = false,
             _ if inside => {
-                let (input, expected) = line.split_once(" -> ").expect("an arrow");
+                let (input, expected) = line.split_once(" -> ").or(line.rsplit_once(" | ")).expect("an arrow or a bar");
                 assert_eq!(found(input), expected, "{input}");
                 lines += 1;
             }
@@ -184,6 +206,7 @@ fn refusal(number: u8) -> Refusal {
         18 => truth(&[1], &[PREVIOUS_SCALE; 2], 1, &mut [0]).unwrap_err(),
         19 => truth(&[1], &[0], 0, &mut [0]).unwrap_err(),
         36 => search(&often, 3, 256, 300, &mut work, &mut buffer).unwrap_err(),
+        43 => decide_safety(&often, 256, &mut work, &mut buffer).unwrap_err(),
         _ => panic!("the document has a refusal {number} that no input is known for"),
     }
 }
@@ -196,12 +219,12 @@ fn every_refusal_has_the_words_of_the_document() {
         Some((number.parse::<u8>().ok()?, words.to_string()))
     };
     let rows: Vec<(u8, String)> = document.lines().skip_while(|line| *line != "## Refusals").filter_map(row).collect();
-    assert_eq!(rows.len(), 19);
+    assert_eq!(rows.len(), 20);
     for (number, words) in rows {
         let why = refusal(number);
         let place = why.place.map_or(String::new(), |place| format!(" at byte {place}"));
         let fixpoint = why.fixpoint.map_or(String::new(), |fixpoint| format!(", for the fixpoint at byte {fixpoint}"));
-        assert_eq!((why.number, why.place.is_some(), why.fixpoint.is_some()), (number, number <= 9, number == 8));
+        assert_eq!((why.number, why.place.is_some(), why.fixpoint.is_some()), (number, number <= 9 || number == 43, number == 8));
         assert_eq!(why.to_string(), format!("refused {number}{place}{fixpoint}: {words}"));
     }
 }

@@ -1,6 +1,7 @@
--- `tableau::follow` adds the node that a step leads to, if there is one.
+-- `tableau::follow` adds the node that a step leads to, if there is one, and notes the step.
 use native.Mathlib.Omega.{arith}
 use Rattle.tableau.proofs.NodeLoop.{follow-nowhere, follow-some}
+use Rattle.tableau.proofs.StepLaws.{step-nowhere, step-there}
 use borrow.Author.Needs.{needs}
 use Rattle.tableau.proofs.follow.Statement.{statement}
 use Rattle.tableau.proofs.follow.Tie as tie
@@ -17,10 +18,15 @@ letter-of-requires c κs = search needs
 add-requires : tie.Need-add-requires
 add-requires c κs = search needs
 
+note-step-requires : tie.Need-note-step-requires
+note-step-requires c κs = search needs
+
 returns : tie.Need-returns
 returns c =
-    let start = c .before .before .before .before in
-    (follow-nowhere _ (c .enum-told .given .1), ((omega arith, omega arith), λ h. start .pre .0 .marked))
+    let start = c .before .before .before .before .before in (
+      follow-nowhere _ (c .enum-told .given .1),
+      ((omega arith, omega arith), (λ h. start .pre .0 .marked, λ e h. step-nowhere _ (c .enum-told .given .1))),
+    )
 
 same-length : tie.Need-same-length
 same-length c = search needs
@@ -28,14 +34,25 @@ same-length c = search needs
 same-length-2 : tie.Need-same-length-2
 same-length-2 c = search needs
 
+same-length-3 : tie.Need-same-length-3
+same-length-3 c = search needs
+
 returns-2 : tie.Need-returns-2
 returns-2 c =
-    let earlier = c .before .before .before .before .before .before .before .before in
-    let start = earlier .before .before .before .before .before .before in
-    let target = earlier .before .before .target in
-    let add = c .before .before .before .before .add in (
-      follow-some (start .args .number) (target .given .1) (earlier .letter-of .ensures) (start .pre .0 .room .fits) (add .ensures .0),
-      add .ensures .1,
+    let start = c .before .before .before .before .before .before .before .before .before .before .before .before .before .before .before .before .before .before .before in
+    let told = c .before .before .before .before .before .before .before .before .before .before .before .before .before .before .target .given .1 in
+    let letter-of = c .before .before .before .before .before .before .before .before .before .before .before .before .letter-of in
+    let add = c .before .before .before .before .before .before .before .before .add in
+    let came = add .ensures .1 in
+    let note-step = c .before .before .note-step in (
+      follow-some (start .args .number) told (letter-of .ensures) (start .pre .0 .room .fits) (add .ensures .0),
+      (
+        (came .more, came .most),
+        (
+          came .marked,
+          λ e h. step-there (start .args .number .0) told (came .below) (came .stands h) (came .stay h) (note-step .ensures e h),
+        ),
+      ),
     )
 
 pub follow-spec : {M : Type 1} → statement M
@@ -46,7 +63,9 @@ follow-spec =
     enum-known-target
     letter-of-requires
     add-requires
+    note-step-requires
     returns
     same-length
     same-length-2
+    same-length-3
     returns-2)

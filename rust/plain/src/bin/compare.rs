@@ -1,46 +1,77 @@
 //! Runs the proved library and the independent implementation on the same random inputs, and reports every difference.
-//! `compare [INPUTS [SEED [LONGEST]]]`, where no course that both work out is longer than LONGEST places, 60 at least and 8,192 at most.
+//!
+//! - `compare [INPUTS [SEED [LONGEST]]]`: readings, truths, decisions and decisions of safety rules in turn, where no course that both work
+//!   out is longer than LONGEST places, 60 at least and 8,192 at most.
+//! - `compare safety [INPUTS [SEED]]`: decisions of safety rules alone.
 
 use std::time::Instant;
-use yuktrob_plain::compared::{self, Areas, Buildings, Changed, Courses, Decisions, Input, Rooms, Signals, Truths, Unguarded, LONG};
+use yuktrob_plain::compared::{self, Areas, Input, LONG};
+use yuktrob_plain::compared::{Buildings, Changed, Courses, Decisions, Rooms, Safeties, Signals, Truths, Unguarded};
 use yuktrob_plain::random::Random;
 
 fn main() {
-    let words: Vec<u64> = std::env::args().skip(1).map(|w| w.parse().expect("a number")).collect();
-    let word = |i: usize, otherwise: u64| words.get(i).copied().unwrap_or(otherwise);
+    let mut words: Vec<String> = std::env::args().skip(1).collect();
+    let safety_alone = words.first().is_some_and(|word| word == "safety");
+    words.drain(..safety_alone as usize);
+    let word = |i: usize, otherwise: u64| words.get(i).map_or(otherwise, |w| w.parse().expect("a number"));
     let (inputs, seed, longest) = (word(0, 100_000), word(1, 1), word(2, 8192).clamp(60, 8192) as usize);
+    let differences = if safety_alone { safety(inputs, seed) } else { all(inputs, seed, longest) };
+    println!("differences: {differences}");
+    if differences > 0 {
+        std::process::exit(1);
+    }
+}
+
+/// 1 for a difference, which is printed.
+fn reported(result: Result<(), String>) -> u64 {
+    let Err(what) = result else { return 0 };
+    println!("{what}");
+    1
+}
+
+/// How many of so many decisions of safety rules differ.
+fn safety(inputs: u64, seed: u64) -> u64 {
+    let (mut random, mut areas, mut safeties) = (Random::new(seed), Areas::new(), Safeties::default());
+    let start = Instant::now();
+    let differences = (0..inputs).map(|_| reported(compared::safety(&mut random, &mut areas, &mut safeties))).sum();
+    println!("compared: {inputs} decisions of safety rules in {:.1} s", start.elapsed().as_secs_f64());
+    report_safeties(&safeties);
+    differences
+}
+
+/// How many of so many inputs differ.
+fn all(inputs: u64, seed: u64, longest: usize) -> u64 {
     let mut random = Random::new(seed);
     let (mut unguarded, mut signals) = (Unguarded::default(), Signals::default());
-    let (mut areas, mut truths, mut decisions) = (Areas::new(), Truths::default(), Decisions::default());
+    let (mut areas, mut truths, mut decisions, mut safeties) = (Areas::new(), Truths::default(), Decisions::default(), Safeties::default());
     let mut differences = 0u64;
     let start = Instant::now();
     for i in 0..inputs {
+        if i % 4 == 3 {
+            differences += reported(compared::safety(&mut random, &mut areas, &mut safeties));
+            continue;
+        }
         let input = Input::new(&mut random);
         let rule = &input.rule;
         unguarded.count(rule);
         signals.count(rule);
-        let result = match i % 3 {
+        differences += reported(match i % 4 {
             0 => compared::reading(rule),
             1 => compared::truth(&mut random, &input, longest, &mut truths),
             _ => compared::decision(&mut random, rule, &mut areas, &mut decisions),
-        };
-        if let Err(what) = result {
-            differences += 1;
-            println!("{what}");
-        }
+        });
     }
     let seconds = start.elapsed().as_secs_f64();
-    println!("compared: {} readings, {} truths, {} decisions in {seconds:.1} s", inputs.div_ceil(3), truths.all, inputs / 3);
+    let [readings, decided, safely] = [3, 1, 0].map(|more| (inputs + more) / 4);
+    println!("compared: {readings} readings, {} truths, {decided} decisions, {safely} of safety rules in {seconds:.1} s", truths.all);
     println!("truths of rules with alternating fixpoints: {}, of these on {LONG} places or more: {}", truths.alternating, truths.long);
     let Unguarded { all, between } = unguarded;
     println!("rules refused with 8: {all}, of these for a fixpoint that is neither the innermost nor at byte 0: {between}");
     println!("rules with one signal both present and absent, of the signal that the fewest have so: {}", signals.fewest());
     report_flags(&truths, &decisions);
     report_decisions(&decisions);
-    println!("differences: {differences}");
-    if differences > 0 {
-        std::process::exit(1);
-    }
+    report_safeties(&safeties);
+    differences
 }
 
 fn report_flags(truths: &Truths, decisions: &Decisions) {
@@ -88,4 +119,18 @@ fn report_buildings(buildings: &Buildings) {
         println!("  {name}: {all}, {refused}");
     }
     println!("refused with 12 or 13 behind a change that 36 would refuse: {before_36}");
+}
+
+fn report_safeties(safeties: &Safeties) {
+    let Safeties { met, not, unread, least, refused: [refused_11, refused_12, refused_13, refused_14], .. } = safeties;
+    println!("safety rules: {met} MET, {not} NOT, {unread} refused by reading, {least} with 43");
+    println!("refused with 11: {refused_11}, with 12: {refused_12}, with 13: {refused_13}, with 14: {refused_14}");
+    let Safeties { later, long, led, full, exact, by_one, before_13, .. } = safeties;
+    println!("MET with a loop of several steps: {later}, of ten or more: {long}; with a lead-in of several: {led}; with K places: {full}");
+    println!("N just what is needed: {exact}, 14 with one fewer: {by_one}, 12 where 13 would refuse too: {before_13}");
+    let Safeties { behind_9, several, before_others, general, beyond_met, beyond_not, again, courses, .. } = safeties;
+    println!("43 behind a signal 9: {behind_9}, before another least fixpoint: {several}, where others would refuse too: {before_others}");
+    println!("verdicts of decide too: {general}; where it has no room for profiles: {beyond_met} MET, {beyond_not} NOT");
+    println!("verdicts asked for again with more room: {again}");
+    report_courses(courses);
 }

@@ -25,7 +25,7 @@ pub fn tables(areas: &mut Areas, timed: &[Timed]) {
 }
 
 /// The times of the proved library and of the independent implementation for building.
-fn building(areas: &mut Areas, rule: &[u8]) -> (Duration, Duration) {
+pub fn building(areas: &mut Areas, rule: &[u8]) -> (Duration, Duration) {
     let work = &mut areas.work[..nodes_len(MOST_NODES)];
     let ours = time(|| {
         black_box(yuktrob::build(black_box(rule), MOST_NODES, work)).ok();

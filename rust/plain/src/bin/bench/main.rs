@@ -3,19 +3,21 @@
 //! - `bench`: all tables.
 //! - `bench early`: the table of decisions that need fewer profiles than there are.
 //! - `bench building`: the tables of building and search.
+//! - `bench safety [COUNT SEED]`: the tables of safety rules; or which of so many random ones take longest.
 //! - `bench alternating [SHORT LONG]`: the table of truth with alternating fixpoints, at these numbers of places.
 //! - `bench search COUNT SEED [PLACES]`: which of so many random rules with fixpoints that cross, most of which alternate, take the proved
 //!   library longest, and on which course.
 //!
 //! Buffers are made once and not cleared between calls. The decision leaves its work area zero, as the defining paper asks, which is part of
-//! its time; the independent implementation has no use for that area, and clears one of the same size behind each decision. Building and
-//! search leave in it what they are to in both.
+//! its time; the independent implementation has no use for that area, and clears one of the same size behind each decision. Building,
+//! search and the decision of safety rules leave in it what they are to in both.
 
 mod alternating;
 mod building;
 mod decisions;
 mod early;
 mod readings;
+mod safety;
 mod shapes;
 mod timing;
 mod truths;
@@ -31,6 +33,7 @@ fn all() {
     println!("Measured on: {}.", processor());
     readings::table();
     decisions::tables();
+    safety::tables();
     truths::tables();
     alternating::table(1024, 8192);
 }
@@ -42,8 +45,10 @@ fn main() {
         None => all(),
         Some("early") => early::table(&mut decisions::Areas::new()),
         Some("building") => building::alone(),
+        Some("safety") if words.len() > 1 => safety::search(number(1, 1000), number(2, 1) as u64),
+        Some("safety") => safety::tables(),
         Some("alternating") => alternating::table(number(1, 1024), number(2, 8192)),
         Some("search") => alternating::search(number(1, 3000), number(2, 1) as u64, number(3, 1024)),
-        Some(other) => panic!("{other}: not known; early, building, alternating or search, or nothing"),
+        Some(other) => panic!("{other}: not known; early, building, safety, alternating or search, or nothing"),
     }
 }

@@ -1,0 +1,6 @@
+pub mod FillLaws
+pub mod SetLaws
+pub mod ExpandLaws
+pub mod WalkLaws
+pub mod SearchLaws
+pub mod BestLaws

@@ -1,0 +1,14 @@
+pub mod FirstCycle
+pub mod ShortCourse
+pub mod EveryCycle
+pub mod LeastPlace
+pub mod VerdictLaws
+pub mod Bounds
+pub mod Demands
+pub mod NumberWalks
+pub mod StepLaws
+pub mod CycleSteps
+pub mod CourseLaws
+pub mod AnswerLaws
+pub mod SettleLaws
+pub mod SeekLaws

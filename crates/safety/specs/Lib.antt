@@ -1,0 +1,4 @@
+pub mod Safety
+pub mod Closed
+pub mod Contract
+pub mod Inner
