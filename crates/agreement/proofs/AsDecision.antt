@@ -1,10 +1,14 @@
 -- Where the decision and the decision with greatest fixpoints alone both answer, they answer the same: MET with the same stem, cycle, K and
 -- letters, or NOT with the same K. With greatest fixpoints alone the accepting cycles are the closed runs, so that both witnesses are the
--- first of the same runs, and there is one first. Assumes nothing.
+-- first of the same runs, and there is one first (`as-decision`). Of a formula with greatest fixpoints alone the other answers wherever the
+-- decision does, with the same N and with areas of 8 N bytes and N letters or more (`answers-too`), so with the decision's own areas
+-- (`answers-there`); and then it answers the same (`same-verdict`, `same-there`). It answers too where the decision gives 15
+-- (`answers-for-15`). Assumes nothing.
 use mathlib.Core.Path.{_≡_, sym, ap, subst, subst⁻¹, _∙_}
 use mathlib.Core.Bool.{true}
 use mathlib.Core.List.{List, _++_, map}
-use Prim.Native.Nat.{ℕ}
+use Prim.Native.Nat.{ℕ, _*_, _≤_, _<_}
+use native.Mathlib.Omega.{arith}
 use lib.ListN.{length}
 use Rattle.formula.specs.Formula.{Formula}
 use Rattle.formula.specs.Table.{Table, table}
@@ -18,11 +22,12 @@ use Rattle.construction.specs.Construction.{node-count}
 use Rattle.decision.specs.Verdict as decision
 use Rattle.decision.specs.Contract.{Witness}
 use Rattle.decision.proofs.Answer as whole
+use Rattle.decision.proofs.Demands as demands
 use Rattle.safety.specs.Safety.{Verdict, verdict}
 use Rattle.safety.specs.Closed.{ClosedRun}
 use Rattle.safety.proofs.EveryCycle.{Greatest, closed-accepting, accepting-closed}
 use Rattle.safety.proofs.VerdictLaws.{Course}
-use Rattle.safety.proofs.Demands.{IsAnswer, NoLasso, Says, one-formula, verdict-says}
+use Rattle.safety.proofs.Demands.{IsAnswer, NoLasso, Says, one-formula, verdict-says, answers-where-nodes-fit}
 
 -- the answer of the decision as that of the other
 abbrev pub Same : decision.Verdict → Verdict → Type 0
@@ -89,3 +94,56 @@ pub as-decision-not : (N M w b N′ w′ b′ : ℕ) (bytes : List ℕ) → IsAn
     → (K P : ℕ) → decision.verdict N M w b bytes ≡ decision.Verdict.unsatisfiable K P → verdict N′ w′ b′ bytes ≡ Verdict.unsatisfiable K
 as-decision-not N M w b N′ w′ b′ bytes h K P e =
     subst (λ (d : decision.Verdict). Same d (verdict N′ w′ b′ bytes)) e (as-decision N M w b N′ w′ b′ bytes h)
+
+-- A formula with greatest fixpoints alone.
+module _ (N M w b : ℕ) (bytes : List ℕ) (f : Formula) (reads : parse bytes ≡ Reading.accepted f) (greatest : Greatest (table f)) where
+  -- where the decision comes past 14, the other answers: it asks nothing that the decision has not asked
+  past-14 : demands.Granted N M w b bytes f → node-count (table f) ≤ N
+      → (w′ b′ : ℕ) → 8 * N ≤ w′ → N ≤ b′ → IsAnswer (verdict N w′ b′ bytes)
+  past-14 g k w′ b′ p q =
+      let c = g .lends .capacity in
+      answers-where-nodes-fit N w′ b′ bytes f reads greatest (c .some-nodes) (c .few-nodes) p q k
+
+  -- the decision's formula is this one
+  this : {g : Formula} → demands.Granted N M w b bytes g → g ≡ f
+  this h = one-formula (sym (h .reads) ∙ reads)
+
+  -- Theorem: where the decision gives 15, the other answers.
+  pub answers-for-15 : decision.verdict N M w b bytes ≡ decision.Verdict.refused 15
+      → (w′ b′ : ℕ) → 8 * N ≤ w′ → N ≤ b′ → IsAnswer (verdict N w′ b′ bytes)
+  answers-for-15 e =
+      let (g, h, k, p, c) = demands.refused-15-exactly N M w b bytes .0 e in
+      past-14 (subst (demands.Granted N M w b bytes) (this h) h) (subst (λ (g : Formula). node-count (table g) ≤ N) (this h) k)
+
+  module _ (answers : demands.IsAnswer (decision.verdict N M w b bytes)) where
+    granted : demands.Granted N M w b bytes f
+    granted =
+        let (g, h) = demands.granted-exactly N M w b bytes .0 (demands.answer-past (decision.verdict N M w b bytes) answers) in
+        subst (demands.Granted N M w b bytes) (this h) h
+
+    nodes-fit : node-count (table f) ≤ N
+    nodes-fit =
+        not-above (λ l. subst demands.IsAnswer (demands.refused-14-exactly N M w b bytes .1 (f, granted, l)) answers)
+      where
+        not-above : {k : ℕ} → (N < k → ⊥) → k ≤ N
+        not-above n = omega arith
+
+    -- Theorem: where the decision answers, the other answers with the same N and areas of 8 N bytes and N letters or more,
+    pub answers-too : (w′ b′ : ℕ) → 8 * N ≤ w′ → N ≤ b′ → IsAnswer (verdict N w′ b′ bytes)
+    answers-too = past-14 granted nodes-fit
+
+    -- and so the same;
+    pub same-verdict : (w′ b′ : ℕ) → 8 * N ≤ w′ → N ≤ b′ → Same (decision.verdict N M w b bytes) (verdict N w′ b′ bytes)
+    same-verdict w′ b′ p q = as-decision N M w b N w′ b′ bytes (answers-too w′ b′ p q)
+
+    -- the decision's own areas are as large,
+    areas-fit : (8 * N ≤ w) × (N ≤ b)
+    areas-fit = (omega (arith, granted .lends .workspace-fits), omega (arith, granted .lends .buffer-fits))
+
+    -- and so with them it answers,
+    pub answers-there : IsAnswer (verdict N w b bytes)
+    answers-there = answers-too w b (areas-fit .0) (areas-fit .1)
+
+    -- and the same.
+    pub same-there : Same (decision.verdict N M w b bytes) (verdict N w b bytes)
+    same-there = same-verdict w b (areas-fit .0) (areas-fit .1)

@@ -106,7 +106,7 @@ past-14 (Asked.answered-yes q (Asked.answered-no n)) = omega arith
 past-14 (Asked.answered-yes q (Asked.answered-yes r (Concluded.met w))) = tt
 past-14 (Asked.answered-yes q (Asked.answered-yes r (Concluded.unmet n))) = tt
 
-answer-past : (o : Verdict) → IsAnswer o → Past13 o
+pub answer-past : (o : Verdict) → IsAnswer o → Past13 o
 answer-past (Verdict.unread why) h = h
 answer-past (Verdict.refused code) h = absurd h
 answer-past (Verdict.satisfiable stem cycle K c letters) h = tt

@@ -1,6 +1,6 @@
--- How large the numbers of a verdict are: K is at most N where one is given, stem and cycle have together at most K letters, and at least one
--- of them is the cycle's; the place of 43 is among the bytes of a formula, of which there are at most 96; and the places of a refusal of
--- reading are at most 97. Assumes nothing.
+-- How large the numbers of a verdict are: K is at most N where one is given, stem and cycle have together at most K letters, and at least
+-- one of them is the cycle's; the place of 43 is at most 96, as a formula has at most 48 operators of two bytes; and the places of a
+-- refusal of reading are at most 97. Assumes nothing.
 use mathlib.Core.Path.{_≡_, refl, subst, subst⁻¹}
 use mathlib.Core.List.{List, [], _∷_}
 use mathlib.Core.Bool.{Bool, true, false, cond}
@@ -58,14 +58,16 @@ least-early p (o ∷ t) {place} e =
 
 concluded-bounded : (N : ℕ) (t : Table) → N ≤ max-nodes → node-count t ≤ N → (o : Verdict) → Concluded t o → Bounded N (says o)
 concluded-bounded N t h k o (Concluded.met c) =
-    (record { nodes-few = omega arith; together = c .short; cycle-some = omega (arith, c .cycle-is, c .foremost .is-one .counts .some-step) }, k)
+    let around = c .foremost .is-one .counts in
+    (record { nodes-few = omega arith; together = c .short; cycle-some = omega (arith, c .cycle-is, around .some-step) }, k)
 concluded-bounded N t h k o (Concluded.unmet n) = (omega arith, k)
 
 -- Theorem: the numbers of every verdict are so.
 pub verdict-bounded : (N workspace buffer : ℕ) (bytes : List ℕ) → Bounded N (says (verdict N workspace buffer bytes))
 verdict-bounded N workspace buffer bytes = by refl (verdict-answered N workspace buffer bytes)
   where
-    asked-bounded : {Question : Type 0} {s : Shortage} {After : Verdict → Type 0} → (Question → (o : Verdict) → After o → Bounded N (says o))
+    asked-bounded : {Question : Type 0} {s : Shortage} {After : Verdict → Type 0}
+        → (Question → (o : Verdict) → After o → Bounded N (says o))
         → (o : Verdict) → Asked Question (Verdict.refused s) After o → Bounded N (says o)
     asked-bounded f = every-outcome (λ (o : Verdict). Bounded N (says o)) tt f
 

@@ -183,7 +183,8 @@ module _ (rows : List ℕ) (count : ℕ) {known : ℕ} {area slots steps : List 
       by (some x) e =
           let k = cycle-first u (node u v) e in
           let (ss, l, w) = walk-of rows count (c .known-is) (c .words-are) (c .noted) (c .shortest .closed) in
-          let most = no-later-first (length (x .way)) (length ss) _ _ (k .foremost ss (walk-along u w) (omega (arith, c .shortest .positive))) in
+          let ahead = k .foremost ss (walk-along u w) (omega (arith, c .shortest .positive)) in
+          let most = no-later-first (length (x .way)) (length ss) _ _ ahead in
           let inside = c .shortest .vertex in
           let closed = walk-in rows count (c .known-is) (c .words-are) (c .noted) (along-walk u (k .back)) v v inside inside refl refl in
           let long : length (x .way) ≡ L = omega (arith, l, most, c .shortest .least v (length (x .way)) (k .some-step) closed) in (

@@ -204,7 +204,8 @@ module _ (rows : List ℕ) (count : ℕ) {known : ℕ} {area slots steps : List 
                       let same : step ≡ g .first = transition-one t here taken (g .member) (omega (arith, its-word, q)) in
                       inr (
                         g .rest,
-                        is ∙ ap (λ (x : Transition). w .done ++ (x ∷ g .rest)) (sym same) ∙ sym (append-assoc (w .done) (step ∷ []) (g .rest)),
+                        is ∙ ap (λ (x : Transition). w .done ++ (x ∷ g .rest)) (sym same)
+                            ∙ sym (append-assoc (w .done) (step ∷ []) (g .rest)),
                         subst (λ (u : Subset). Walk t u (g .rest) (node t v)) (ap (λ (x : Transition). x .to) (sym same) ∙ leads)
                             (g .onward),
                       )

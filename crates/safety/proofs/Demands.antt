@@ -2,18 +2,22 @@
 -- the two areas. MET comes with a lasso over the alphabet that meets the formula, with K, and with stem and cycle of together at most K
 -- letters (`met-means`). Unless it is a refusal, the verdict is NOT exactly if no lasso over the alphabet, however long, meets the formula
 -- that the bytes are (`not-exactly`). It is 43 exactly if the bytes are a formula with a least fixpoint, and names the place of the first
--- (`least-means`, `least-exactly`). For a formula with greatest fixpoints alone, with N from 1 to 1024, 8 N bytes and N places lent, and K
--- at most N, it is MET or NOT (`answers-where-nodes-fit`). Assumes nothing.
+-- (`least-means`, `least-exactly`). For a formula with greatest fixpoints alone, with N from 1 to 1024, 8 N bytes and N letters lent, and K
+-- at most N, it is MET or NOT (`answers-where-nodes-fit`). Its number is 0, 1 to 9, 11 to 14 or 43 (`every-number`), and so never 15
+-- (`never-15`). What is asked of N and the areas is in proofs/RoomDemands.antt. Assumes nothing.
 use mathlib.Core.Path.{_≡_, refl, sym, subst, subst⁻¹, _∙_}
 use mathlib.Core.Logic.{_⊎_, inl, inr, _↔_}
 use mathlib.Core.Bool.{true}
 use mathlib.Core.Option.{none, some}
 use mathlib.Core.List.{List}
 use Prim.Native.Nat.{ℕ, _+_, _*_, _≤_}
+use native.Mathlib.Omega.{arith}
 use Rattle.base.proofs.AskLaws.{Asked, passed, every-outcome}
 use Rattle.formula.specs.Formula.{Formula}
 use Rattle.formula.specs.Table.{Table, table, operator}
+use Rattle.formula.specs.Refusal.{code-of}
 use Rattle.formula.specs.Reading.{Reading, parse}
+use Rattle.formula.proofs.Fuel.{parse-stopped}
 use Rattle.lasso.specs.Lasso.{Lasso, over-alphabet, meets}
 use Rattle.tableau.proofs.ForemostLaws.{run-by}
 use Rattle.profile.specs.Profiles.{is-least}
@@ -22,12 +26,14 @@ use Rattle.theory.proofs.Soundness.{lasso-of}
 use Rattle.theory.proofs.ReadLaws.{AcceptingRun, run-such, run-holds, no-lasso}
 use Rattle.construction.specs.Construction.{node-count}
 use Rattle.safety.specs.declared.Shortage.{Shortage}
+use Rattle.safety.specs.declared.Shortage.the-variants.{Capacity, Workspace, Buffer, Nodes}
 use Rattle.safety.specs.Safety.{Verdict, first-least, verdict}
 use Rattle.safety.specs.Closed.{ClosedRun}
+use Rattle.safety.specs.Contract.{shortage-code, number-of}
 use Rattle.safety.proofs.FirstCycle.{none-some}
 use Rattle.safety.proofs.EveryCycle.{Greatest, none-least, greatest-none, closed-accepting, accepting-closed}
 use Rattle.safety.proofs.LeastPlace.{Least-place, least-placed, least-found}
-use Rattle.safety.proofs.VerdictLaws.{Course, NoRun, Concluded, From11, From14, Verdict-cases, verdict-answered}
+use Rattle.safety.proofs.VerdictLaws.{Course, NoRun, Concluded, Decided-cases, past-13, Verdict-cases, verdict-answered}
 
 -- the verdict is no refusal
 abbrev pub IsAnswer : Verdict → Type 0
@@ -125,7 +131,7 @@ module _ (bytes : List ℕ) (f : Formula) (reads : parse bytes ≡ Reading.accep
       → (o : Verdict) → Asked Question (Verdict.refused s) After o → Says bytes o
   asked-says s = every-outcome (Says bytes) tt (λ q. s)
 
-  decided-says : Greatest (table f) → {N workspace buffer : ℕ} {o : Verdict} → From11 N workspace buffer (From14 N (table f)) o
+  decided-says : Greatest (table f) → {N workspace buffer : ℕ} {o : Verdict} → Decided-cases N workspace buffer (table f) o
       → Says bytes o
   decided-says g {o = o} d = asked-says (asked-says (asked-says (asked-says (λ o c. concluded-says g c)))) o d
 
@@ -138,6 +144,36 @@ answered-says bytes e Verdict-cases.unread = e
 answered-says bytes e (Verdict-cases.least {f} {place} q) =
     record { formula = f; reads = e; placed = least-placed bytes f e place q }
 answered-says bytes e (Verdict-cases.read {f} q d) = decided-says bytes f e (none-least 0 (table f) q) d
+
+-- The numbers that a verdict can have: 0 for MET and NOT, 1 to 9 for reading, 11 to 14 for N, the areas and K, and 43.
+pub data Number : ℕ → Type 0 where
+  answer : Number 0
+  of-reading : (n : ℕ) → 1 ≤ n → n ≤ 9 → Number n
+  of-room : (n : ℕ) → 11 ≤ n → n ≤ 14 → Number n
+  of-least : Number 43
+
+shortage-number : (s : Shortage) → Number (shortage-code s)
+shortage-number Capacity = of-room 11 (omega arith) (omega arith)
+shortage-number Workspace = of-room 12 (omega arith) (omega arith)
+shortage-number Buffer = of-room 13 (omega arith) (omega arith)
+shortage-number Nodes = of-room 14 (omega arith) (omega arith)
+
+numbered : (bytes : List ℕ) (o : Verdict) → Says bytes o → Number (number-of o)
+numbered bytes (Verdict.unread why) s = let r = parse-stopped bytes s in of-reading (code-of why) (r .some) (r .known)
+numbered bytes (Verdict.least-at place) s = of-least
+numbered bytes (Verdict.refused c) s = shortage-number c
+numbered bytes (Verdict.satisfiable stem cycle K letters) s = answer
+numbered bytes (Verdict.unsatisfiable K) s = answer
+
+not-15 : {n : ℕ} → Number n → n ≡ 15 → ⊥
+not-15 answer e = omega arith
+not-15 (of-reading n l u) e = omega arith
+not-15 (of-room n l u) e = omega arith
+not-15 of-least e = omega arith
+
+pub concluded-answer : {t : Table} {o : Verdict} → Concluded t o → IsAnswer o
+concluded-answer (Concluded.met c) = tt
+concluded-answer (Concluded.unmet n) = tt
 
 module _ (N workspace buffer : ℕ) (bytes : List ℕ) where
   abbrev given : Verdict
@@ -177,7 +213,7 @@ module _ (N workspace buffer : ℕ) (bytes : List ℕ) where
   abbrev Read-cases : Formula → Verdict → Type 0
   Read-cases f o =
       ((place : ℕ) × (first-least 0 (table f) ≡ some place) × (o ≡ Verdict.least-at place))
-      ⊎ ((first-least 0 (table f) ≡ none) × From11 N workspace buffer (From14 N (table f)) o)
+      ⊎ ((first-least 0 (table f) ≡ none) × Decided-cases N workspace buffer (table f) o)
 
   read-of : {f : Formula} {o : Verdict} → Verdict-cases N workspace buffer (Reading.accepted f) o → Read-cases f o
   read-of (Verdict-cases.least {place = place} q) = inl (place, q, refl)
@@ -206,16 +242,26 @@ module _ (N workspace buffer : ℕ) (bytes : List ℕ) where
         by (inl (place, q, e)) h = (place, e)
         by (inr (q, d)) h = absurd (none-some (sym q ∙ h .1))
 
-    -- Theorem: where every fixpoint is greatest, N is in range, the areas are large enough and the nodes are at most N, the verdict is an
-    -- answer.
-    pub answers-where-nodes-fit : Greatest (table f) → 1 ≤ N → N ≤ 1024 → 8 * N ≤ workspace → N ≤ buffer → node-count (table f) ≤ N
-        → IsAnswer (verdict N workspace buffer bytes)
-    answers-where-nodes-fit g l u w b k = by (read-of read-cases)
+    -- the questions from 11 on, where every fixpoint is greatest
+    pub from-11 : Greatest (table f) → Decided-cases N workspace buffer (table f) given
+    from-11 g = by (read-of read-cases)
       where
-        concluded : {o : Verdict} → Concluded (table f) o → IsAnswer o
-        concluded (Concluded.met c) = tt
-        concluded (Concluded.unmet n) = tt
-
-        by : {o : Verdict} → Read-cases f o → IsAnswer o
+        by : {o : Verdict} → Read-cases f o → Decided-cases N workspace buffer (table f) o
         by (inl (place, q, e)) = absurd (none-some (sym (greatest-none 0 (table f) g) ∙ q))
-        by (inr (q, d)) = concluded (passed (passed (passed (passed d (l, u)) w) b) k)
+        by (inr (q, d)) = d
+
+  -- Theorem: where every fixpoint is greatest, N is in range, the areas are large enough and the nodes are at most N, the verdict is an
+  -- answer.
+  pub answers-where-nodes-fit : (f : Formula) → parse bytes ≡ Reading.accepted f → Greatest (table f) → 1 ≤ N → N ≤ 1024
+      → 8 * N ≤ workspace → N ≤ buffer → node-count (table f) ≤ N → IsAnswer (verdict N workspace buffer bytes)
+  answers-where-nodes-fit f e g l u w b k =
+      concluded-answer (passed (past-13 (from-11 f e g)
+      (record { some-nodes = l; few-nodes = u; workspace-fits = w; buffer-fits = b })) k)
+
+  -- Theorem: the verdict's number is 0, 1 to 9, 11 to 14, or 43,
+  pub every-number : Number (number-of (verdict N workspace buffer bytes))
+  every-number = numbered bytes given verdict-says
+
+  -- and so never 15.
+  pub never-15 : number-of (verdict N workspace buffer bytes) ≡ 15 → ⊥
+  never-15 = not-15 every-number

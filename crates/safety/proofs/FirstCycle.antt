@@ -261,8 +261,9 @@ module _ (t : Table) where
           back = chosen-first .back;
         })
 
-    -- with the way to its node it does not stand behind the first cycle of another node with the way to that, this not behind any closed
-    -- run of that node with the same way, and that not behind the closed run with any stem
+    -- and no closed run with any stem stands before it. For a closed run of a node v with a stem to v this takes three steps. What is
+    -- chosen, with the way to its node, does not stand behind the first cycle of v with the way that `nodes` has to v; nor does this cycle
+    -- so stand behind the closed run with the same way; nor does the closed run so stand behind itself with its own stem.
     chosen-stands : Stands-first t (ClosedRun t) (chosen-best .node .way) (x .way)
     chosen-stands rs ss r =
         let (m, i, q) = nodes-all t (r .counts .reachable) in

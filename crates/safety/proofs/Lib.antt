@@ -5,6 +5,8 @@ pub mod LeastPlace
 pub mod VerdictLaws
 pub mod Bounds
 pub mod Demands
+pub mod Examples
+pub mod RoomDemands
 pub mod NumberWalks
 pub mod StepLaws
 pub mod CycleSteps

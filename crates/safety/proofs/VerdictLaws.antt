@@ -7,7 +7,7 @@ use mathlib.Core.List.{List, _++_, map}
 use Prim.Native.Nat.{ℕ, _+_, _≤_}
 use lib.ListN.{length}
 use Rattle.base.specs.Search.{Item}
-use Rattle.base.proofs.AskLaws.{Asked, asked, asked-le}
+use Rattle.base.proofs.AskLaws.{Asked, asked, asked-le, passed}
 use Rattle.letters.specs.Requirements.{letter-of}
 use Rattle.formula.specs.Formula.{Formula}
 use Rattle.formula.specs.Table.{Table, table}
@@ -24,6 +24,7 @@ use Rattle.construction.proofs.BuildLaws.{In-range}
 use Rattle.safety.specs.declared.Shortage.the-variants.{Capacity, Workspace, Buffer, Nodes}
 use Rattle.safety.specs.Safety.{Verdict, first-least, chosen, conclude, decide, ask-room, ask-greatest, after-reading, verdict}
 use Rattle.safety.specs.Closed.{ClosedRun}
+use Rattle.safety.specs.Inner.{Lent, concluded}
 use Rattle.safety.proofs.FirstCycle.{found-foremost, found-none}
 use Rattle.safety.proofs.ShortCourse.{foremost-short}
 
@@ -54,16 +55,25 @@ From11 N workspace buffer After =
     (Asked (N ≤ buffer) (Verdict.refused Buffer)
     After))
 
--- 14, and then the answer
-abbrev pub From14 : (N : ℕ) → Table → Verdict → Type 0
-From14 N t = Asked (node-count t ≤ N) (Verdict.refused Nodes) (Concluded t)
+-- past them
+pub past-13 : {N workspace buffer : ℕ} {After : Verdict → Type 0} {o : Verdict}
+    → From11 N workspace buffer After o → Lent N workspace buffer → After o
+past-13 d l = passed (passed (passed d (l .some-nodes, l .few-nodes)) (l .workspace-fits)) (l .buffer-fits)
+
+-- 14, and then what comes after
+abbrev pub From14 : (N : ℕ) → Table → (Verdict → Type 0) → Verdict → Type 0
+From14 N t After = Asked (node-count t ≤ N) (Verdict.refused Nodes) After
+
+-- all of them, and then the answer
+abbrev pub Decided-cases : (N workspace buffer : ℕ) → Table → Verdict → Type 0
+Decided-cases N workspace buffer t = From11 N workspace buffer (From14 N t (Concluded t))
 
 -- A refusal of reading is passed on; 43 comes before the questions on room.
 pub data Verdict-cases (N workspace buffer : ℕ) : Reading Formula → Verdict → Type 0 where
   unread : {why : Refusal} → Verdict-cases N workspace buffer (Reading.refused why) (Verdict.unread why)
   least : {f : Formula} {place : ℕ} → first-least 0 (table f) ≡ some place
       → Verdict-cases N workspace buffer (Reading.accepted f) (Verdict.least-at place)
-  read : {f : Formula} {o : Verdict} → first-least 0 (table f) ≡ none → From11 N workspace buffer (From14 N (table f)) o
+  read : {f : Formula} {o : Verdict} → first-least 0 (table f) ≡ none → Decided-cases N workspace buffer (table f) o
       → Verdict-cases N workspace buffer (Reading.accepted f) o
 
 -- by whether a cycle was chosen
@@ -81,10 +91,16 @@ concludes t (some x) e =
       short = foremost-short t (found-foremost t e);
     })
 
-decide-asked : (N : ℕ) (t : Table) → From14 N t (decide N t)
-unfolding decide
-decide-asked N t = asked-le (node-count t) N (conclude (nodes t) (chosen t)) (concludes t (chosen t) refl)
+-- every question after 43
+abbrev pub questions : (N workspace buffer : ℕ) → Table → Verdict
+questions N workspace buffer t = ask-room N workspace buffer (decide N t)
 
+-- the definitions ask these questions: 14 in front of the answer,
+decide-asked : (N : ℕ) (t : Table) {After : Verdict → Type 0} → After (concluded t) → From14 N t After (decide N t)
+unfolding decide
+decide-asked N t a = asked-le (node-count t) N (concluded t) a
+
+-- 11 to 13 in front of whatever comes after,
 room-asked : (N workspace buffer : ℕ) (v : Verdict) {After : Verdict → Type 0} → After v
     → From11 N workspace buffer After (ask-room N workspace buffer v)
 room-asked N workspace buffer v a =
@@ -93,9 +109,15 @@ room-asked N workspace buffer v a =
     (asked-le N buffer v
     a))
 
+-- so all of them in front of the answer
+pub asked-all : (N workspace buffer : ℕ) (t : Table) {After : Verdict → Type 0} → After (concluded t)
+    → From11 N workspace buffer (From14 N t After) (questions N workspace buffer t)
+asked-all N workspace buffer t a = room-asked N workspace buffer (decide N t) (decide-asked N t a)
+
 greatest-asked : (N workspace buffer : ℕ) (f : Formula) (o : Option ℕ) → first-least 0 (table f) ≡ o
-    → Verdict-cases N workspace buffer (Reading.accepted f) (ask-greatest o (ask-room N workspace buffer (decide N (table f))))
-greatest-asked N workspace buffer f none e = read e (room-asked N workspace buffer (decide N (table f)) (decide-asked N (table f)))
+    → Verdict-cases N workspace buffer (Reading.accepted f) (ask-greatest o (questions N workspace buffer (table f)))
+greatest-asked N workspace buffer f none e =
+    read e (asked-all N workspace buffer (table f) (concludes (table f) (chosen (table f)) refl))
 greatest-asked N workspace buffer f (some place) e = least e
 
 read-answered : (N workspace buffer : ℕ) (r : Reading Formula) → Verdict-cases N workspace buffer r (after-reading N workspace buffer r)

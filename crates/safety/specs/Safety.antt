@@ -1,6 +1,6 @@
--- The decision of formulas whose fixpoints are all greatest: MEANING 5.14. Of such a formula every cycle is accepting (proofs/EveryCycle.antt),
--- so the witness is the first of the shortest cycles of all nodes, with the way to its node. It is the one that MEANING 5.4 puts first
--- (proofs/FirstCycle.antt). No profiles are asked for. Assumes nothing.
+-- The decision of formulas whose fixpoints are all greatest: MEANING 5.14. Of such a formula every cycle is accepting
+-- (proofs/EveryCycle.antt), so the witness is the first of the shortest cycles of all nodes, with the way to its node. It is the one that
+-- MEANING 5.4 puts first (proofs/FirstCycle.antt). No profiles are asked for. Assumes nothing.
 use mathlib.Core.Bool.{Bool, cond}
 use mathlib.Core.List.{List, [], _∷_, _++_, map}
 use mathlib.Core.Option.{Option, none, some}
@@ -49,7 +49,7 @@ first-least p (o ∷ t) = let r = first-least (p + width o) t in cond (is-least 
 abbrev pub start : Transition → Item Transition Subset
 start s = record { way = s ∷ []; at = s .to }
 
--- The nodes that at least one transition leads to from a node, each with the first of the shortest runs to it. As for `nodes` that fuel is
+-- The nodes that at least one transition leads to from a node, each with the first of the shortest runs to it. As for `nodes`, that fuel is
 -- enough.
 abbrev pub beyond : Table → Subset → List (Item Transition Subset)
 unfolding transitions
@@ -60,7 +60,7 @@ abbrev pub cycle-of : Table → Subset → Option (Item Transition Subset)
 unfolding transitions
 cycle-of t v = first (λ (x : Item Transition Subset). same-subset v (x .at)) (beyond t v)
 
--- of two cycles the shorter, and of two as short the one
+-- of two cycles the shorter, and of two as short the first
 abbrev pub shorter : Option (Item Transition Subset) → Option (Item Transition Subset) → Option (Item Transition Subset)
 shorter none y = y
 shorter (some x) none = some x

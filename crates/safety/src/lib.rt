@@ -1,5 +1,6 @@
-// The decision of formulas whose fixpoints are all greatest (MEANING 5.14). Every cycle of such a formula is accepting, so it needs room for
-// nodes and for nothing else: the transitions between them are noted as a relation, in which a shortest cycle is found by numbers alone.
+// The decision of formulas whose fixpoints are all greatest (MEANING 5.14). Every cycle of such a formula is accepting, so it needs room
+// for nodes and for nothing else: the transitions between them are noted as a relation, in which a shortest cycle is found by numbers
+// alone.
 use distances::Cycle;
 use formula::Operator;
 use formula::Outcome;
@@ -43,7 +44,7 @@ pub enum Verdict {
     Unread(Refusal),
 }
 
-// The number of a refusal for want of room.
+// The number of each of these refusals.
 pub fn shortage_code(s: Shortage) -> u8
     ensures { λ r. ⌜ r ≡ shortage-code s ⌝ }
 {
@@ -67,7 +68,7 @@ enum Room {
     Short(Shortage),
 }
 
-// Whether a transition leads to a node that is so far from the cycle's node, and then to which, with its letter.
+// What a transition is for the way round the cycle.
 enum Onward {
     Leads { to: NodeNumber, letter: u16 },
     Elsewhere,
@@ -139,7 +140,7 @@ fn ask_room(node_capacity: usize, workspace: usize, witness: usize) -> Room
     Room::Granted
 }
 
-// What a transition is for the way on, where the node that it leads to is to be so many steps from the cycle's.
+// Whether a transition leads to a node that is so many steps from the cycle's node, and then to which, with its letter.
 fn reached(
     area: &[u8],
     slots: &[u16; 2048],

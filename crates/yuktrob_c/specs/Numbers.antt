@@ -1,5 +1,5 @@
--- The number that stands for each answer: its lowest byte is the number of a refusal (MEANING 1.4, 2.5, 5.2, 5.11, 5.12, 5.14), or 0, and what
--- the answer carries stands above it. include/yuktrob.h says the same in C. Assumes nothing.
+-- The number that stands for each answer: its lowest byte is the number of a refusal (MEANING 1.4, 2.5, 5.2, 5.11, 5.12, 5.14), or 0, and
+-- what the answer carries stands above it. include/yuktrob.h says the same in C. Assumes nothing.
 use mathlib.Core.Bool.{cond}
 use mathlib.Core.List.{List}
 use mathlib.Core.Option.{Option, none, some}
@@ -65,7 +65,7 @@ verdict-number (decision.Unsatisfiable K P) = number 0 (found 0 0 0 K P)
 verdict-number (decision.Refused code) = number code 0
 verdict-number (decision.Unread why) = refusal-number why
 
--- the safety decision: the same without profiles; 43 carries its place, and a refusal for want of room nothing
+-- the safety decision: the same without profiles; 43 carries its place, and 11 to 14 nothing
 abbrev pub safety-number : safe-code.Verdict → ℕ
 safety-number (safety.Satisfiable stem cycle K) = number 0 (found 1 stem cycle K 0)
 safety-number (safety.Unsatisfiable K) = number 0 (found 0 0 0 K 0)

@@ -244,7 +244,8 @@ pub extern "C" fn yuktrob_decide_safety(
     work: &mut [u8],
     course: &mut [u16],
 ) -> u64
-    ensures numbered { λ r. ⌜ r ≡ safety-number (safe.says (safety-of (now (rule .entry)) nodes (now (work .entry)) (now (course .entry)))) ⌝ }
+    ensures numbered { λ r. ⌜ r ≡ safety-number
+        (safe.says (safety-of (now (rule .entry)) nodes (now (work .entry)) (now (course .entry)))) ⌝ }
     ensures filled { λ _. ⌜ now (course .exit) ≡ safe.leaves
         (safety-of (now (rule .entry)) nodes (now (work .entry)) (now (course .entry))) (now (course .entry)) ⌝ }
     ensures emptied { λ _. ⌜ now (work .exit) ≡ safe.cleared nodes

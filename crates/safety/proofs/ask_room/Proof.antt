@@ -25,14 +25,20 @@ returns-2 c =
 
 returns-3 : tie.Need-returns-3
 returns-3 c =
-    let u = c .before .before .before .before .args in
-    short-13 (u .node-capacity) (u .workspace) (u .witness) (c .before .before .before .between .ensures) (c .before .before .if1 .left) (c .before .if2 .left)
+    let between-done = c .before .before .before in
+    let start = between-done .before in
+    let u = start .args in
+    short-13 (u .node-capacity) (u .workspace) (u .witness) (between-done .between .ensures)
+    (c .before .before .if1 .left) (c .before .if2 .left)
     (c .if3 .taken)
 
 returns-4 : tie.Need-returns-4
 returns-4 c =
-    let u = c .before .before .before .before .args in
-    granted (u .node-capacity) (u .workspace) (u .witness) (c .before .before .before .between .ensures) (c .before .before .if1 .left) (c .before .if2 .left)
+    let between-done = c .before .before .before in
+    let start = between-done .before in
+    let u = start .args in
+    granted (u .node-capacity) (u .workspace) (u .witness) (between-done .between .ensures)
+    (c .before .before .if1 .left) (c .before .if2 .left)
     (c .if3 .left)
 
 pub ask-room-spec : {M : Type 1} → statement M

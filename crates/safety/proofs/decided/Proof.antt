@@ -37,18 +37,26 @@ lent c =
     (c .before .before .ask-room .ensures)
 
 from-root-requires : tie.Need-from-root-requires
-from-root-requires c κs = (c .before .before .before .before .before .before .before .before .before .before .before .before .before .pre, lent (c .before .before .before))
+from-root-requires c κs =
+    let enum-told2-done = c .before .before .before in
+    let start = enum-told2-done .before .before .before .before .before .before .before .before .before .before in
+    (start .pre, lent enum-told2-done)
 
 mul-clear : tie.Need-mul-clear
 mul-clear c = omega (arith, lent (c .before .before .before .before .before .before .before .before .before) .few-nodes)
 
 clear-requires : tie.Need-clear-requires
-clear-requires c κs = let room = lent (c .before .before .before .before .before .before .before .before .before) .workspace-fits in (omega arith, search needs)
+clear-requires c κs =
+    let enum-told2-done = c .before .before .before .before .before .before .before .before .before in
+    let room = lent enum-told2-done .workspace-fits in (omega arith, search needs)
 
 returns : tie.Need-returns
 returns c =
-    let u = c .before .before .before .before .before .before .before .before .args in
-    settled-43 (u .node-capacity) (table-of (u .t .rows) (u .t .count)) (u .workspace .now) (u .witness .now) (c .before .before .before .first-least .ensures)
+    let first-least-done = c .before .before .before in
+    let start = first-least-done .before .before .before .before .before in
+    let u = start .args in
+    settled-43 (u .node-capacity) (table-of (u .t .rows) (u .t .count)) (u .workspace .now) (u .witness .now)
+    (first-least-done .first-least .ensures)
     (c .before .place .given .1)
 
 returns-2 : tie.Need-returns-2
@@ -67,9 +75,15 @@ same-length-2 c = search needs
 
 returns-3 : tie.Need-returns-3
 returns-3 c =
-    let u = c .before .before .before .before .before .before .before .before .before .before .before .before .before .before .before .before .before .before .before .before .before .before .args in
+    let from-root-done = c .before .before .before .before .before .before .before .before in
+    let enum-told2-done = from-root-done .before .before .before .before in
+    let enum-told-done = enum-told2-done .before .before .before in
+    let first-least-done = enum-told-done .before .before in
+    let start = first-least-done .before .before .before .before .before in
+    let u = start .args in
     settled-on (u .node-capacity) (table-of (u .t .rows) (u .t .count)) (u .workspace .now) (u .witness .now)
-    (c .before .before .before .before .before .before .before .before .before .before .before .before .before .before .before .before .before .first-least .ensures) (c .before .before .before .before .before .before .before .before .before .before .before .before .before .before .before .enum-told .given .1) (lent (c .before .before .before .before .before .before .before .before .before .before .before .before)) (c .before .before .before .before .before .before .before .before .from-root .ensures) (c .before .before .clear .ensures)
+    (first-least-done .first-least .ensures) (enum-told-done .enum-told .given .1) (lent enum-told2-done)
+    (from-root-done .from-root .ensures) (c .before .before .clear .ensures)
 
 pub decided-spec : {M : Type 1} → statement M
 decided-spec =

@@ -24,7 +24,10 @@ is-least-requires c κs = search needs
 
 returns : tie.Need-returns Inv-loop μ-loop
 returns c =
-    seek-found (c .before .before .before .before .loop .inv) (c .before .before .before .loop-test .taken) (c .before .before .operator-at .ensures) (c .before .is-least .ensures) (c .if1 .taken)
+    let in-loop = c .before .before .before in
+    let at-loop = in-loop .before in
+    seek-found (at-loop .loop .inv) (in-loop .loop-test .taken) (c .before .before .operator-at .ensures) (c .before .is-least .ensures)
+    (c .if1 .taken)
 
 width-requires : tie.Need-width-requires Inv-loop μ-loop
 width-requires c κs = search needs
@@ -42,7 +45,11 @@ loop-less c = search needs
 
 loop-again : tie.Need-loop-again Inv-loop μ-loop
 loop-again c =
-    seek-next (c .before .before .before .before .before .loop .inv) (c .before .before .before .before .loop-test .taken) (c .before .before .before .operator-at .ensures) (c .before .before .is-least .ensures) (c .before .if1 .left)
+    let operator-at-done = c .before .before .before in
+    let in-loop = operator-at-done .before in
+    let at-loop = in-loop .before in
+    seek-next (at-loop .loop .inv) (in-loop .loop-test .taken) (operator-at-done .operator-at .ensures)
+    (c .before .before .is-least .ensures) (c .before .if1 .left)
     (c .width .ensures .0) (c .width .ensures .1)
 
 returns-2 : tie.Need-returns-2 Inv-loop μ-loop

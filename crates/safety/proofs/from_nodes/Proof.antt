@@ -15,12 +15,14 @@ enum-told : tie.Need-enum-told
 enum-told c = c .match .keys1
 
 enum-known-vertex : tie.Need-enum-known-vertex
-enum-known-vertex c = c .match .keys2
+enum-known-vertex c =
+    c .match .keys2
 
 -- what the search says where it found a closed walk
 found : (c : tie.After-known-told) →
     let u = c .before .before .before .before .before .before .before .before .before .args in
-    Shortest (u .relation .now) (u .nodes) (c .before .vertex .given .0 .0) (c .before .vertex .given .0 .1 .0) (c .before .before .before .shortest .last .1 .1 .0)
+    let given = c .before .vertex .given in
+    Shortest (u .relation .now) (u .nodes) (given .0 .0) (given .0 .1 .0) (c .before .before .before .shortest .last .1 .1 .0)
 found c =
     let u = c .before .before .before .before .before .before .before .before .before .args in
     subst (Answered (u .relation .now) (u .nodes) _) (c .before .vertex .given .1) (c .before .before .before .shortest .ensures)
@@ -52,8 +54,10 @@ same-length c = search needs
 
 returns-2 : tie.Need-returns-2
 returns-2 c =
-    let start = c .before .before .before .before .before .before .before .before .before .before .before .before .before .before in
-    told-met (start .args .rows .now) (start .args .count) (start .pre .1) (found (c .before .before .before .before .before)) refl (c .before .before .write-course .ensures)
+    let known-told-done = c .before .before .before .before .before in
+    let start = known-told-done .before .before .before .before .before .before .before .before .before in
+    told-met (start .args .rows .now) (start .args .count) (start .pre .1) (found known-told-done) refl
+    (c .before .before .write-course .ensures)
 
 pub from-nodes-spec : {M : Type 1} → statement M
 from-nodes-spec =

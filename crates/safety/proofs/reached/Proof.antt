@@ -47,15 +47,17 @@ letter-of-requires c κs = search needs
 
 returns : tie.Need-returns
 returns c =
-    let start = c .before .before .before .before .before .before .before .before .before .before .before .before in
     let told = c .before .before .before .before in
+    let target-done = told .before .before .before .before .before in
+    let start = target-done .before .before .before in
     let at = found told in
-    reached-some (start .args .steps .now) (start .pre .0) (start .pre .1) _ (c .before .before .before .before .before .before .before .before .before .target .given .1) _ (at .0) (at .1)
+    reached-some (start .args .steps .now) (start .pre .0) (start .pre .1) _ (target-done .target .given .1) _ (at .0) (at .1)
     (c .before .before .wide16 .ensures .0) (c .before .if1 .taken) (c .letter-of .ensures)
 
 returns-2 : tie.Need-returns-2
 returns-2 c =
-    reached-nowhere (c .before .before .before .args .steps .now) (c .before .before .before .pre .0) (c .before .before .before .pre .1) _ (c .enum-told .given .1)
+    let start = c .before .before .before in
+    reached-nowhere (start .args .steps .now) (start .pre .0) (start .pre .1) _ (c .enum-told .given .1)
 
 returns-3 : tie.Need-returns-3
 returns-3 c =
@@ -66,10 +68,11 @@ returns-3 c =
 
 returns-4 : tie.Need-returns-4
 returns-4 c =
-    let start = c .before .before .before .before .before .before .before .before .before .before .before in
     let told = c .before .before .before in
+    let target-done = told .before .before .before .before .before in
+    let start = target-done .before .before .before in
     let at = found told in
-    reached-other (start .args .steps .now) (start .pre .0) (start .pre .1) _ (c .before .before .before .before .before .before .before .before .target .given .1) _ (at .0) (at .1)
+    reached-other (start .args .steps .now) (start .pre .0) (start .pre .1) _ (target-done .target .given .1) _ (at .0) (at .1)
     (c .before .wide16 .ensures .0) (c .if1 .left)
 
 pub reached-spec : {M : Type 1} → statement M

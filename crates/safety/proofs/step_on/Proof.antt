@@ -94,20 +94,28 @@ by-word-requires c κs =
     )
 
 reached-requires : tie.Need-reached-requires Inv-loop μ-loop
-reached-requires c κs = let start = c .before .before .before .before .before .before .before .before .before .before in (start .pre .1 .0, start .pre .1 .1 .0)
+reached-requires c κs =
+    let start = c .before .before .before .before .before .before .before .before .before .before in
+    let start = start in (start .pre .1 .0, start .pre .1 .1 .0)
 
 enum-known-to : tie.Need-enum-known-to Inv-loop μ-loop
 enum-known-to c = c .match .keys1
 
 returns : tie.Need-returns Inv-loop μ-loop
 returns c =
-    let start = c .before .before .before .before .before .before .before .before .before .before .before .before .before .before in
+    let reached-done = c .before .before .before in
+    let by-word-done = reached-done .before in
+    let in-loop = by-word-done .before .before in
+    let loop = in-loop .before in
+    let power-done = loop .before in
+    let core-of-done = power-done .before .before .before in
+    let start = core-of-done .before .before .before in
     let u = start .args in
-    let by-word = c .before .before .before .before .by-word in
-    let loop = c .before .before .before .before .before .before .before in
+    let by-word = by-word-done .by-word in
     let reached =
-    subst (Onward-of (u .area .now) (u .steps .now) (u .known) (by-word .result) (u .far)) (c .before .to .given .1) (c .before .before .before .reached .ensures) in
-    first-found (set-of (c .before .before .before .before .before .before .before .before .before .before .before)) (omega (arith, end-of (c .before .before .before .before .before .before .before .before), c .before .before .before .before .before .before .loop-test .taken))
+    subst (Onward-of (u .area .now) (u .steps .now) (u .known) (by-word .result) (u .far)) (c .before .to .given .1)
+    (reached-done .reached .ensures) in
+    first-found (set-of core-of-done) (omega (arith, end-of power-done, in-loop .loop-test .taken))
     (goes (u .rows .now) (u .area .now) (u .steps .now) (u .known) (u .far) (by-word .ensures) reached) (loop .loop .inv .strayed)
 
 enum-told : tie.Need-enum-told Inv-loop μ-loop
@@ -121,18 +129,24 @@ loop-less c = search needs
 
 loop-again : tie.Need-loop-again Inv-loop μ-loop
 loop-again c =
-    let u = c .before .before .before .before .before .before .before .before .before .before .before .before .before .args in
-    let by-word = c .before .before .before .by-word in
-    turned-more (c .before .before .before .before .before .before .loop .inv) (c .before .before .before .before .before .loop-test .taken)
+    let by-word-done = c .before .before .before in
+    let in-loop = by-word-done .before .before in
+    let at-loop = in-loop .before in
+    let start = at-loop .before .before .before .before .before .before .before in
+    let u = start .args in
+    let by-word = by-word-done .by-word in
+    turned-more (at-loop .loop .inv) (in-loop .loop-test .taken)
     (strays (u .rows .now) (u .area .now) (u .steps .now) (u .known) (u .far) (by-word .ensures)
-    (subst (Onward-of (u .area .now) (u .steps .now) (u .known) (by-word .result) (u .far)) (c .enum-told .given .1) (c .before .before .reached .ensures)))
+    (subst (Onward-of (u .area .now) (u .steps .now) (u .known) (by-word .result) (u .far)) (c .enum-told .given .1)
+    (c .before .before .reached .ensures)))
 
 returns-2 : tie.Need-returns-2 Inv-loop μ-loop
 returns-2 c =
-    let start = c .before .before .before .before .before .before .before .before in
+    let core-of-done = c .before .before .before .before .before in
+    let start = core-of-done .before .before .before in
     let u = start .args in
     absurd (start .pre .1 .1 .1 .1 (λ x h.
-    subst (λ (n : ℕ). Strays (u .rows .now) (u .count) x n (u .area .now) (u .steps .now) (u .known) (u .far)) (set-of (c .before .before .before .before .before))
+    subst (λ (n : ℕ). Strays (u .rows .now) (u .count) x n (u .area .now) (u .steps .now) (u .known) (u .far)) (set-of core-of-done)
     (c .before .loop .inv .strayed x (omega (arith, end-of (c .before .before), c .loop-test .left)))))
 
 pub step-on-spec : {M : Type 1} → statement M

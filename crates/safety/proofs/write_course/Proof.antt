@@ -25,9 +25,12 @@ same-length c = search needs
 
 returns : tie.Need-returns
 returns c =
-    let u = c .before .before .before .before .before .before .before .before .before .before .before .before .args in
-    course-written (table-of (u .rows .now) (u .count)) (u .origins .now) (u .node .0) (c .before .before .before .before .before .before .before .before .stem-length .ensures)
-    (c .before .before .before .before .before .before .write-stem .ensures) (c .before .before .write-cycle .ensures)
+    let write-stem-done = c .before .before .before .before .before .before in
+    let stem-length-done = write-stem-done .before .before in
+    let start = stem-length-done .before .before .before .before in
+    let u = start .args in
+    course-written (table-of (u .rows .now) (u .count)) (u .origins .now) (u .node .0) (stem-length-done .stem-length .ensures)
+    (write-stem-done .write-stem .ensures) (c .before .before .write-cycle .ensures)
 
 pub write-course-spec : {M : Type 1} → statement M
 write-course-spec =

@@ -49,7 +49,8 @@ mul-letters c = search needs
 
 slice-write-letters : tie.Need-slice-write-letters Inv-loop μ-loop
 slice-write-letters c =
-    omega (arith, c .before .before .before .before .before .pre .1 .1, c .before .loop-test .taken, c .before .before .loop .inv .same-length)
+    let start = c .before .before .before .before .before in
+    omega (arith, start .pre .1 .1, c .before .loop-test .taken, c .before .before .loop .inv .same-length)
 
 add-i : tie.Need-add-i Inv-loop μ-loop
 add-i c = search needs
