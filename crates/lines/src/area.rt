@@ -2,6 +2,23 @@
 // word; behind the outcome stands what is so afterwards.
 use crate::say::number;
 use crate::say::put;
+ghost use mathlib.Core.Path.{_≡_};
+ghost use lib.ListN.{length};
+
+// All that can be lent as a workspace. The `ensures` gives only the length.
+pub fn room() -> [u8; 800000]
+    ensures { λ r. ⌜ 800000 ≡ length r ⌝ }
+{
+    [165; 800000]
+}
+
+// Whether more is asked for than there is.
+pub fn is_beyond(work: usize, course: usize) -> bool {
+    if 800000 < work {
+        return true;
+    }
+    8192 < course
+}
 
 // The first bytes, as many as there are.
 pub fn start_bytes(s: &[u8], n: usize) -> &[u8] {
@@ -133,6 +150,14 @@ pub fn note_nodes(before: &[u8], area: &[u8]) {
 pub fn note_letters(area: &[u16]) {
     put(b" | course: kept");
     kept(kept_letters(area), area.len());
+}
+
+// The notes on both areas, where they are to be shown.
+pub fn note_both(workspace: &[u8], letters: &[u16], shown: bool) {
+    if shown {
+        note_bytes(workspace);
+        note_letters(letters);
+    }
 }
 
 pub fn note_words(area: &[u64]) {

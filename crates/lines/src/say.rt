@@ -1,4 +1,5 @@
 // What is written for an outcome, piece by piece, to standard output.
+use crate::area::start_letters;
 use formula::Refusal;
 
 pub fn put(said: &[u8]) {
@@ -34,12 +35,54 @@ pub fn refused(code: u8) {
     worded(b"REFUSED", code as usize);
 }
 
+pub fn refused_at(code: u8, place: usize) {
+    refused(code);
+    worded(b" at", place);
+}
+
 // A refusal of reading has a place, and that of a binder where it names one.
 pub fn unread(why: Refusal) {
-    refused(formula::code_of(why));
-    worded(b" at", formula::place_of(why));
+    refused_at(formula::code_of(why), formula::place_of(why));
     match why {
         Refusal::AtByte { code: _, at: _ } => {}
         Refusal::Unguarded { at: _, binder_at } => worded(b" from", binder_at),
     }
+}
+
+// How long lead-in and loop are, and how many nodes there are.
+pub fn met(stem: usize, cycle: usize, nodes: usize) {
+    put(b"MET");
+    number(b' ', stem);
+    number(b' ', cycle);
+    number(b' ', nodes);
+}
+
+pub fn not(nodes: usize) {
+    worded(b"NOT", nodes);
+}
+
+// The letters of lead-in and loop, which are the first in a witness buffer.
+pub fn course(letters: &[u16], stem: usize, cycle: usize) {
+    hex_letters(start_letters(letters, total(stem, cycle)));
+}
+
+fn total(stem: usize, cycle: usize) -> usize {
+    if stem <= 8192 {
+        if cycle <= 8192 {
+            return stem + cycle;
+        }
+    }
+    0
+}
+
+fn hex_letters(letters: &[u16]) {
+    let mut i = 0;
+    while i < letters.len() {
+        hex_letter(letters[i]);
+        i += 1;
+    }
+}
+
+fn hex_letter(letter: u16) {
+    hex(b' ', letter as u64, 4);
 }

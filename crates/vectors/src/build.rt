@@ -1,9 +1,8 @@
 // `build | HEX | N`: building. The outcome is K, with the nodes behind it as words in hex, or the refusal. The 8 N bytes that 12 asks are
 // lent, or none where 11 refuses. With `| lent WORK` behind it so many are, filled with a pattern, and the outcome is followed by how many
 // bytes are zero from the start on and how many at the end are as they were.
-use crate::decide::is_beyond;
-use crate::decide::room;
 use construction::Construction;
+use kinds::granted;
 use lines::area;
 use lines::field::is_lent;
 use lines::field::lent;
@@ -20,9 +19,9 @@ struct Case {
 }
 
 pub(crate) fn outcome(line: &[u8], s: &[u8]) {
-    let mut workspace = room();
+    let mut workspace = area::room();
     let a = asked(line);
-    if is_beyond(a.work, 0) {
+    if area::is_beyond(a.work, 0) {
         say::malformed();
         return;
     }
@@ -35,16 +34,9 @@ fn asked(line: &[u8]) -> Case {
     let n = number(part(line, b'|', 2));
     Case {
         n: n,
-        work: unbroken(n, lent(said, 1, 2, size(n))),
+        work: unbroken(n, lent(said, 1, 2, construction::NODE_BYTES * granted(n))),
         shown: is_lent(said),
     }
-}
-
-fn size(n: usize) -> usize {
-    if n <= construction::MAX_NODES {
-        return construction::NODE_BYTES * n;
-    }
-    0
 }
 
 fn noted(built: Construction, workspace: &[u8], shown: bool) {

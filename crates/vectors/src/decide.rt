@@ -9,8 +9,6 @@ use lines::field::number_of;
 use lines::field::part;
 use lines::field::unbroken;
 use lines::say;
-ghost use mathlib.Core.Path.{_≡_};
-ghost use lib.ListN.{length};
 
 // What a line asks for: N and M, how much of the two areas is lent, and whether they are shown afterwards. A broken line asks for more
 // bytes than there are.
@@ -23,10 +21,10 @@ pub(crate) struct Case {
 }
 
 pub(crate) fn outcome(line: &[u8], s: &[u8]) {
-    let mut workspace = room();
+    let mut workspace = area::room();
     let mut letters = [48879u16; 8192];
     let a = asked(line, 3);
-    if is_beyond(a.work, a.course) {
+    if area::is_beyond(a.work, a.course) {
         say::malformed();
         return;
     }
@@ -39,14 +37,6 @@ pub(crate) fn outcome(line: &[u8], s: &[u8]) {
         area::start_letters(&letters, a.course),
         a.shown,
     );
-}
-
-// Whether more is asked for than there is.
-pub(crate) fn is_beyond(work: usize, course: usize) -> bool {
-    if 800000 < work {
-        return true;
-    }
-    8192 < course
 }
 
 // What the line asks for, where the field in this place may say how much is lent.
@@ -69,10 +59,7 @@ pub(crate) fn asked(line: &[u8], place: usize) -> Case {
 
 fn noted(verdict: Verdict, workspace: &[u8], letters: &[u16], shown: bool) {
     told(verdict, letters);
-    if shown {
-        area::note_bytes(workspace);
-        area::note_letters(letters);
-    }
+    area::note_both(workspace, letters, shown);
 }
 
 pub(crate) fn told(verdict: Verdict, letters: &[u16]) {
@@ -83,53 +70,15 @@ pub(crate) fn told(verdict: Verdict, letters: &[u16]) {
             nodes,
             profiles,
         } => {
-            met(stem, cycle, nodes, profiles);
-            hex_letters(area::start_letters(letters, total(stem, cycle)));
+            say::met(stem, cycle, nodes);
+            say::number(b' ', profiles);
+            say::course(letters, stem, cycle);
         }
-        Verdict::Unsatisfiable { nodes, profiles } => not(nodes, profiles),
+        Verdict::Unsatisfiable { nodes, profiles } => {
+            say::not(nodes);
+            say::number(b' ', profiles);
+        }
         Verdict::Refused(code) => say::refused(code),
         Verdict::Unread(why) => say::unread(why),
     }
-}
-
-fn met(stem: usize, cycle: usize, nodes: usize, profiles: usize) {
-    say::put(b"MET");
-    say::number(b' ', stem);
-    say::number(b' ', cycle);
-    say::number(b' ', nodes);
-    say::number(b' ', profiles);
-}
-
-fn not(nodes: usize, profiles: usize) {
-    say::put(b"NOT");
-    say::number(b' ', nodes);
-    say::number(b' ', profiles);
-}
-
-fn total(stem: usize, cycle: usize) -> usize {
-    if stem <= 8192 {
-        if cycle <= 8192 {
-            return stem + cycle;
-        }
-    }
-    0
-}
-
-fn hex_letters(letters: &[u16]) {
-    let mut i = 0;
-    while i < letters.len() {
-        hex_letter(letters[i]);
-        i += 1;
-    }
-}
-
-fn hex_letter(letter: u16) {
-    say::hex(b' ', letter as u64, 4);
-}
-
-// The `ensures` gives only the length.
-pub(crate) fn room() -> [u8; 800000]
-    ensures { λ r. ⌜ 800000 ≡ length r ⌝ }
-{
-    [165; 800000]
 }

@@ -1,11 +1,13 @@
 // Runs lines of vectors from standard input and writes what each comes to. A line has an operation and its inputs, parted by bars; what
-// stands behind the last of them is passed over. A kind of line is a module with a function `outcome`, and a number in `kind`.
+// stands behind the last of them is passed over. A kind of line is a module with a function `outcome`, here or in `kinds`, and a number in
+// `kind`.
 mod build;
 mod decide;
 mod read;
 mod search;
 mod truth;
 
+use kinds::greatest;
 use lines::area::start_bytes;
 use lines::field::BROKEN;
 use lines::field::bytes;
@@ -46,6 +48,7 @@ fn told(line: &[u8]) {
         3 => decide::outcome(line, s),
         4 => build::outcome(line, s),
         5 => search::outcome(line, s),
+        6 => greatest::outcome(line, s),
         _ => say::malformed(),
     }
 }
@@ -66,6 +69,9 @@ fn kind(name: &[u8]) -> u8 {
     }
     if same(name, b"search") {
         return 5;
+    }
+    if same(name, b"safety") {
+        return 6;
     }
     0
 }

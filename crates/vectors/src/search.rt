@@ -8,8 +8,6 @@
 // of the bytes for N nodes are as they were just before the search, from the start on; how many of those behind are zero from their start
 // on, and how many at the end are as they were; and how many places at the end are.
 use crate::decide::asked;
-use crate::decide::is_beyond;
-use crate::decide::room;
 use crate::decide::told;
 use construction::Construction;
 use decision::Verdict;
@@ -31,13 +29,13 @@ struct Edit {
 }
 
 pub(crate) fn outcome(line: &[u8], s: &[u8]) {
-    let mut workspace = room();
+    let mut workspace = area::room();
     let mut letters = [48879u16; 8192];
     let mut kept = io::large_buffer();
     let length = bytes(&mut kept, built_hex(line));
     let e = edit_of(part(line, b'|', 3));
     let a = asked(line, lent_place(e.made));
-    if is_beyond(unbroken(length, unbroken(e.value, a.work)), a.course) {
+    if area::is_beyond(unbroken(length, unbroken(e.value, a.work)), a.course) {
         say::malformed();
         return;
     }

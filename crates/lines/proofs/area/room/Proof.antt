@@ -1,9 +1,9 @@
--- vectors::decide::room meets its contract. Assumes nothing.
+-- `lines::area::room` meets its contract. Assumes nothing.
 use mathlib.Core.Path.{sym}
 use Prim.Native.Nat.{ℕ}
 use lib.ListN.{length-replicate}
-use Rattle.vectors.proofs.decide.room.Statement.{statement}
-use Rattle.vectors.proofs.decide.room.Tie as tie
+use Rattle.lines.proofs.area.room.Statement.{statement}
+use Rattle.lines.proofs.area.room.Tie as tie
 
 returns : tie.Need-returns
 returns c = sym (length-replicate {A = ℕ} 800000 165)

@@ -1,9 +1,9 @@
--- vectors::decide::hex_letters is safe and ends: the index is within. Assumes nothing.
+-- `lines::say::hex_letters` is safe and ends: the index is within. Assumes nothing.
 use borrow.Author.Needs.{needs}
 use Prim.Native.Nat.{_≤_, _-_}
 use lib.ListN.{length}
-use Rattle.vectors.proofs.decide.hex_letters.Statement.{statement}
-use Rattle.vectors.proofs.decide.hex_letters.Tie as tie
+use Rattle.lines.proofs.say.hex_letters.Statement.{statement}
+use Rattle.lines.proofs.say.hex_letters.Tie as tie
 
 pub hex-letters-spec : {M : Type 1} → statement M
 hex-letters-spec =
