@@ -2,6 +2,7 @@ pub mod BitLaws
 pub mod BytesLaws
 pub mod BoolLaws
 pub mod ListLaws
+pub mod FillLaws
 pub mod WordLaws
 pub mod LowestLaws
 pub mod Inside

@@ -17,7 +17,7 @@ use Rattle.base.proofs.TestLaws.{same-truth}
 use Rattle.base.proofs.WordLaws.{no-bit}
 use Rattle.relation.specs.Relation.{linked}
 use Rattle.distances.specs.Inner.{has-vertex, in-word, Joined, Leads, Expanded}
-use Rattle.distances.proofs.FillLaws.{set-at}
+use Rattle.base.proofs.FillLaws.{set-at}
 
 -- a step to a vertex that passes another test
 leads-by : {r : List ℕ} {test test′ : ℕ → Bool} {x : ℕ} → ((y : ℕ) → T (test y) → T (test′ y)) → Leads r test x → Leads r test′ x

@@ -1,4 +1,3 @@
-pub mod FillLaws
 pub mod SetLaws
 pub mod ExpandLaws
 pub mod WalkLaws

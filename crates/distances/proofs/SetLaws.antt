@@ -1,6 +1,6 @@
--- Sets of vertices as words: the set of no vertex (`none-has`) and of one (`one-has`); a row of the relation joined to a set, word by word
--- (`row-joined`); what a set has that was not seen (`parted`). The word of a vertex tells whether the set has it, so a loop that has set
--- the first words (`Filled`) has set what they hold. Assumes nothing.
+-- Sets of vertices as words: the set of no vertex (`none-has`) and of one (`one-has`); the words of a vertex in the relation joined to a
+-- set, one by one (`row-joined`); what a set has that was not seen (`parted`). The word of a vertex tells whether the set has it, so a loop
+-- that has set the first words (`Filled`) has set what they hold. Assumes nothing.
 use mathlib.Core.Path.{_≡_, refl, sym, ap, subst, _∙_}
 use mathlib.Core.Bool.{Bool, true, false, cond, not, _&&_, _||_, or-false}
 use mathlib.Core.List.{List}
@@ -10,15 +10,16 @@ use native.Mathlib.Decide.{decLt}
 use lib.Bits.{bitOr, bitXor}
 use lib.Dec.{T, eqb, ltb}
 use lib.ListN.{length, getD, set as put, replicate, length-replicate, getD-replicate, List·getD-eq-default}
-use borrow.Author.Tests.{eqb-true, eqb-false, eq-eqb, ne-eqb, lt-ltb, ltb-false}
+use borrow.Author.Tests.{eqb-true, eqb-false, eq-eqb, ne-eqb, ltb-false}
 use Rattle.base.specs.Bits.{bit}
 use Rattle.base.proofs.BoolLaws.{to-T, or-left, or-right}
 use Rattle.base.proofs.TestLaws.{not-of-T}
+use Rattle.base.proofs.FillLaws.{set-at, Filled, filled-none, filled-below, filled-above, filled-more}
 use Rattle.base.proofs.BitLaws.{bit-or, bit-xor, bit-same, bit-other}
 use Rattle.base.proofs.WordLaws.{no-bit}
 use Rattle.relation.specs.Relation.{linked}
+use Rattle.relation.proofs.RelationLaws.{linked-bit}
 use Rattle.distances.specs.Inner.{has-vertex, Rows, Joined, Parted, Unnoted}
-use Rattle.distances.proofs.FillLaws.{set-at, Filled, filled-none, filled-below, filled-above, filled-more}
 
 -- the bit of a word
 has-at : (s : List ℕ) (x : ℕ) {w : ℕ} → getD s (x / 64) 0 ≡ w → has-vertex s x ≡ bit w (x % 64)
@@ -69,22 +70,21 @@ pub has-not : (s : List ℕ) (x : ℕ) {b : Bool} → b ≡ bit (getD s (x / 64)
 unfolding has-vertex
 has-not s x e q t = subst T (sym e ∙ q) t
 
--- a row joined to a set, in the first words
+-- the words of a vertex joined to a set, in the first blocks
 abbrev pub joined-word : (r : List ℕ) (row : ℕ) (s : List ℕ) → ℕ → ℕ
-joined-word r row s k = bitOr (getD s k 0) (getD r (16 * row + k) 0)
+joined-word r row s k = bitOr (getD s k 0) (getD r (1024 * k + row) 0)
 
-module _ {r : List ℕ} {words i : ℕ} (h : Rows r words) (row : ℕ) {s s′ : List ℕ} (w : length s ≡ 16)
+module _ {r : List ℕ} {words i : ℕ} (h : Rows r words) (row : ℕ) (low : row < 1024) {s s′ : List ℕ} (w : length s ≡ 16)
     (f : Filled 0 (joined-word r row s) i s s′) (upto : i ≤ words) (done : words ≤ i) where
   pub row-joined : Joined (linked r row) s s′
-  unfolding has-vertex linked
+  unfolding has-vertex
   row-joined = record { long = f .long ∙ w; is = λ x. at x (decLt (x / 64) words) }
     where
       at : (x : ℕ) → Dec (x / 64 < words) → has-vertex s′ x ≡ (has-vertex s x || linked r row x)
       at x (yes l) =
           has-at s′ x (filled-below f (x / 64) (omega arith))
-          ∙ bit-or (getD s (x / 64) 0) (getD r (16 * row + x / 64) 0) (x % 64)
-          ∙ ap (λ (b : Bool). has-vertex s x || (b && bit (getD r (16 * row + x / 64) 0) (x % 64)))
-          (sym (lt-ltb x 1024 (omega (arith, h .fit))))
+          ∙ bit-or (getD s (x / 64) 0) (getD r (1024 * (x / 64) + row) 0) (x % 64)
+          ∙ ap (λ (b : Bool). has-vertex s x || b) (sym (linked-bit r row x low (omega (arith, h .fit))))
       at x (no l) =
           has-same s′ s x (filled-above f (x / 64) (omega arith))
           ∙ sym (ap (λ (b : Bool). has-vertex s x || b) (not-of-T (linked r row x) far) ∙ or-false (has-vertex s x))

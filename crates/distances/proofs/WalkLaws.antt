@@ -36,6 +36,6 @@ closed-below s (suc n) u h w = let o = onward w in s .ends (o .next) u (o .link)
 pub distance-one : {r : List ℕ} {to m n a : ℕ} → Distance r to m a → Distance r to n a → m ≡ n
 distance-one {r} {to} {m} {n} p q = omega (arith, p .least n (q .walk), q .least m (p .walk))
 
--- the words of a row that have the vertices
+-- the blocks that have the vertices
 pub rows-of : {r : List ℕ} {count : ℕ} → Steps r count → Rows r ((count + 63) / 64)
 rows-of s = record { long = s .long; fit = omega (arith, s .few); cover = λ u a l. omega (arith, s .ends u a l .1) }

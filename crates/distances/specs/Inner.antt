@@ -7,7 +7,7 @@ use Prim.Native.Nat.{ℕ, suc, _*_, _/_, _%_, _≤_, _<_}
 use lib.Dec.{T, eqb}
 use lib.ListN.{length, getD}
 use Rattle.base.specs.Bits.{bit}
-use Rattle.relation.specs.Relation.{relation-words, linked}
+use Rattle.relation.specs.Relation.{linked}
 use Rattle.distances.specs.Walks.{Walk, Distances}
 use Rattle.distances.specs.declared.Found.{Found}
 
@@ -19,9 +19,9 @@ has-vertex s x = bit (getD s (x / 64) 0) (x % 64)
 abbrev pub in-word : (at w : ℕ) → ℕ → Bool
 in-word at w x = eqb (x / 64) at && bit w (x % 64)
 
--- The vertices with steps lie in the first words of each row.
+-- The vertices with steps lie in the first blocks, and the list has these.
 pub record Rows (r : List ℕ) (words : ℕ) : Type 0 where
-  pub long : length r ≡ relation-words
+  pub long : 1024 * words ≤ length r
   pub fit : words ≤ 16
   pub cover : (u a : ℕ) → T (linked r u a) → a < 64 * words
 

@@ -2,10 +2,10 @@
 -- nothing.
 use mathlib.Core.Path.{_≡_}
 use mathlib.Core.List.{List}
-use Prim.Native.Nat.{ℕ, suc, _≤_, _<_}
+use Prim.Native.Nat.{ℕ, suc, _+_, _*_, _/_, _≤_, _<_}
 use lib.Dec.{T}
 use lib.ListN.{length, getD}
-use Rattle.relation.specs.Relation.{relation-words, linked}
+use Rattle.relation.specs.Relation.{linked}
 use Rattle.distances.specs.declared.Cycle.{Cycle}
 use Rattle.distances.specs.declared.Cycle.the-variants.{Through, Nowhere}
 
@@ -15,10 +15,10 @@ pub data Walk (r : List ℕ) (to : ℕ) : (steps from : ℕ) → Type 0 where
   stay : Walk r to 0 to
   step : {n a b : ℕ} → T (linked r b a) → Walk r to n b → Walk r to (suc n) a
 
--- The relation leads only from and to vertices below a count, which is at most 1,024, and its list has all the words.
+-- The relation leads only from and to vertices below a count, which is at most 1,024, and its list has the blocks of these.
 pub record Steps (r : List ℕ) (count : ℕ) : Type 0 where
   pub few : count ≤ 1024
-  pub long : length r ≡ relation-words
+  pub long : 1024 * ((count + 63) / 64) ≤ length r
   pub ends : (u a : ℕ) → T (linked r u a) → (u < count) × (a < count)
 
 -- A vertex is n steps away from another: there is a walk of n steps, and none of fewer.

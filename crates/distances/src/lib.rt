@@ -1,6 +1,6 @@
 // Shortest closed walks of a relation between vertices below 1,024, and how many steps each vertex is away from one on such a walk. Sets of
 // vertices are bits of sixteen words. The search goes backwards, from a vertex to those with a step to it, level by level.
-use relation::ROW_WORDS;
+use relation::BLOCK_WORDS;
 ghost use mathlib.Core.Path.{_≡_};
 ghost use Prim.Native.Nat.{ℕ, _*_, _≤_, _<_};
 ghost use lib.Dec.{T};
@@ -18,24 +18,24 @@ pub enum Cycle {
 // What stands where no distance is noted.
 pub const UNREACHED: u16 = 1024;
 
-// The best of the vertices passed: the first that has a closed walk of so many steps, the fewest. Until there is one, a length that none
-// worth finding has.
+// The best of the vertices passed: the first that has a closed walk of so many steps, the fewest. Until there is one, the length is
+// count + 1, which is longer than any shortest closed walk.
 struct Found {
     vertex: usize,
     length: usize,
 }
 
-// Puts the vertices that have a step to one vertex into a set. The rows are zero past the first words.
+// Puts the vertices that have a step to one vertex into a set. A vertex has one word in each block, and past the first blocks they are
+// zero.
 fn with_row(relation: &[u64], words: usize, row: usize, set: &mut [u64])
     requires { ⌜ Rows (now relation) words ⌝ }
     requires { ⌜ row < 1024 ⌝ }
     requires { ⌜ length (now set) ≡ 16 ⌝ }
     ensures { λ _. ⌜ Joined (linked (now (relation .entry)) row) (now (set .entry)) (now (set .exit)) ⌝ }
 {
-    let first = ROW_WORDS * row;
     let mut i = 0;
     while i < words {
-        set[i] = set[i] | relation[first + i];
+        set[i] = set[i] | relation[BLOCK_WORDS * i + row];
         i += 1;
     }
 }

@@ -4,7 +4,7 @@
 -- their numbers (`walk-in`). Assumes nothing.
 use mathlib.Core.Path.{_≡_, refl, sym, ap, subst, subst⁻¹, _∙_}
 use mathlib.Core.List.{List, [], _∷_, map, List·Memᴰ, Memᴰ·map, Memᴰ·cast}
-use Prim.Native.Nat.{ℕ, zero, suc, _*_, _≤_, _<_}
+use Prim.Native.Nat.{ℕ, zero, suc, _+_, _*_, _/_, _≤_, _<_}
 use native.Mathlib.Omega.{arith}
 use lib.Dec.{T}
 use lib.ListN.{length, getD, length-map}
@@ -12,7 +12,7 @@ use Rattle.base.specs.Bits.{word}
 use Rattle.base.specs.Search.{Item}
 use Rattle.base.proofs.At.{At, at-lt, at-get, at-in, at-of, in-at}
 use Rattle.base.proofs.WordLaws.{word-inj}
-use Rattle.relation.specs.Relation.{relation-words, linked}
+use Rattle.relation.specs.Relation.{linked}
 use Rattle.distances.specs.Walks as numbers
 use Rattle.formula.specs.Table.{Table}
 use Rattle.tableau.specs.Saturation.{Subset}
@@ -94,7 +94,7 @@ module _ (rows : List ℕ) (count : ℕ) {known : ℕ} {area rel : List ℕ} (al
       let (u, k, e, b) = noted .all a l (node t a) (sized a l) (stands a l) s m in
       (u, k, that-node u k (target-sized l m) (sym e), b)
 
-  pub relation-steps : known ≤ 1024 → length rel ≡ relation-words → numbers.Steps rel known
+  pub relation-steps : known ≤ 1024 → 1024 * ((known + 63) / 64) ≤ length rel → numbers.Steps rel known
   relation-steps few long = record { few = few; long = long; ends = λ u a h. let r = link-of u a h in (r .0, r .1) }
 
   -- Theorem: a walk over numbers is one over nodes,

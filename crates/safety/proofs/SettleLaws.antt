@@ -4,14 +4,13 @@ use mathlib.Core.Path.{_≡_, refl, sym, ap, subst, subst⁻¹, _∙_}
 use mathlib.Core.Bool.{Bool, true, false, not, cond}
 use mathlib.Core.List.{List, [], _∷_, _++_, map}
 use mathlib.Core.Option.{Option, none, some}
-use Prim.Native.Nat.{ℕ, zero, suc, _+_, _-_, _*_, _≤_, _<_}
+use Prim.Native.Nat.{ℕ, zero, suc, _+_, _-_, _*_, _/_, _≤_, _<_}
 use native.Mathlib.Omega.{arith}
 use lib.Dec.{leb}
 use lib.ListN.{length, drop, length-map}
 use borrow.Author.Tests.{le-leb, lt-leb, not-true, not-false}
 use Rattle.base.specs.Bits.{word}
 use Rattle.base.specs.Search.{Item}
-use Rattle.relation.specs.Relation.{relation-words}
 use Rattle.formula.specs.Formula.{Formula}
 use Rattle.formula.specs.Table.{Operator, Table, table}
 use Rattle.formula.specs.Reading.{Reading, parse}
@@ -24,7 +23,9 @@ use Rattle.tableau.specs.Nodes.{nodes}
 use Rattle.tableau.specs.Origins.{Origins}
 use Rattle.tableau.specs.Inner.{table-of, Formed}
 use Rattle.tableau.specs.Area.{zeros, words-at, cleared, Nodes-held, reachable, Slots-marked}
-use Rattle.tableau.specs.Steps.{Steps-noted}
+use Rattle.tableau.specs.Steps.{Steps-before, Steps-noted}
+use Rattle.tableau.specs.Found.{Finding, Has-blocks, Gone-on}
+use Rattle.tableau.proofs.FoundLaws.{gone-held, gone-origins, gone-noted}
 use Rattle.tableau.proofs.NodeReads.{nodes-kept}
 use Rattle.construction.specs.Construction.{between, max-nodes, nodes-size, node-count}
 use Rattle.construction.proofs.BuildLaws.{In-range, range-granted, range-refused}
@@ -75,8 +76,8 @@ lent-asked {N} {workspace} {buffer} l after =
 module _ {rows : List ℕ} {count N known : ℕ} {a area : List ℕ} (formed : Formed rows count)
     (held : Nodes-held N known a area (reachable (table-of rows count))) where
   pub ready : {buffer : ℕ} {slots o rel : List ℕ} → known ≤ N → N ≤ 1024 → 8 * N ≤ length area → Slots-marked known area slots
-      → Origins (table-of rows count) o known → 2 * N ≤ length o → length rel ≡ relation-words → Steps-noted rows count known area rel
-      → N ≤ buffer → Nodes-ready rows count known area slots o rel buffer
+      → Origins (table-of rows count) o known → 2 * N ≤ length o → 1024 * ((known + 63) / 64) ≤ length rel
+      → Steps-noted rows count known area rel → N ≤ buffer → Nodes-ready rows count known area slots o rel buffer
   ready fits few room marked notes notes-room long noted buffer-fits =
       let t = table-of rows count in
       let all : known ≡ length (nodes t) = held-count t held fits in
@@ -109,6 +110,15 @@ module _ {rows : List ℕ} {count N known : ℕ} {a area : List ℕ} (formed : F
         answers = subst⁻¹ (λ (v : Verdict). Answers v before after r) (concluded-is t (omega (arith, all))) s;
         beyond = held-beyond t held;
       }
+
+-- the same after a part of the search that leaves no node to go on from
+pub gone-ready : {rows : List ℕ} {count from to known N r buffer : ℕ} {a area o rel area′ slots′ o′ rel′ : List ℕ} → Formed rows count
+    → Gone-on rows count from to known N area o rel area′ slots′ o′ rel′ r → Finding rows count N known from a area o → r ≤ N → r ≤ to
+    → Has-blocks rel to → Steps-before rows count from known area rel → N ≤ 1024 → 8 * N ≤ length area′ → 2 * N ≤ length o′
+    → 1024 * ((r + 63) / 64) ≤ length rel′ → N ≤ buffer → Nodes-ready rows count r area′ slots′ o′ rel′ buffer
+gone-ready formed g f fits last blocks noted few room notes-room long buffer-fits =
+    ready formed (gone-held g f (λ h. last)) fits few room (g .marked fits) (gone-origins g f fits last) notes-room long
+    (gone-noted g fits last blocks noted) buffer-fits
 
 -- once 14 is asked, the bytes of N nodes are zero afterwards
 after-14 : (N : ℕ) (t : Table) (w : List ℕ) → promised.cleared N (decide N t) w ≡ zeroed N w

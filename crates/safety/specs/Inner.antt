@@ -2,7 +2,7 @@
 use mathlib.Core.Path.{_≡_}
 use mathlib.Core.List.{List, [], map, List·Memᴰ}
 use mathlib.Core.Option.{Option, none, some}
-use Prim.Native.Nat.{ℕ, _*_, _^_, _≤_, _<_}
+use Prim.Native.Nat.{ℕ, _+_, _*_, _/_, _^_, _≤_, _<_}
 use lib.ListN.{length, getD, drop}
 use Rattle.base.specs.Bits.{word}
 use Rattle.base.specs.Order.{NoLater}
@@ -15,10 +15,11 @@ use Rattle.tableau.specs.Nodes.{nodes}
 use Rattle.tableau.specs.Run.{Along}
 use Rattle.tableau.specs.Foremost.{choice-words}
 use Rattle.tableau.specs.Inner.{table-of}
-use Rattle.tableau.specs.Area.{eight, words-at, reachable, Slots-marked}
+use Rattle.tableau.specs.Area.{eight, words-at, reachable, Slots-marked, Growing}
 use Rattle.tableau.specs.Origins.{Origins}
-use Rattle.tableau.specs.Steps.{Steps-noted}
-use Rattle.relation.specs.Relation.{relation-words}
+use Rattle.tableau.specs.Steps.{Steps-before, Steps-noted}
+use Rattle.tableau.specs.Found.{Finding}
+use Rattle.relation.specs.Relation.{block-words}
 use Rattle.tableau.specs.declared.Target.{Target}
 use Rattle.tableau.specs.declared.Target.the-variants as target
 use Rattle.construction.specs.Construction.{max-nodes, nodes-size}
@@ -141,9 +142,20 @@ pub record Nodes-ready (rows : List ℕ) (count known : ℕ) (area slots o rel :
   pub words-are : words-at area 0 known ≡ map word (reachable (table-of rows count))
   pub notes-are : Origins (table-of rows count) o known
   pub notes-room : 2 * known ≤ length o
-  pub long : length rel ≡ relation-words
+  pub long : 1024 * ((known + 63) / 64) ≤ length rel
   pub noted : Steps-noted rows count known area rel
   pub fits : known ≤ buffer
+
+-- The search has gone on from the first 64 nodes, there are so many known by now, and N have room. One block has the transitions of those
+-- 64. There is a letter of the buffer for each of the N.
+pub record Halfway (rows : List ℕ) (count N known : ℕ) (area slots o rel : List ℕ) (buffer : ℕ) : Type 0 where
+  pub many : 64 ≤ known
+  pub growing : Growing known N area slots o
+  pub was : List ℕ
+  pub found : Finding rows count N known 64 was area o
+  pub long : length rel ≡ block-words
+  pub noted : Steps-before rows count 64 known area rel
+  pub fits : N ≤ buffer
 
 -- The answer to a verdict, and what it leaves in the witness buffer.
 pub record Answers (v : Verdict) (before after : List ℕ) (r : code.Verdict) : Type 0 where

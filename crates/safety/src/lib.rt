@@ -12,17 +12,19 @@ use tableau::Lookup;
 use tableau::NodeNumber;
 use tableau::Target;
 ghost use mathlib.Core.Path.{_≡_};
-ghost use Prim.Native.Nat.{_+_, _*_, _≤_, _<_};
+ghost use mathlib.Core.List.{List};
+ghost use Prim.Native.Nat.{ℕ, _+_, _*_, _≤_, _<_};
 ghost use lib.ListN.{length};
 ghost use Rattle.formula.specs.Access.{decoded};
 ghost use Rattle.profile.specs.Profiles.{is-least};
 ghost use Rattle.tableau.specs.Inner.{table-of, Formed};
 ghost use Rattle.tableau.specs.Area.{eight};
+ghost use Rattle.tableau.specs.Found.{Finding};
 ghost use Rattle.witness.specs.Letters.{stem-letters, Stem-noted};
 ghost use Rattle.safety.specs.Safety.{width, first-least, decide, ask-room, ask-greatest};
 ghost use Rattle.safety.specs.Contract.{shortage-code, Decided};
 ghost use Rattle.safety.specs.Inner.{least, Lent, Room-asked, Nodes-there, Onward-of, Some-step, First-step, Cycle-there};
-ghost use Rattle.safety.specs.Inner.{Cycle-written, Course-written, concluded, Nodes-ready, Answers, Came-to, Settled};
+ghost use Rattle.safety.specs.Inner.{Cycle-written, Course-written, concluded, Nodes-ready, Halfway, Answers, Came-to, Settled};
 
 // What there is too little of, or what is out of range: the questions 11 to 14.
 pub enum Shortage {
@@ -330,7 +332,47 @@ fn from_nodes(
     }
 }
 
-// From the root: the nodes with their transitions, 14 where there is no room for them, and what comes behind.
+// From more than 64 nodes, where the search has gone on from the first 64: it goes on with room for all transitions, which is made only
+// here. 14 where there is no room for the nodes, and what comes behind.
+fn from_many(
+    rows: &[u8; 144],
+    count: usize,
+    node_capacity: usize,
+    area: &mut [u8],
+    slots: &mut [u16; 2048],
+    origins: &mut [u16],
+    first: &[u64],
+    known: usize,
+    letters: &mut [u16],
+) -> Verdict
+    requires { ⌜ Formed (now rows) count ⌝ }
+    requires { ⌜ Halfway (now rows) count «node_capacity» known (now area) (now slots) (now origins) (now first) (length (now letters)) ⌝ }
+    ensures { λ r. ⌜ ((a : List ℕ) → Finding (now (rows .entry)) count «node_capacity» known 64 a (now (area .entry)) (now (origins .entry))
+        → Came-to «node_capacity» (decide «node_capacity» (table-of (now (rows .entry)) count)) a (now (area .exit))
+        (now (letters .entry)) (now (letters .exit)) r) ⌝ }
+{
+    let mut relation = [0u64; relation::WORDS];
+    relation::widen(first, &mut relation);
+    let nodes = tableau::go_on(
+        rows,
+        count,
+        area,
+        slots,
+        origins,
+        &mut relation,
+        64,
+        node_capacity,
+        known,
+        node_capacity,
+    );
+    if node_capacity < nodes {
+        return Verdict::Refused(Shortage::Nodes);
+    }
+    from_nodes(rows, count, area, slots, origins, &relation, nodes, letters)
+}
+
+// From the root: the nodes with their transitions, 14 where there is no room for them, and what comes behind. For up to 64 nodes one block
+// of the relation is enough, and no more is cleared.
 fn from_root(
     rows: &[u8; 144],
     count: usize,
@@ -345,26 +387,31 @@ fn from_root(
 {
     let mut slots = [0u16; 2048];
     let mut origins = [0u16; 2048];
-    let mut relation = [0u64; relation::WORDS];
-    let nodes = tableau::nodes_and_steps(
+    let mut first = [0u64; relation::BLOCK_WORDS];
+    let nodes = tableau::search_from_root(
         rows,
         count,
         area,
-        node_capacity,
         &mut slots,
         &mut origins,
-        &mut relation,
+        &mut first,
+        64,
+        node_capacity,
     );
     if node_capacity < nodes {
         return Verdict::Refused(Shortage::Nodes);
     }
-    from_nodes(
+    if nodes <= 64 {
+        return from_nodes(rows, count, area, &slots, &origins, &first, nodes, letters);
+    }
+    from_many(
         rows,
         count,
+        node_capacity,
         area,
-        &slots,
-        &origins,
-        &relation,
+        &mut slots,
+        &mut origins,
+        &first,
         nodes,
         letters,
     )

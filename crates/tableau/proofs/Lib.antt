@@ -20,6 +20,7 @@ pub mod SizeLaws
 pub mod KeepLaws
 pub mod NodeMatch
 pub mod NodeLoop
+pub mod FoundLaws
 pub mod StepLaws
 pub mod FormedLaws
 pub mod NodeReads

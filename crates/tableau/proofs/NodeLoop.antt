@@ -14,11 +14,11 @@ use lib.ListN.{length, length-map}
 use lib.Seq.{take-all}
 use Rattle.base.specs.Lists.{range, flat-map, At}
 use Rattle.base.specs.Bits.{word}
-use Rattle.base.specs.Spread.{adds}
+use Rattle.base.specs.Spread.{adds, spread}
 use Rattle.base.proofs.AppendLaws.{flat-map-append, map-flat-map, range-append, range-more}
 use Rattle.base.proofs.MemberLaws.{flat-map-of}
 use Rattle.base.proofs.At.{at-lt, at-in, in-at, at-some, at-map}
-use Rattle.base.proofs.SpreadLaws.{adds-append, adds-at, After-turns, turns-start, turns-next, turns-done, turns-begin}
+use Rattle.base.proofs.SpreadLaws.{adds-append, adds-at, After-turns, turns-next, turns-done, turns-begin}
 use Rattle.base.proofs.WordLaws.{word-set, word-none}
 use Rattle.letters.specs.Requirements.{letter-of}
 use Rattle.letters.specs.declared.Requirement.{Requirement}
@@ -28,8 +28,9 @@ use Rattle.tableau.specs.Transition.{ors, choice-of, Transition, by-word
 use Rattle.tableau.specs.Nodes.{root, nodes}
 use Rattle.tableau.specs.Origins.{Origins}
 use Rattle.tableau.specs.Inner.{table-of, Formed, Target-by}
-use Rattle.tableau.specs.Area.{eight, store, Nodes-held, reachable, Reached-node, worded, root-reached, reached-by, leads, outs}
-use Rattle.tableau.specs.Area.{Reached-sized, Arrives, Nodes-noted, Node-added, Followed, Expanded}
+use Rattle.tableau.specs.Area.{eight, store, Nodes-held, reachable, Slots-marked, Reached-node, Reached-word, worded, root-reached}
+use Rattle.tableau.specs.Area.{reached-by, leads, outs, Reached-sized, Arrives, Nodes-noted, Node-added, Followed, Expanded}
+use Rattle.tableau.specs.Found.{onward-from, Finding, Begun}
 use Rattle.tableau.specs.declared.NodeNumber.{NodeNumber}
 use Rattle.tableau.specs.declared.Target.{Target}
 use Rattle.tableau.specs.declared.Target.the-variants.{Leads, Nothing}
@@ -39,7 +40,7 @@ use Rattle.tableau.proofs.LoopLaws.{table-length}
 use Rattle.tableau.proofs.TargetLaws.{Step-found, a-target, target-nowhere}
 use Rattle.tableau.proofs.SizeLaws.{leads-sized}
 use Rattle.tableau.proofs.KeepLaws.{keeps-more, keeps-all, keeps-holds, known-all, node-word, keeps-one}
-use Rattle.tableau.proofs.NodeMatch.{Matched, onward-from, nodes-match, matched-sets, notes-origins}
+use Rattle.tableau.proofs.NodeMatch.{Matched, nodes-match, matched-sets, notes-origins}
 
 -- the known nodes l with those that the first n choice words lead to from node i
 abbrev pub led : Table → (i : ℕ) → Subset → List Reached-node → ℕ → List Reached-node
@@ -179,13 +180,9 @@ module _ {rows : List ℕ} {count i from known capacity all x : ℕ} {area₀ o�
                 subst (λ (j : ℕ). Nodes-noted capacity all a area o (map worded (led t i v l j))) {x = x} {y = 2 ^ ors t} (omega arith) now
           ])
 
--- the loop over the nodes: the search after i turns is in the area
-pub record Finding (rows : List ℕ) (count capacity known i : ℕ) (a area o : List ℕ) : Type 0 where
-  pub found : List Reached-node
-  pub turns : After-turns same-subset (onward-from (table-of rows count)) 0 (root-reached (table-of rows count) ∷ []) i found
-  pub sized : Reached-sized (length (table-of rows count)) found
-  pub others : (j : ℕ) (x : Reached-node) → At found j x → 0 < j → 0 < x .parent
-  pub keeps : Nodes-noted capacity known a area o (map worded found)
+-- the nodes after i turns
+abbrev turned : Table → ℕ → List Reached-node
+turned t i = spread same-subset (onward-from t) i 0 (root-reached t ∷ [])
 
 root-word : (t : Table) → 0 < length t → word (root t) ≡ 1
 root-word t h = word-set (nothing t) 0 (omega (arith, length-map t (λ (o : Operator). false))) ∙ ap (λ (x : ℕ). bitOr x 1) (word-none t)
@@ -210,15 +207,35 @@ find-start {rows} {count} {capacity} {known} {a} {o₀} number f e ad =
     } in
     record {
       found = root-reached t ∷ [];
-      turns = turns-start same-subset (onward-from t) 0 (root-reached t ∷ []);
+      turns = refl;
       sized = λ x m. ap (λ (y : Reached-node). length (y .at)) (List·Memᴰ·eq-of-singleton m) ∙ root-length t;
       others = λ j x b h. absurd (let l = at-lt b in omega arith);
       keeps = ad .is [] (worded (root-reached t)) a is-root (keeps-none capacity a o₀) (λ y m. absurd (List·Memᴰ·not-nil m));
     }
 
+-- with the root there is one node
+pub find-begun : {capacity known : ℕ} {a o₀ area slots o : List ℕ} (number : NodeNumber) → 1 ≤ capacity → number .0 ≡ 0
+    → Node-added 0 capacity (record { set = 1; from = number; letter = 0 }) a o₀ area o known
+    → (known ≤ capacity → Slots-marked known area slots) → Begun capacity a area slots o
+find-begun {capacity} {known} {a} {o₀} {area} {slots} {o} number h e ad marks = record {
+  marked = subst (λ (n : ℕ). Slots-marked n area slots) one (marks (omega (arith, one)));
+  found = λ rows count f. subst (λ (n : ℕ). Finding rows count capacity n 0 a area o) one (find-start number f e ad);
+}
+  where
+    one : known ≡ 1
+    one =
+        let root : Reached-word = record { at = 1; parent = 0; label = 0 } in
+        let is-root : Arrives (record { set = 1; from = number; letter = 0 }) root =
+        record { set-is = refl; from-is = sym e; letter-is = refl } in
+        omega (arith, ad .is [] root a is-root (keeps-none capacity a o₀) (λ y m. absurd (List·Memᴰ·not-nil m)) .known-is)
+
 module _ {rows : List ℕ} {count capacity known i : ℕ} {a area o : List ℕ} (f : Finding rows count capacity known i a area o) where
   abbrev t : Table
   t = table-of rows count
+
+  -- the turns, as the laws of the search have them
+  after : After-turns same-subset (onward-from t) 0 (root-reached t ∷ []) i (f .found)
+  after = record { begun = omega arith; list-is = ap (turned t) {x = i - 0} {y = i} (omega arith) ∙ f .turns }
 
   pub find-turn : {r : ℕ} {area′ o′ : List ℕ} → i < known → Expanded rows count i known capacity area o area′ o′ r
       → Finding rows count capacity r (i + 1) a area′ o′
@@ -227,7 +244,7 @@ module _ {rows : List ℕ} {count capacity known i : ℕ} {a area o : List ℕ} 
       let (n, b) = at-some l i (omega (arith, f .keeps .known-is, length-map l worded)) in
       record {
         found = adds same-subset l (outs t i (n .at));
-        turns = turns-next same-subset (onward-from t) (f .turns) b;
+        turns = ap (turned t) {x = i + 1} {y = i + 1 - 0} (omega arith) ∙ turns-next same-subset (onward-from t) after b .list-is;
         sized = subst (Reached-sized (length t)) (led-all t i (n .at) l) (led-sized t i (n .at) l (2 ^ ors t) (f .sized));
         others = λ j x c m. elim (adds-at same-subset l (outs t i (n .at)) c) [ inl d ↦ f .others j x d m | inr d ↦ onward-parent n d ];
         keeps = ex .is l n a b (f .keeps) (of-table rows count (f .sized));
@@ -244,7 +261,7 @@ module _ {rows : List ℕ} {count capacity known i : ℕ} {a area o : List ℕ} 
 
   pub find-full : capacity < known → Nodes-held capacity known a area (reachable t)
   find-full h =
-      let (more, e) = turns-begin same-subset (onward-from t) (f .turns) enough (omega arith) in
+      let (more, e) = turns-begin same-subset (onward-from t) after enough (omega arith) in
       let m = subst (λ (l : List Reached-node). Matched l (nodes t)) e (nodes-match t enough (omega arith)) in
       subst (Nodes-held capacity known a area) (matched-sets t m) (keeps-holds (f .found ++ more) (keeps-more (f .found) (f .keeps) more h))
 
@@ -254,7 +271,7 @@ module _ {rows : List ℕ} {count capacity known i : ℕ} {a area o : List ℕ} 
     found-all =
         let none-left : length (f .found) ≤ i = omega (arith, known-all (f .found) (f .keeps) (omega arith)) in
         subst (λ (l : List Reached-node). Matched l (nodes t))
-        (turns-done same-subset (onward-from t) (f .turns) enough (omega arith) none-left)
+        (turns-done same-subset (onward-from t) after enough (omega arith) none-left)
         (nodes-match t enough (omega arith))
 
     pub find-end : Nodes-held capacity known a area (reachable t)

@@ -22,6 +22,7 @@ use Rattle.tableau.specs.Transition.{Transition, letter, transitions}
 use Rattle.tableau.specs.Nodes.{root, edges, operands, nodes}
 use Rattle.tableau.specs.Origins.{way-letters, parent-at, Origin, Origins}
 use Rattle.tableau.specs.Area.{reachable, Reached-node, worded, root-reached, reached-by, outs, Note-of}
+use Rattle.tableau.specs.Found.{onward-from}
 use Rattle.tableau.proofs.SaturationLaws.{subset-sound, subset-refl}
 use Rattle.tableau.proofs.NodeLaws.{nodes-few}
 
@@ -34,10 +35,6 @@ abbrev pub Matched : List Reached-node → List (Item Transition Subset) → Typ
 Matched l ns = Matches letter edge-label Itself l ns
 
 module _ (t : Table) where
-  -- what node i leads to
-  abbrev pub onward-from : ℕ → Reached-node → List Reached-node
-  onward-from i x = outs t i (x .at)
-
   abbrev target-from : Item Transition Subset → Transition → Item Transition Subset
   target-from y s = record { way = y .way ++ (s ∷ []); at = s .to }
 
@@ -52,7 +49,7 @@ module _ (t : Table) where
   }
 
   expands : (all : List (Item Transition Subset)) (i : ℕ) (x : Reached-node) (y : Item Transition Subset) → At all i y → x .at ≡ y .at
-      → Thins letter edge-label Itself all [] (onward-from i x) (onwards same-subset (edges t) y)
+      → Thins letter edge-label Itself all [] (onward-from t i x) (onwards same-subset (edges t) y)
   unfolding transitions
   expands all i x y stands e =
       subst⁻¹ (λ (v : Subset). Thins letter edge-label Itself all [] (outs t i v) (onwards same-subset (edges t) y)) e
@@ -64,11 +61,12 @@ module _ (t : Table) where
   begins = pairs-thins (Pairs.more (record { codes = refl; before = []; parent = start; way = refl }) Pairs.none) []
 
   -- with fuel enough for all nodes
-  pub nodes-match : (fuel : ℕ) → length (nodes t) ≤ fuel → Matched (spread same-subset onward-from fuel 0 (root-reached t ∷ [])) (nodes t)
+  pub nodes-match : (fuel : ℕ) → length (nodes t) ≤ fuel
+      → Matched (spread same-subset (onward-from t) fuel 0 (root-reached t ∷ [])) (nodes t)
   unfolding nodes
   nodes-match fuel h =
       search-matches letter edge-label Itself same-subset (edges t) subset-sound subset-refl same-subset subset-sound
-      subset-refl (λ j k l p q. sym p ∙ q) (λ i j k p q. p ∙ sym q) onward-from expands (2 + 2 ^ length (operands t)) fuel
+      subset-refl (λ j k l p q. sym p ∙ q) (λ i j k p q. p ∙ sym q) (onward-from t) expands (2 + 2 ^ length (operands t)) fuel
       (record { way = []; at = root t } ∷ []) (root-reached t ∷ []) begins (omega (arith, nodes-few t)) h
 
   pub matched-sets : {l : List Reached-node} → Matched l (nodes t) → map (λ (x : Reached-node). x .at) l ≡ reachable t

@@ -1,7 +1,7 @@
--- The transitions between the nodes of an area, noted in a relation. A set is looked up (`found-at`); one that comes in stands where its
--- answer says, and those before it stay (`came-known`, `came-last`). A step that leads to a node is noted once this has its number
--- (`step-nowhere`, `step-there`). Over the choice words of a node: what the first x of them lead to is noted (`Noting`). Over the nodes:
--- the transitions of the first i of them are noted (`turn-noted`). Assumes nothing.
+-- The transitions between the nodes of an area, noted in a relation. A set is looked up (`found-at`). Whether it was known or comes in, it
+-- stands where its answer says, and those before it stay (`located-number`, `came-last`). A step that leads to a node is noted once this
+-- has its number (`step-nowhere`, `step-there`). Over the choice words of a node: what the first x of them lead to is noted (`Noting`).
+-- Over the nodes: the transitions of the first i of them are noted (`steps-turn`). Assumes nothing.
 use mathlib.Core.Path.{_≡_, refl, sym, ap, subst, subst⁻¹, _∙_}
 use mathlib.Core.Logic.{_⊎_, inl, inr}
 use mathlib.Core.Bool.{Bool, true, false, cond, _&&_, _||_}
@@ -19,7 +19,7 @@ use Rattle.base.proofs.BoolLaws.{by-test, of-T, to-T, and-left, and-right, and-
 use Rattle.base.proofs.BytesLaws.{number-same, number-written, before-written}
 use Rattle.formula.specs.Table.{Table}
 use Rattle.letters.specs.declared.Requirement.{Requirement}
-use Rattle.relation.specs.Relation.{linked, Related, Unrelated}
+use Rattle.relation.specs.Relation.{linked, Related, Unrelated, Widened}
 use Rattle.tableau.specs.Saturation.{Subset, saturate}
 use Rattle.tableau.specs.Transition.{ors, choice-of, Transition, by-word, transitions}
 use Rattle.tableau.specs.Inner.{table-of, Target-by}
@@ -270,3 +270,11 @@ pub steps-end : {rows : List ℕ} {count i known : ℕ} {area rel : List ℕ} �
     → Steps-noted rows count known area rel
 steps-end {rows} {count} {i} {known} {area} {rel} b h l =
     subst (λ (n : ℕ). Steps-before rows count n known area rel) {x = i} {y = known} (omega arith) b
+
+-- in another list that is the same relation
+pub steps-widened : {rows : List ℕ} {count i known : ℕ} {area rel rel′ : List ℕ} → Widened rel rel′
+    → Steps-before rows count i known area rel → Steps-before rows count i known area rel′
+steps-widened w b = record {
+  only = λ u a h. b .only u a (subst T (w .is u a) h);
+  all = λ a h v len q s m. let (u, c, e, d) = b .all a h v len q s m in (u, c, e, subst⁻¹ T (w .is u a) d);
+}

@@ -7,4 +7,5 @@ pub mod Inner
 pub mod Fringe
 pub mod Area
 pub mod Steps
+pub mod Found
 pub mod Origins

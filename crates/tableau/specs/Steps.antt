@@ -69,7 +69,7 @@ pub record Steps-of (rows : List ℕ) (count i known : ℕ) (area area′ rel re
       → T (linked rel u a) ⊎ ((a ≡ i) × (u < r) × Leads-to rows count (eight area (8 * i)) (eight area′ (8 * u)))
   pub all : All-noted rows count i (eight area (8 * i)) r area′ rel′
 
--- The relation has the transitions between the first i nodes of the area and all that are known, and nothing else.
+-- The relation has the transitions that lead from the first i nodes of the area to those that are known, and nothing else.
 pub record Steps-before (rows : List ℕ) (count i known : ℕ) (area rel : List ℕ) : Type 0 where
   pub only : (u a : ℕ) → T (linked rel u a)
       → (a < i) × (u < known) × Leads-to rows count (eight area (8 * a)) (eight area (8 * u))

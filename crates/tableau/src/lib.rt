@@ -16,12 +16,13 @@ ghost use Rattle.tableau.specs.Inner.{table-of, Formed, with-bits, Satur
 ghost use Rattle.tableau.specs.Fringe.{Closes-by, Closing-of, Joined, Core-of};
 ghost use Rattle.tableau.specs.Inner.{Target-by, Widest, Unmet-between, is-unmet, Unmet-ors};
 ghost use mathlib.Core.Bool.{false};
-ghost use Rattle.relation.specs.Relation.{relation-words, Related, Unrelated};
+ghost use Rattle.relation.specs.Relation.{Has-block, Related};
 ghost use Rattle.tableau.specs.Area.{eight, words-at, lookup, cleared, Node-room, Nodes-held, reachable, slot-of, Slots-marked};
-ghost use Rattle.tableau.specs.Steps.{Located, Came-in, Step-noted, Steps-of, Steps-noted};
+ghost use Rattle.tableau.specs.Steps.{Located, Came-in, Step-noted, Steps-of};
 ghost use Rattle.tableau.specs.Area.{with-note};
 ghost use Rattle.tableau.specs.Area.{Growing, Node-added, Followed, Expanded};
 ghost use Rattle.tableau.specs.Origins.{Origins};
+ghost use Rattle.tableau.specs.Found.{Begun, Gone-on, Searched};
 
 // The number of a node, kept apart from subformulas and positions.
 pub struct NodeNumber(pub usize);
@@ -533,14 +534,14 @@ fn add(
     }
 }
 
-// Notes that a transition leads from one node to that which came in, where a relation is kept.
+// Notes that a transition leads from one node to that which came in, where the relation has the block for it.
 fn note_step(relation: &mut [u64], from: NodeNumber, to: Added, capacity: usize)
     requires { ⌜ (from .0 < 1024) × (capacity ≤ 1024) ⌝ }
     requires { ⌜ (to .known ≤ capacity → to .at .0 < to .known) ⌝ }
-    ensures { λ _. ⌜ (length (now (relation .entry)) ≡ relation-words → to .known ≤ capacity
+    ensures { λ _. ⌜ (Has-block (now (relation .entry)) (from .0) → to .known ≤ capacity
         → Related (to .at .0) (from .0) (now (relation .entry)) (now (relation .exit))) ⌝ }
 {
-    if relation.len() == relation::WORDS {
+    if relation::BLOCK_WORDS * (from.0 / 64) + relation::BLOCK_WORDS <= relation.len() {
         if to.known <= capacity {
             relation::relate(relation, to.at.0, from.0);
         }
@@ -564,7 +565,7 @@ fn follow(
         (now (origins .exit)) r ⌝ }
     ensures { λ r. ⌜ (known ≤ r) × (r ≤ capacity + 1) ⌝ }
     ensures { λ r. ⌜ (r ≤ capacity → Slots-marked r (now (area .exit)) (now (slots .exit))) ⌝ }
-    ensures { λ r. ⌜ (length (now (relation .entry)) ≡ relation-words → r ≤ capacity → Step-noted (number .0) target known
+    ensures { λ r. ⌜ (Has-block (now (relation .entry)) (number .0) → r ≤ capacity → Step-noted (number .0) target known
         (now (area .entry)) (now (area .exit)) (now (relation .entry)) (now (relation .exit)) r) ⌝ }
 {
     match target {
@@ -601,7 +602,7 @@ fn expand(
         (now (area .exit)) (now (origins .exit)) r ⌝ }
     ensures { λ r. ⌜ (known ≤ r) × (r ≤ capacity + 1) ⌝ }
     ensures { λ r. ⌜ (r ≤ capacity → Slots-marked r (now (area .exit)) (now (slots .exit))) ⌝ }
-    ensures { λ r. ⌜ (length (now (relation .entry)) ≡ relation-words → r ≤ capacity → Steps-of (now (rows .entry)) count (number .0) known
+    ensures { λ r. ⌜ (Has-block (now (relation .entry)) (number .0) → r ≤ capacity → Steps-of (now (rows .entry)) count (number .0) known
         (now (area .entry)) (now (area .exit)) (now (relation .entry)) (now (relation .exit)) r) ⌝ }
 {
     let from = node(area, number);
@@ -630,56 +631,102 @@ fn expand(
     all
 }
 
-// Writes the reachable nodes, the root first, breadth first, and notes where each was found from; how many, or capacity + 1. Slots that
-// hold anything will do. A relation that is as long as all rows gets the transitions, from node to node.
-pub fn nodes_and_steps(
-    rows: &[u8; 144],
-    count: usize,
-    area: &mut [u8],
-    capacity: usize,
-    slots: &mut [u16; 2048],
-    origins: &mut [u16],
-    relation: &mut [u64],
-) -> usize
-    requires { ⌜ Formed (now rows) count ⌝ }
+// Puts the root in as the first node.
+fn put_root(area: &mut [u8], slots: &mut [u16; 2048], origins: &mut [u16], capacity: usize)
     requires { ⌜ Node-room 1 capacity (length (now area)) ⌝ }
     requires { ⌜ 2 * capacity ≤ length (now origins) ⌝ }
     requires { ⌜ 2048 ≤ length (now slots) ⌝ }
-    requires { ⌜ Unrelated (now relation) ⌝ }
-    ensures { λ r. ⌜ Nodes-held capacity r (now (area .entry)) (now (area .exit)) (reachable (table-of (now (rows .entry)) count)) ⌝ }
-    ensures { λ r. ⌜ (r ≤ capacity → Origins (table-of (now (rows .entry)) count) (now (origins .exit)) r) ⌝ }
-    ensures { λ r. ⌜ (r ≤ capacity → Slots-marked r (now (area .exit)) (now (slots .exit))) ⌝ }
-    ensures { λ r. ⌜ (length (now (relation .entry)) ≡ relation-words → r ≤ capacity
-        → Steps-noted (now (rows .entry)) count r (now (area .exit)) (now (relation .exit))) ⌝ }
+    ensures { λ _. ⌜ Begun capacity (now (area .entry)) (now (area .exit)) (now (slots .exit)) (now (origins .exit)) ⌝ }
 {
     let root = Arrival {
         set: 1,
         from: NodeNumber(0),
         letter: 0,
     };
-    let mut known = add(area, slots, origins, 0, capacity, root).known;
-    let mut i = 0;
-    while i < known {
-        if capacity < known {
-            return known;
+    add(area, slots, origins, 0, capacity, root);
+}
+
+// A part of the search for the reachable nodes, breadth first: goes on from the nodes from one number up to another, where there are so
+// many, and notes where each node was found from. A relation gets the transitions of those nodes whose block it has. How many nodes are
+// known then, or capacity + 1.
+pub fn go_on(
+    rows: &[u8; 144],
+    count: usize,
+    area: &mut [u8],
+    slots: &mut [u16; 2048],
+    origins: &mut [u16],
+    relation: &mut [u64],
+    from: usize,
+    to: usize,
+    known: usize,
+    capacity: usize,
+) -> usize
+    requires { ⌜ Formed (now rows) count ⌝ }
+    requires { ⌜ (from ≤ to) × (from ≤ known) ⌝ }
+    requires { ⌜ Growing known capacity (now area) (now slots) (now origins) ⌝ }
+    ensures { λ r. ⌜ Gone-on (now (rows .entry)) count from to known capacity (now (area .entry)) (now (origins .entry))
+        (now (relation .entry)) (now (area .exit)) (now (slots .exit)) (now (origins .exit)) (now (relation .exit)) r ⌝ }
+{
+    let mut all = known;
+    let mut i = from;
+    while i < to {
+        if capacity < all {
+            return all;
         }
-        known = expand(
+        if all <= i {
+            return all;
+        }
+        let next = NodeNumber(i);
+        all = expand(
             rows,
             count,
             area,
             slots,
             origins,
             relation,
-            NodeNumber(i),
-            known,
+            next,
+            all,
             capacity,
         );
         i += 1;
     }
-    known
+    all
 }
 
-// The same without a relation.
+// The first part: puts the root in, with which the search begins, and goes on up to a number. Slots that hold anything will do.
+pub fn search_from_root(
+    rows: &[u8; 144],
+    count: usize,
+    area: &mut [u8],
+    slots: &mut [u16; 2048],
+    origins: &mut [u16],
+    relation: &mut [u64],
+    to: usize,
+    capacity: usize,
+) -> usize
+    requires { ⌜ Formed (now rows) count ⌝ }
+    requires { ⌜ Node-room 1 capacity (length (now area)) ⌝ }
+    requires { ⌜ 2 * capacity ≤ length (now origins) ⌝ }
+    requires { ⌜ 2048 ≤ length (now slots) ⌝ }
+    ensures { λ r. ⌜ Searched (now (rows .entry)) count to capacity (now (area .entry)) (now (relation .entry)) (now (area .exit))
+        (now (slots .exit)) (now (origins .exit)) (now (relation .exit)) r ⌝ }
+{
+    put_root(area, slots, origins, capacity);
+    go_on(
+        rows,
+        count,
+        area,
+        slots,
+        origins,
+        relation,
+        0,
+        to,
+        1,
+        capacity,
+    )
+}
+
+// Writes the reachable nodes, the root first, and notes where each was found from; how many, or capacity + 1. No transition is noted.
 pub fn nodes(
     rows: &[u8; 144],
     count: usize,
@@ -695,14 +742,15 @@ pub fn nodes(
 {
     let mut slots = [0u16; 2048];
     let mut no_relation = [0u64; 1];
-    nodes_and_steps(
+    search_from_root(
         rows,
         count,
         area,
-        capacity,
         &mut slots,
         origins,
         &mut no_relation,
+        capacity,
+        capacity,
     )
 }
 

@@ -3,7 +3,7 @@ use borrow.Author.Needs.{needs}
 use mathlib.Core.Path.{refl}
 use Prim.Native.Nat.{ℕ, _-_, _≤_}
 use native.Mathlib.Omega.{arith}
-use Rattle.distances.proofs.FillLaws.{Filled, filled-none, filled-more}
+use Rattle.base.proofs.FillLaws.{Filled, filled-none, filled-more}
 use Rattle.distances.proofs.SetLaws.{unnoted}
 use Rattle.distances.proofs.clear.Statement.{statement}
 use Rattle.distances.proofs.clear.Tie as tie

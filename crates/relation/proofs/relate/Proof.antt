@@ -33,8 +33,8 @@ returns : tie.Need-returns
 returns c =
     let start = c .before .before .before in
     let a = start .args in
-    related-more (a .relation .now) (a .to) (a .from) (c .with .result) (start .pre .0 .1) (omega (arith, start .pre .0 .0, start .pre .1))
-    (c .with .ensures)
+    related-more (a .relation .now) (a .to) (a .from) (c .with .result) (start .pre .0 .0) (start .pre .0 .1)
+    (omega (arith, start .pre .0 .0, start .pre .1)) (c .with .ensures)
 
 pub relate-spec : {M : Type 1} → statement M
 relate-spec =

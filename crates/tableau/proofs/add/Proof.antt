@@ -42,9 +42,10 @@ same-length-3 c = search needs
 
 returns-2 : tie.Need-returns-2
 returns-2 c =
-    let start = c .before .before .before .before .before .before .before .before in
+    let located-done = c .before .before .before in
+    let start = located-done .before .before .before .before .before in
     let a = start .args in
-    let at = located-number (a .known) (a .area .now) (a .new .set) (c .before .before .before .located .ensures) (c .before .at .given .1) in (
+    let at = located-number (a .known) (a .area .now) (a .new .set) (located-done .located .ensures) (c .before .at .given .1) in (
       add-known (a .new) _ (start .pre .0 .room .fits) (stands (a .known) (a .area .now) (a .new .set) _ (at .0) (at .1)),
       record {
         more = omega arith;

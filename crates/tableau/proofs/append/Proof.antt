@@ -45,8 +45,9 @@ returns c =
     let slot = c .before .before .before .before .before .slot in
     let room = start .pre .0 .room in
     let last = came-last (start .args .known) (new .set) (omega arith) (omega arith) (put-number .ensures) in (
-      add-new new _ (room .fits) (start .pre .1 .1) (c .before .before .before .before .before .before .before .before .before .before .if1 .taken) (start .pre .0 .notes) (put-number .ensures)
-          (c .before .before .note .ensures),
+      add-new new _ (room .fits) (start .pre .1 .1)
+          (c .before .before .before .before .before .before .before .before .before .before .if1 .taken) (start .pre .0 .notes)
+          (put-number .ensures) (c .before .before .note .ensures),
       record {
         more = omega arith;
         most = omega arith;

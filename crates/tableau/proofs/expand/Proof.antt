@@ -6,7 +6,7 @@ use mathlib.Core.List.{List}
 use native.Mathlib.Omega.{arith}
 use Prim.Native.Nat.{ℕ, _+_, _-_, _*_, _^_, _≤_}
 use lib.ListN.{length}
-use Rattle.relation.specs.Relation.{relation-words}
+use Rattle.relation.specs.Relation.{Has-block}
 use Rattle.tableau.specs.Transition.{ors}
 use Rattle.tableau.specs.Inner.{table-of, Unmet-ors}
 use Rattle.tableau.specs.Area.{eight, Slots-marked}
@@ -27,14 +27,14 @@ record Turned (rows : List ℕ) (count i from known capacity end : ℕ) (area₀
   same-relation : length rel ≡ length rel₀
   marked : all ≤ capacity → Slots-marked all area slots
   reached : Expanding rows count i from known capacity area₀ o₀ all word area o
-  noted : length rel₀ ≡ relation-words → all ≤ capacity → Noting rows count i from known area₀ rel₀ all word area rel
+  noted : Has-block rel₀ i → all ≤ capacity → Noting rows count i from known area₀ rel₀ all word area rel
 
 abbrev Inv-loop : tie.InvT-loop
-Inv-loop rows count area₀ slots₀ origins₀ relation₀ number known capacity from core unmet end all₀ word₀ area slots origins relation all word =
-    Turned rows count (number .0) (core .node) known capacity end area₀ origins₀ relation₀ all word area slots origins relation
+Inv-loop rows count area₀ slots₀ o₀ rel₀ number known capacity from core unmet end all₀ word₀ area slots o rel all word =
+    Turned rows count (number .0) (core .node) known capacity end area₀ o₀ rel₀ all word area slots o rel
 
 abbrev μ-loop : tie.MeasureT-loop
-μ-loop rows count area₀ slots₀ origins₀ relation₀ number known capacity from core unmet end all₀ word₀ area slots origins relation all word =
+μ-loop rows count area₀ slots₀ o₀ rel₀ number known capacity from core unmet end all₀ word₀ area slots o rel all word =
     end - word
 
 node-requires : tie.Need-node-requires Inv-loop μ-loop
@@ -159,7 +159,7 @@ loop-again c =
       reached = expand-turn (loop .inv .reached) (start .pre .0) (by-word .by-word .ensures) (follow .ensures .0);
       noted = λ e h.
           noting-turn (loop .inv .noted e (omega arith)) (loop .inv .low) (follow .ensures .1 .0 .0) (omega (arith, end-of power))
-          (by-word .by-word .ensures) (follow .ensures .1 .1 .1 (loop .inv .same-relation ∙ e) h);
+          (by-word .by-word .ensures) (follow .ensures .1 .1 .1 (omega (arith, loop .inv .same-relation, e)) h);
     }
 
 same-length-4 : tie.Need-same-length-4 Inv-loop μ-loop

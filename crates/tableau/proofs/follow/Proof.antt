@@ -39,10 +39,13 @@ same-length-3 c = search needs
 
 returns-2 : tie.Need-returns-2
 returns-2 c =
-    let start = c .before .before .before .before .before .before .before .before .before .before .before .before .before .before .before .before .before .before .before in
-    let told = c .before .before .before .before .before .before .before .before .before .before .before .before .before .before .target .given .1 in
-    let letter-of = c .before .before .before .before .before .before .before .before .before .before .before .before .letter-of in
-    let add = c .before .before .before .before .before .before .before .before .add in
+    let add-done = c .before .before .before .before .before .before .before .before in
+    let letter-of-done = add-done .before .before .before .before in
+    let target-done = letter-of-done .before .before in
+    let start = target-done .before .before .before .before .before in
+    let told = target-done .target .given .1 in
+    let letter-of = letter-of-done .letter-of in
+    let add = add-done .add in
     let came = add .ensures .1 in
     let note-step = c .before .before .note-step in (
       follow-some (start .args .number) told (letter-of .ensures) (start .pre .0 .room .fits) (add .ensures .0),
