@@ -667,17 +667,17 @@ pub fn go_on(
     ensures { λ r. ⌜ Gone-on (now (rows .entry)) count from to known capacity (now (area .entry)) (now (origins .entry))
         (now (relation .entry)) (now (area .exit)) (now (slots .exit)) (now (origins .exit)) (now (relation .exit)) r ⌝ }
 {
-    let mut all = known;
+    let mut total = known;
     let mut i = from;
     while i < to {
-        if capacity < all {
-            return all;
+        if capacity < total {
+            return total;
         }
-        if all <= i {
-            return all;
+        if total <= i {
+            return total;
         }
         let next = NodeNumber(i);
-        all = expand(
+        total = expand(
             rows,
             count,
             area,
@@ -685,12 +685,12 @@ pub fn go_on(
             origins,
             relation,
             next,
-            all,
+            total,
             capacity,
         );
         i += 1;
     }
-    all
+    total
 }
 
 // The first part: puts the root in, with which the search begins, and goes on up to a number. Slots that hold anything will do.

@@ -40,11 +40,11 @@ gone-on {rows} {count} {capacity = capacity} {all = all} {area} {slots} {o} {rel
 }
 
 abbrev Inv-loop : tie.InvT-loop
-Inv-loop rows count area₀ slots₀ origins₀ relation₀ from to known capacity all₀ i₀ area slots origins relation all i =
-    Turned rows count from to known capacity area₀ origins₀ relation₀ i all area slots origins relation
+Inv-loop rows count area₀ slots₀ origins₀ relation₀ from to known capacity total₀ i₀ area slots origins relation total i =
+    Turned rows count from to known capacity area₀ origins₀ relation₀ i total area slots origins relation
 
 abbrev μ-loop : tie.MeasureT-loop
-μ-loop rows count area₀ slots₀ origins₀ relation₀ from to known capacity all₀ i₀ area slots origins relation all i = to - i
+μ-loop rows count area₀ slots₀ origins₀ relation₀ from to known capacity total₀ i₀ area slots origins relation total i = to - i
 
 loop-holds : tie.Need-loop-holds Inv-loop μ-loop
 loop-holds c =
