@@ -93,7 +93,7 @@ uint64_t yuktrob_search(const uint8_t *rule, size_t rule_len, size_t built, size
 /* The decision of a safety rule, which has greatest fixpoints alone, with room for so many nodes. Such a rule has no bad loop, so there are
  * no profiles to find room for, and no 15. The work area needs YUKTROB_NODES_LEN(nodes) bytes, the course buffer nodes places. The answer
  * and the course are those of yuktrob_decide with as many nodes, wherever that has room for the profiles that it needs; lead-in and loop
- * together have at most K places. More room changes nothing.
+ * together have at most K places. More room changes nothing. The call takes some 150,000 bytes of the stack.
  *
  * 43, which is asked behind reading and before 11, says that the rule has a least fixpoint, and has the place of the first one's byte 09.
  * After MET, NOT and 14 the first YUKTROB_NODES_LEN(nodes) bytes of the work area are zero; otherwise the work area is unchanged. The

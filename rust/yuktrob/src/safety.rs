@@ -40,7 +40,8 @@ pub enum SafetyVerdict<'c> {
 /// 43 says that the rule has a least fixpoint, and has the place of the first one's byte 09. Otherwise the verdict, its lengths, its nodes
 /// and its course are those of [`decide`](crate::decide()) with as many nodes, wherever that has room for the profiles that it needs. More
 /// room changes none of them. After a verdict or 14 the [`nodes_len`](crate::nodes_len) bytes are zero; after any other refusal the work
-/// area is as it was. The course buffer is written by a yes alone, as far as the course goes.
+/// area is as it was. The course buffer is written by a yes alone, as far as the course goes. The call takes some 150,000 bytes of the
+/// stack.
 ///
 /// ```
 /// use yuktrob::{decide_safety, nodes_len, SafetyVerdict};
