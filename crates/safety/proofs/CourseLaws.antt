@@ -1,16 +1,15 @@
 -- From numbers to the verdict. A node with a shortest closed walk, and the first number that has one so short: its stem with the first of
 -- its closed runs as short is the first of all (`cycle-foremost`), since nodes stand in the order of their stems; so both have room in the
--- letters of N nodes (`course-fits`), and are what the definition chooses (`met-is`). Where no number has a closed walk, the definition
--- chooses none (`not-is`). Assumes nothing.
+-- letters of N nodes (`course-fits`), and are what the definition chooses (`chosen-is`). What it chooses is the verdict once the nodes have
+-- room (`concluded-is`), and else it is 14 (`many-is`). Assumes nothing.
 use mathlib.Core.Path.{_≡_, refl, sym, ap, subst, subst⁻¹, _∙_}
 use mathlib.Core.Logic.{inl, inr}
-use mathlib.Core.Bool.{Bool, true}
-use mathlib.Core.List.{List, [], _∷_, _++_, map}
+use mathlib.Core.List.{List, [], _∷_, map}
 use mathlib.Core.Option.{Option, none, some}
 use Prim.Native.Nat.{ℕ, _+_, _≤_, _<_}
 use native.Mathlib.Omega.{arith}
 use native.Mathlib.Decide.{decLt}
-use lib.ListN.{length, getD, length-map}
+use lib.ListN.{length, getD}
 use borrow.Author.Tests.{le-leb, lt-leb}
 use Rattle.base.specs.Order.{Before, NoLater}
 use Rattle.base.specs.Search.{Item}
@@ -18,14 +17,13 @@ use Rattle.base.specs.Lists.{At, here, there}
 use Rattle.base.proofs.At.{at-in, at-get, at-map, at-of}
 use Rattle.base.proofs.OrderLaws.{before-trans, no-later-trans, no-later-first, no-later-rest, no-later-by}
 use Rattle.base.proofs.SortedLaws.{Sorted}
-use Rattle.letters.specs.Requirements.{letter-of}
 use Rattle.distances.specs.Walks as numbers
 use Rattle.formula.specs.Table.{Table}
 use Rattle.tableau.specs.Saturation.{Subset}
 use Rattle.tableau.specs.Transition.{Transition, letter}
 use Rattle.tableau.specs.Nodes.{root, nodes}
 use Rattle.tableau.specs.Run.{Along}
-use Rattle.tableau.specs.Foremost.{choice-words, LassoRun, Foremost, standing}
+use Rattle.tableau.specs.Foremost.{choice-words, Foremost, standing}
 use Rattle.tableau.specs.Origins.{way-letters}
 use Rattle.tableau.specs.Inner.{table-of}
 use Rattle.tableau.proofs.NodeLaws.{by-way, Nearer, nodes-sorted, stem, stem-of, stem-leads, stem-first}
@@ -36,7 +34,7 @@ use Rattle.safety.specs.Safety.{Verdict, cycle-of, chosen, conclude, dec
 use Rattle.safety.specs.Closed.{ClosedRun}
 use Rattle.safety.specs.Inner.{node, Cycle-there, First-closed}
 use Rattle.safety.specs.declared.Shortage.the-variants.{Nodes}
-use Rattle.safety.proofs.FirstCycle.{First-cycle, cycle-first, cycle-none, found-none, found-closed, found-foremost}
+use Rattle.safety.proofs.FirstCycle.{cycle-first, cycle-none, found-none, found-foremost}
 use Rattle.safety.proofs.ShortCourse.{walk-along, foremost-short}
 use Rattle.safety.proofs.NumberWalks.{number-reachable, reachable-number, walk-of, walk-in}
 
@@ -98,18 +96,6 @@ module _ (t : Table) where
     pub concluded-is : decide N t ≡ conclude (nodes t) (chosen t)
     unfolding decide
     concluded-is = rw (le-leb (length (nodes t)) N fits) refl
-
-    pub met-is : {rs ss : List Transition} → Foremost t (ClosedRun t) rs ss
-        → decide N t ≡ Verdict.satisfiable (length rs) (length ss) (node-count t) (map letter (rs ++ ss))
-    unfolding letter-of
-    met-is f =
-        let (x, e, p, q) = chosen-is f in
-        concluded-is ∙ ap (conclude (nodes t)) e
-        ∙ λ i. Verdict.satisfiable (length (p i)) (length (q i)) (node-count t) (map letter (p i ++ q i))
-
-    pub not-is : chosen t ≡ none → decide N t ≡ Verdict.unsatisfiable (node-count t)
-    unfolding letter-of
-    not-is e = concluded-is ∙ ap (conclude (nodes t)) e
 
   pub many-is : {N : ℕ} → N < node-count t → decide N t ≡ Verdict.refused Nodes
   unfolding decide

@@ -25,7 +25,7 @@ use Rattle.tableau.proofs.ChoiceWords.{word-is, transition-one}
 use Rattle.theory.proofs.Walks.{Walk, along-walk, walk-join}
 use Rattle.witness.specs.Letters.{written}
 use Rattle.witness.proofs.WriteLaws.{written-none, written-on}
-use Rattle.safety.specs.Inner.{Far-at, Some-step, First-step, node, Cycle-there, First-closed, Cycle-written}
+use Rattle.safety.specs.Inner.{Far-at, Some-step, First-step, node, Cycle-there, Cycle-written}
 use Rattle.safety.specs.declared.Step.{Step}
 use Rattle.safety.proofs.ShortCourse.{walk-along}
 use Rattle.safety.proofs.NumberWalks.{sized, stands, that-node, target-sized, link-in, walk-of, walk-in}

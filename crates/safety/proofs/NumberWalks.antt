@@ -4,13 +4,13 @@
 -- their numbers (`walk-in`). Assumes nothing.
 use mathlib.Core.Path.{_≡_, refl, sym, ap, subst, subst⁻¹, _∙_}
 use mathlib.Core.List.{List, [], _∷_, map, List·Memᴰ, Memᴰ·map, Memᴰ·cast}
-use Prim.Native.Nat.{ℕ, zero, suc, _+_, _*_, _/_, _≤_, _<_}
+use Prim.Native.Nat.{ℕ, suc, _+_, _*_, _/_, _≤_, _<_}
 use native.Mathlib.Omega.{arith}
 use lib.Dec.{T}
-use lib.ListN.{length, getD, length-map}
+use lib.ListN.{length, length-map}
 use Rattle.base.specs.Bits.{word}
 use Rattle.base.specs.Search.{Item}
-use Rattle.base.proofs.At.{At, at-lt, at-get, at-in, at-of, in-at}
+use Rattle.base.proofs.At.{At, at-lt, at-get, at-of, in-at}
 use Rattle.base.proofs.WordLaws.{word-inj}
 use Rattle.relation.specs.Relation.{linked}
 use Rattle.distances.specs.Walks as numbers

@@ -2,17 +2,16 @@
 -- is what MEANING 5.14 says. Assumes nothing.
 use mathlib.Core.Path.{_≡_, refl, sym, ap, subst, subst⁻¹, _∙_}
 use mathlib.Core.Bool.{Bool, true, false, not, cond}
-use mathlib.Core.List.{List, [], _∷_, _++_, map}
+use mathlib.Core.List.{List, _++_, map}
 use mathlib.Core.Option.{Option, none, some}
-use Prim.Native.Nat.{ℕ, zero, suc, _+_, _-_, _*_, _/_, _≤_, _<_}
+use Prim.Native.Nat.{ℕ, _+_, _*_, _/_, _≤_, _<_}
 use native.Mathlib.Omega.{arith}
 use lib.Dec.{leb}
-use lib.ListN.{length, drop, length-map}
+use lib.ListN.{length, length-map}
 use borrow.Author.Tests.{le-leb, lt-leb, not-true, not-false}
 use Rattle.base.specs.Bits.{word}
 use Rattle.base.specs.Search.{Item}
-use Rattle.formula.specs.Formula.{Formula}
-use Rattle.formula.specs.Table.{Operator, Table, table}
+use Rattle.formula.specs.Table.{Table, table}
 use Rattle.formula.specs.Reading.{Reading, parse}
 use Rattle.formula.specs.declared.Refusal.{Refusal}
 use Rattle.formula.specs.declared.Table.{Table as Stored}
@@ -27,13 +26,13 @@ use Rattle.tableau.specs.Steps.{Steps-before, Steps-noted}
 use Rattle.tableau.specs.Found.{Finding, Has-blocks, Gone-on}
 use Rattle.tableau.proofs.FoundLaws.{gone-held, gone-origins, gone-noted}
 use Rattle.tableau.proofs.NodeReads.{nodes-kept}
-use Rattle.construction.specs.Construction.{between, max-nodes, nodes-size, node-count}
-use Rattle.construction.proofs.BuildLaws.{In-range, range-granted, range-refused}
+use Rattle.construction.specs.Construction.{between, max-nodes, nodes-size}
+use Rattle.construction.proofs.BuildLaws.{range-granted}
 use Rattle.construction.proofs.LayoutLaws.{cleared-front, held-beyond, held-many, held-count}
 use Rattle.safety.specs.Safety.{Verdict, chosen, conclude, decide, ask-room, ask-greatest, first-least, after-reading, verdict}
 use Rattle.safety.specs.Contract as promised
-use Rattle.safety.specs.Contract.{says, leaves, after-shortage, zeroed, Decided}
-use Rattle.safety.specs.Inner.{least, Lent, Room-asked, Nodes-there, concluded, Nodes-ready, Answers, Came-to, Settled}
+use Rattle.safety.specs.Contract.{says, leaves, zeroed, Decided}
+use Rattle.safety.specs.Inner.{least, Lent, Room-asked, concluded, Nodes-ready, Answers, Came-to, Settled}
 use Rattle.safety.specs.declared.Least.{Least}
 use Rattle.safety.specs.declared.Least.the-variants.{At, Nowhere}
 use Rattle.safety.specs.declared.Room.the-variants.{Granted, Short}

@@ -5,7 +5,7 @@ use mathlib.Core.Path.{_≡_, refl, sym, ap, subst, subst⁻¹, _∙_}
 use mathlib.Core.Logic.{inl, inr}
 use mathlib.Core.Bool.{Bool, true, false}
 use mathlib.Core.List.{List, [], _∷_, List·Memᴰ, List·Memᴰ·head, List·Memᴰ·not-nil, List·Memᴰ·eq-of-singleton}
-use Prim.Native.Nat.{ℕ, _*_, _≤_, _<_}
+use Prim.Native.Nat.{ℕ, _*_, _<_}
 use native.Mathlib.Omega.{arith}
 use lib.ListN.{length, getD}
 use Rattle.base.specs.Lists.{member}
@@ -24,7 +24,6 @@ use Rattle.tableau.proofs.TransitionLaws.{one-or-none, transition-with}
 use Rattle.tableau.proofs.TargetLaws.{a-target}
 use Rattle.tableau.proofs.SlotLaws as slots
 use Rattle.safety.specs.Inner.{Nodes-there, Far-at, Onward-of, Goes, Strays}
-use Rattle.safety.specs.declared.Onward.{Onward}
 use Rattle.safety.specs.declared.Onward.the-variants.{Leads, Elsewhere}
 
 -- an element that is there, whatever stands for those that are not

@@ -1,7 +1,7 @@
 -- The decision of formulas whose fixpoints are all greatest: MEANING 5.14. Of such a formula every cycle is accepting
 -- (proofs/EveryCycle.antt), so the witness is the first of the shortest cycles of all nodes, with the way to its node. It is the one that
 -- MEANING 5.4 puts first (proofs/FirstCycle.antt). No profiles are asked for. Assumes nothing.
-use mathlib.Core.Bool.{Bool, cond}
+use mathlib.Core.Bool.{cond}
 use mathlib.Core.List.{List, [], _∷_, _++_, map}
 use mathlib.Core.Option.{Option, none, some}
 use Prim.Native.Nat.{ℕ, _+_, _^_}

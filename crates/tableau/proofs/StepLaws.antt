@@ -4,14 +4,14 @@
 -- Over the nodes: the transitions of the first i of them are noted (`steps-turn`). Assumes nothing.
 use mathlib.Core.Path.{_≡_, refl, sym, ap, subst, subst⁻¹, _∙_}
 use mathlib.Core.Logic.{_⊎_, inl, inr}
-use mathlib.Core.Bool.{Bool, true, false, cond, _&&_, _||_}
+use mathlib.Core.Bool.{Bool, true, false, cond, _&&_}
 use mathlib.Core.List.{List, [], _∷_, List·Memᴰ, List·Memᴰ·not-nil, List·Memᴰ·head, List·Memᴰ·eq-of-singleton}
 use Prim.Native.Nat.{ℕ, zero, suc, _+_, _*_, _^_, _≤_, _<_}
 use native.Mathlib.Omega.{arith}
-use native.Mathlib.Decide.{decLt, ℕ-discrete}
+use native.Mathlib.Decide.{decLt}
 use lib.Dec.{T, eqb, ltb}
 use lib.ListN.{length}
-use borrow.Author.Tests.{eq-eqb, ltb-true, ltb-false, eqb-true}
+use borrow.Author.Tests.{eq-eqb, ltb-true, eqb-true}
 use Rattle.base.specs.Lists.{index, member}
 use Rattle.base.specs.Bits.{word}
 use Rattle.base.specs.Bytes.{with-number}
@@ -21,10 +21,10 @@ use Rattle.formula.specs.Table.{Table}
 use Rattle.letters.specs.declared.Requirement.{Requirement}
 use Rattle.relation.specs.Relation.{linked, Related, Unrelated, Widened}
 use Rattle.tableau.specs.Saturation.{Subset, saturate}
-use Rattle.tableau.specs.Transition.{ors, choice-of, Transition, by-word, transitions}
+use Rattle.tableau.specs.Transition.{ors, choice-of, Transition, by-word}
 use Rattle.tableau.specs.Inner.{table-of, Target-by}
 use Rattle.tableau.specs.Area.{eight, words-at, lookup}
-use Rattle.tableau.specs.Steps.{Located, Stay, Noted, Step-noted, Leads-to, All-noted, Steps-of, Steps-before, Steps-noted}
+use Rattle.tableau.specs.Steps.{Located, Stay, Noted, Step-noted, Leads-to, Steps-of, Steps-before, Steps-noted}
 use Rattle.tableau.specs.declared.NodeNumber.{NodeNumber}
 use Rattle.tableau.specs.declared.Lookup.{Lookup}
 use Rattle.tableau.specs.declared.Lookup.the-variants.{Number, Absent}
@@ -32,7 +32,7 @@ use Rattle.tableau.specs.declared.Target.{Target}
 use Rattle.tableau.specs.declared.Target.the-variants.{Leads, Nothing}
 use Rattle.tableau.proofs.TransitionLaws.{word-of, word-in, transition-with}
 use Rattle.tableau.proofs.TargetLaws.{a-target, target-nowhere}
-use Rattle.tableau.proofs.AreaLaws.{words-length, absent-member}
+use Rattle.tableau.proofs.AreaLaws.{absent-member}
 
 -- the word with the number that a lookup gives
 index-word : (a : List ℕ) (x i n : ℕ) → index (eqb x) (words-at a i n) < n → eight a (8 * (i + index (eqb x) (words-at a i n))) ≡ x

@@ -46,7 +46,8 @@ struct Added {
     at: NodeNumber,
 }
 
-// What one pass over a set of subformulas gathers: the two words of what it requires, whether it holds false, and the operands of its nexts.
+// What one pass over a set of subformulas gathers: the two words of what it requires, whether it holds false, and the operands of its
+// nexts.
 struct Gathered {
     present: u16,
     absent: u16,

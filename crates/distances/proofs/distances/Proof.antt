@@ -1,7 +1,7 @@
 -- `distances::distances` goes from level to level (`Search`) until the searched vertex is met again, a level is empty, or the bound is
 -- reached.
 use borrow.Author.Needs.{needs}
-use mathlib.Core.Path.{refl, sym, _∙_}
+use mathlib.Core.Path.{refl}
 use Rattle.distances.proofs.SetLaws.{has-of, has-not}
 use Rattle.distances.proofs.WalkLaws.{walk-covered, rows-of}
 use Prim.Native.Nat.{_-_, _≤_}

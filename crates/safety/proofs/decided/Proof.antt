@@ -1,5 +1,5 @@
 -- `safety::decided` asks 43, then 11 to 13, and then 14 and what comes behind; what the nodes were in is cleared.
-use mathlib.Core.Path.{_≡_, subst}
+use mathlib.Core.Path.{subst}
 use native.Mathlib.Omega.{arith}
 use lib.ListN.{length}
 use Rattle.tableau.specs.Inner.{table-of}

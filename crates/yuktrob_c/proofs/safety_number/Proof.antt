@@ -1,5 +1,5 @@
 -- `yuktrob_c::safety_number`: in each arm the number is that of the variant which the answer was found to be. Assumes nothing.
-use mathlib.Core.Path.{_≡_, sym, ap, subst, _∙_}
+use mathlib.Core.Path.{sym, ap, subst, _∙_}
 use Prim.Native.Nat.{ℕ, _≤_}
 use native.Mathlib.Omega.{arith}
 use Rattle.yuktrob_c.specs.Numbers.{number, SafetyFits, safety-number}
