@@ -1,4 +1,4 @@
--- The number that stands for each answer: its lowest byte is the number of a refusal (MEANING 1.4, 2.5, 5.2, 5.11, 5.12, 5.14), or 0, and
+-- The number that stands for each answer: its lowest byte is the number of a refusal (MEANING 1.4, 2.5, 5.2, 5.11, 5.12, 5.14, 9.3), or 0, and
 -- what the answer carries stands above it. include/yuktrob.h says the same in C. Assumes nothing.
 use mathlib.Core.Bool.{cond}
 use mathlib.Core.List.{List}
@@ -23,6 +23,8 @@ use Rattle.safety.specs.Safety as safe
 use Rattle.safety.specs.Contract.{shortage-code}
 use Rattle.safety.specs.declared.Verdict as safe-code
 use Rattle.safety.specs.declared.Verdict.the-variants as safety
+use Rattle.catalogue.specs.declared.Location.{Location}
+use Rattle.catalogue.specs.Contract.{code, layer-told}
 
 -- the number of a refusal, or 0, with what is carried
 abbrev pub number : (code carried : ℕ) → ℕ
@@ -72,6 +74,10 @@ safety-number (safety.Unsatisfiable K) = number 0 (found 0 0 0 K 0)
 safety-number (safety.Refused s) = number (shortage-code s) 0
 safety-number (safety.LeastAt place) = number 43 place
 safety-number (safety.Unread why) = refusal-number why
+
+-- a formula by its number: which of the two catalogues; its place and size, or a fault's place, are in words of their own
+abbrev pub location-number : Location → ℕ
+location-number l = number (code l) (layer-told l)
 
 -- the definition's verdict, by the formula's bytes, the capacities and the lent areas
 abbrev pub verdict-of : (bytes : List ℕ) (N M : ℕ) (workspace buffer : List ℕ) → meaning.Verdict

@@ -1,4 +1,6 @@
-// The operations with the C calling convention: a slice comes as a pointer and a length, and each answer is one number.
+// The operations with the C calling convention: a slice comes as a pointer and a length, and each answer is one number; what can be any
+// place in memory does not fit beside a refusal, and is put into words that the caller lends.
+use catalogue::Location;
 use construction::Construction;
 use decision::Verdict;
 use formula::Operator;
@@ -23,6 +25,9 @@ ghost use Rattle.yuktrob_c.specs.Numbers.{construction-number, construct
 ghost use Rattle.safety.specs.Contract as safe;
 ghost use Rattle.yuktrob_c.specs.Numbers.{safety-number, safety-of, SafetyFits};
 ghost use Rattle.yuktrob_c.specs.Entry.{argument-of, packed, entry-number};
+ghost use Rattle.catalogue.specs.Location.{location};
+ghost use Rattle.catalogue.specs.Contract.{place-told, size-told};
+ghost use Rattle.yuktrob_c.specs.Numbers.{location-number};
 
 // The lowest byte is a refusal's code or 0; what the answer carries stands above it.
 fn number(code: u8, carried: usize) -> u64
@@ -252,4 +257,29 @@ pub extern "C" fn yuktrob_decide_safety(
         (safety-of (now (rule .entry)) nodes (now (work .entry)) (now (course .entry))) (now (work .entry)) ⌝ }
 {
     safety_number(safety::decide_safety(rule, nodes, work, course))
+}
+
+fn location_number(l: Location) -> u64
+    ensures { λ r. ⌜ r ≡ location-number l ⌝ }
+{
+    number(catalogue::code_of(l), catalogue::layer_of(l))
+}
+
+// Where the formula of a number is, in an overlay [the dealer's sheet] or a base catalogue [the factory's].
+#[no_mangle]
+pub extern "C" fn yuktrob_lookup(
+    dealer: &[u8],
+    factory: &[u8],
+    number: u16,
+    start: &mut usize,
+    size: &mut usize,
+) -> u64
+    ensures numbered { λ r. ⌜ r ≡ location-number (location (now (dealer .entry)) (now (factory .entry)) number) ⌝ }
+    ensures placed { λ _. ⌜ now (start .exit) ≡ place-told (location (now (dealer .entry)) (now (factory .entry)) number) ⌝ }
+    ensures measured { λ _. ⌜ now (size .exit) ≡ size-told (location (now (dealer .entry)) (now (factory .entry)) number) ⌝ }
+{
+    let l = catalogue::locate(dealer, factory, number);
+    *start = catalogue::place_of(l);
+    *size = catalogue::size_of(l);
+    location_number(l)
 }

@@ -1,0 +1,6 @@
+pub mod Catalogue
+pub mod Records
+pub mod Faults
+pub mod Location
+pub mod Contract
+pub mod Inner
