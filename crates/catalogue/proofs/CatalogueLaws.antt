@@ -1,11 +1,12 @@
 -- Going through a byte string finds whole records to the end exactly if it is a catalogue, and then the records of its entries, in order
 -- (`catalogue-records`, `records-catalogue`). Assumes nothing.
 use mathlib.Core.Path.{_≡_, refl, sym, ap, subst, _∙_}
-use mathlib.Core.List.{List, [], _∷_, _++_}
+use mathlib.Core.Logic.{_⊎_, inl, inr}
+use mathlib.Core.List.{List, [], _∷_, _++_, List·Memᴰ, List·Memᴰ·head, List·Memᴰ·tail, List·Memᴰ·not-nil, List·Memᴰ·cases-cons}
 use Prim.Native.Nat.{ℕ, suc, _+_, _*_, _-_, _≤_, _<_}
 use native.Mathlib.Omega.{arith}
 use lib.ListN.{length, getD, take, drop, length-append, length-drop, take-append-drop, drop-of-length-le}
-use lib.Seq.{length-take-le, drop-cons, drop-drop, getD-drop, drop-append-seam}
+use lib.Seq.{length-take-le, drop-cons, drop-drop, getD-drop, take-append-seam, drop-append-seam}
 use Rattle.base.specs.Lists.{flat-map}
 use Rattle.catalogue.specs.Catalogue.{mark, Entry, number, spelled, written, Rising, Catalogue, placed}
 use Rattle.catalogue.specs.Records.{byte, number-of, size-of, end-of, record-of, Records, behind, records-from, records}
@@ -13,7 +14,7 @@ use Rattle.catalogue.specs.Faults.{Whole-at}
 use Rattle.catalogue.specs.declared.Record.{Record}
 use Rattle.catalogue.proofs.RecordLaws.{at-end, at-whole}
 use Rattle.catalogue.proofs.RecordsLaws.{records-end, records-whole}
-use Rattle.catalogue.proofs.RunLaws.{Whole-run, Run, records-run}
+use Rattle.catalogue.proofs.RunLaws.{Whole-run, whole-run}
 
 -- the two bytes of a number
 two-bytes : (bytes : List ℕ) (at : ℕ) → number-of bytes at ≡ byte bytes (at + 1) + 256 * byte bytes (at + 2)
@@ -147,6 +148,52 @@ pub record Catalogued (bytes : List ℕ) (rs : List Record) : Type 0 where
   pub laid : rs ≡ placed 0 entries
 
 pub records-catalogue : (bytes : List ℕ) {rs : List Record} → records bytes ≡ Records.whole rs → Catalogued bytes rs
-records-catalogue bytes {rs} e =
-    let t = run-entries (subst (Run bytes 0 0) e (records-run bytes 0 0)) in
+records-catalogue bytes e =
+    let t = run-entries (whole-run bytes e) in
     record { entries = t .entries; catalogue = record { rising = t .rising; is = t .is }; laid = t .laid }
+
+-- ---- entries and where they stand
+-- the formula of a record is the entry's, and the numbers are the same
+pub record Of-entry (bytes : List ℕ) (es : List Entry) (r : Record) : Type 0 where
+  pub entry : Entry
+  pub present : List·Memᴰ entry es
+  pub numbers : r .number ≡ number entry
+  pub formula : take (r .size) (drop (r .start) bytes) ≡ entry .formula
+
+first-entry : (bytes : List ℕ) (at : ℕ) (e : Entry) (es : List Entry) → drop at bytes ≡ written (e ∷ es) → (r : Record)
+    → r ≡ record { number = number e; start = at + 4; size = length (e .formula) } → Of-entry bytes (e ∷ es) r
+first-entry bytes at e es d r i = record {
+  entry = e;
+  present = List·Memᴰ·head refl;
+  numbers = ap (λ (r : Record). r .number) i;
+  formula =
+      ap (λ (r : Record). take (r .size) (drop (r .start) bytes)) i
+      ∙ ap (take (length (e .formula))) (sym (drop-drop 4 at bytes) ∙ ap (drop 4) d)
+      ∙ take-append-seam (e .formula) (written es);
+}
+
+placed-of : (bytes : List ℕ) (at : ℕ) (es : List Entry) → at ≤ length bytes → drop at bytes ≡ written es
+    → (r : Record) → List·Memᴰ r (placed at es) → Of-entry bytes es r
+placed-of bytes at [] b d r m = absurd (List·Memᴰ·not-nil m)
+placed-of bytes at (e ∷ es) b d r m =
+    let w = written-at bytes at e (written es) b d in
+    elim (List·Memᴰ·cases-cons m) [
+      | inl i ↦ first-entry bytes at e es d r i
+      | inr k ↦ behind-first (placed-of bytes (at + 4 + length (e .formula)) es (omega (arith, w .whole .ended, w .sizes)) (w .left) r k)
+    ]
+  where
+    behind-first : Of-entry bytes es r → Of-entry bytes (e ∷ es) r
+    behind-first o =
+        record { entry = o .entry; present = List·Memᴰ·tail (o .present); numbers = o .numbers; formula = o .formula }
+
+-- every record of a catalogue is an entry's, and every entry has one
+pub entry-of : {bytes : List ℕ} {es : List Entry} → Catalogue bytes es → (r : Record) → List·Memᴰ r (placed 0 es) → Of-entry bytes es r
+entry-of {bytes} {es} c = placed-of bytes 0 es (omega arith) (sym (c .is))
+
+pub placed-in : (at : ℕ) (es : List Entry) (e : Entry) → List·Memᴰ e es → (r : Record) × List·Memᴰ r (placed at es) × (r .number ≡ number e)
+placed-in at [] e m = absurd (List·Memᴰ·not-nil m)
+placed-in at (d ∷ es) e m =
+    elim (List·Memᴰ·cases-cons m) [
+      | inl i ↦ (_, List·Memᴰ·head refl, ap number (sym i))
+      | inr k ↦ let (r, l, h) = placed-in (at + 4 + length (d .formula)) es e k in (r, List·Memᴰ·tail l, h)
+    ]

@@ -10,7 +10,7 @@ use Rattle.catalogue.specs.Records.{Records, records, end-of}
 use Rattle.catalogue.specs.Faults.{Whole-at, Due-at, Fault-at, Fault-from, Has-fault}
 use Rattle.catalogue.specs.declared.Record.{Record}
 use Rattle.catalogue.proofs.RecordLaws.{whole-faultless}
-use Rattle.catalogue.proofs.RunLaws.{Whole-run, Damaged-run, Run, records-run}
+use Rattle.catalogue.proofs.RunLaws.{Whole-run, Damaged-run, Run, records-run, whole-run}
 
 -- ---- places
 due-behind : {bytes : List ℕ} {from least at next : ℕ} → Due-at bytes from least at next → from ≤ at
@@ -65,9 +65,7 @@ least-fault bytes {p} e =
     record { is-fault = damaged-fault run; least = λ q f. damaged-due run (f .2) (f .3) }
 
 pub whole-no-fault : (bytes : List ℕ) {rs : List Record} → records bytes ≡ Records.whole rs → (q : ℕ) → Has-fault bytes q → ⊥
-whole-no-fault bytes {rs} e q f =
-    let run : Whole-run bytes 0 0 rs = subst (Run bytes 0 0) e (records-run bytes 0 0) in
-    whole-due run (f .2) (f .3)
+whole-no-fault bytes e q f = whole-due (whole-run bytes e) (f .2) (f .3)
 
 -- So where the least fault is settles the place, and a byte string with a fault is damaged.
 pub damaged-exactly : (bytes : List ℕ) (p : ℕ) → Least-fault bytes p → records bytes ≡ Records.damaged p

@@ -6,3 +6,5 @@ pub mod CatalogueLaws
 pub mod ScanLaws
 pub mod LocationLaws
 pub mod ViewLaws
+pub mod OverlayLaws
+pub mod Examples

@@ -5,9 +5,10 @@ use mathlib.Core.Logic.{_⊎_, inl, inr}
 use mathlib.Core.List.{List, [], _∷_, List·Memᴰ, List·Memᴰ·cases-cons, List·Memᴰ·not-nil}
 use Prim.Native.Nat.{ℕ, zero, suc, _+_, _≤_, _<_}
 use native.Mathlib.Omega.{arith}
-use lib.ListN.{length}
+use lib.ListN.{length, getD}
+use Rattle.base.proofs.BytesLaws.{number-small}
 use Rattle.base.proofs.SortedLaws.{Sorted}
-use Rattle.catalogue.specs.Records.{record-at, Records, behind, onward, number-of, end-of, record-of, records-within, records-from}
+use Rattle.catalogue.specs.Records.{record-at, Records, behind, onward, number-of, end-of, record-of, records-within, records-from, records}
 use Rattle.catalogue.specs.Faults.{Whole-at, Fault-at}
 use Rattle.catalogue.specs.declared.Record.{Record}
 use Rattle.catalogue.specs.declared.Due.{Due}
@@ -50,6 +51,9 @@ pub records-run : (bytes : List ℕ) (at least : ℕ) → Run bytes at least (re
 unfolding records-from
 records-run bytes at least = run-within (length bytes) bytes at least (omega arith)
 
+pub whole-run : (bytes : List ℕ) {rs : List Record} → records bytes ≡ Records.whole rs → Whole-run bytes 0 0 rs
+whole-run bytes e = subst (Run bytes 0 0) e (records-run bytes 0 0)
+
 -- ---- what is so of every record
 -- It stands somewhere, whole.
 pub record Stands-in (bytes : List ℕ) (r : Record) : Type 0 where
@@ -80,3 +84,16 @@ pub run-rising : {bytes : List ℕ} {at least : ℕ} {rs : List Record} → Whol
 run-rising (Whole-run.ends h) = Sorted.none
 run-rising {bytes} (Whole-run.goes {at} w l run) =
     Sorted.more {x = record-of bytes at} (λ s m. let k = run-least run s m in omega arith) (run-rising run)
+
+-- There are numbers for no more than 65,536 records, however long the bytes are.
+run-few : {bytes : List ℕ} {at least : ℕ} {rs : List Record} → ((i : ℕ) → getD bytes i 0 < 256) → least ≤ 65536
+    → Whole-run bytes at least rs → least + length rs ≤ 65536
+run-few b h (Whole-run.ends e) = omega arith
+run-few {bytes} b h (Whole-run.goes {at} w l run) =
+    let n = number-small 2 bytes (at + 1) b in
+    let k = run-few b (omega arith) run in
+    omega arith
+
+pub few-records : (bytes : List ℕ) {rs : List Record} → ((i : ℕ) → getD bytes i 0 < 256) → records bytes ≡ Records.whole rs
+    → length rs ≤ 65536
+few-records bytes b e = let k = run-few b (omega arith) (whole-run bytes e) in omega arith

@@ -10,7 +10,7 @@ use lib.Dec.{eqb}
 use lib.ListN.{length}
 use borrow.Author.Tests.{eq-eqb, ne-eqb}
 use Rattle.catalogue.specs.Records.{Records, record-at, behind, records-from, records}
-use Rattle.catalogue.specs.Location.{numbered, ask-whole, chosen, location}
+use Rattle.catalogue.specs.Location.{numbered, chosen, asked, location}
 use Rattle.catalogue.specs.Inner.{kept, span, before, gone-on, scanned, told}
 use Rattle.catalogue.specs.declared.Record.{Record}
 use Rattle.catalogue.specs.declared.Due.the-variants.{End, Fault, Whole}
@@ -81,9 +81,7 @@ told-broken : (o : Option Record) (p : ℕ) → told (span o) (Broken p) ≡ Dam
 told-broken (some r) p = refl
 told-broken none p = refl
 
-asked-in-order : (n : ℕ) (os bs : Records)
-    → told (scanned n os) (scanned n bs)
-    ≡ ask-whole Overlay os (λ os. ask-whole Base bs (λ bs. chosen (numbered n os) (numbered n bs)))
+asked-in-order : (n : ℕ) (os bs : Records) → told (scanned n os) (scanned n bs) ≡ asked os bs n
 asked-in-order n (Records.damaged p) bs = refl
 asked-in-order n (Records.whole os) (Records.damaged p) = told-broken (numbered n os) p
 asked-in-order n (Records.whole os) (Records.whole bs) = told-chosen (numbered n os) (numbered n bs)

@@ -27,8 +27,11 @@ chosen none (some r) = Found Base (r .start) (r .size)
 chosen none none = Missing
 
 -- the questions in their order: 30 of the overlay, 30 of the base catalogue, 31
-abbrev pub location : (overlay base : List ℕ) (number : ℕ) → Location
-location overlay base number =
-    ask-whole Overlay (records overlay) (λ os.
-    ask-whole Base (records base) (λ bs.
+abbrev pub asked : (overlay base : Records) (number : ℕ) → Location
+asked overlay base number =
+    ask-whole Overlay overlay (λ os.
+    ask-whole Base base (λ bs.
     chosen (numbered number os) (numbered number bs)))
+
+abbrev pub location : (overlay base : List ℕ) (number : ℕ) → Location
+location overlay base number = asked (records overlay) (records base) number
