@@ -3,7 +3,7 @@
 use mathlib.Core.Path.{_≡_, refl, sym, subst}
 use mathlib.Core.Logic.{_⊎_, inl, inr}
 use mathlib.Core.List.{List, [], _∷_, List·Memᴰ, List·Memᴰ·cases-cons, List·Memᴰ·not-nil}
-use Prim.Native.Nat.{ℕ, zero, suc, _+_, _≤_, _<_}
+use Prim.Native.Nat.{ℕ, zero, suc, _+_, _*_, _≤_, _<_}
 use native.Mathlib.Omega.{arith}
 use lib.ListN.{length, getD}
 use Rattle.base.proofs.BytesLaws.{number-small}
@@ -85,15 +85,24 @@ run-rising (Whole-run.ends h) = Sorted.none
 run-rising {bytes} (Whole-run.goes {at} w l run) =
     Sorted.more {x = record-of bytes at} (λ s m. let k = run-least run s m in omega arith) (run-rising run)
 
--- There are numbers for no more than 65,536 records, however long the bytes are.
-run-few : {bytes : List ℕ} {at least : ℕ} {rs : List Record} → ((i : ℕ) → getD bytes i 0 < 256) → least ≤ 65536
-    → Whole-run bytes at least rs → least + length rs ≤ 65536
-run-few b h (Whole-run.ends e) = omega arith
-run-few {bytes} b h (Whole-run.goes {at} w l run) =
-    let n = number-small 2 bytes (at + 1) b in
-    let k = run-few b (omega arith) run in
-    omega arith
+-- ---- how much there can be
+module _ (bytes : List ℕ) (b : (i : ℕ) → getD bytes i 0 < 256) where
+  -- There are numbers for no more than 65,536 records, however long the bytes are.
+  run-few : {at least : ℕ} {rs : List Record} → least ≤ 65536 → Whole-run bytes at least rs → least + length rs ≤ 65536
+  run-few h (Whole-run.ends e) = omega arith
+  run-few h (Whole-run.goes {at} w l run) =
+      let n = number-small 2 bytes (at + 1) b in
+      let k = run-few (omega arith) run in
+      omega arith
 
-pub few-records : (bytes : List ℕ) {rs : List Record} → ((i : ℕ) → getD bytes i 0 < 256) → records bytes ≡ Records.whole rs
-    → length rs ≤ 65536
-few-records bytes b e = let k = run-few b (omega arith) (whole-run bytes e) in omega arith
+  -- A record has at most 259 bytes.
+  run-short : {at least : ℕ} {rs : List Record} → Whole-run bytes at least rs → length bytes ≤ at + 259 * length rs
+  run-short (Whole-run.ends e) = omega arith
+  run-short (Whole-run.goes {at} w l run) = let k = run-short run in omega (arith, b (at + 3))
+
+  pub few-records : {rs : List Record} → records bytes ≡ Records.whole rs → (length rs ≤ 65536) × (length bytes ≤ 16973824)
+  few-records e =
+      let run = whole-run bytes e in
+      let k = run-few (omega arith) run in
+      let h = run-short run in
+      (omega arith, omega arith)

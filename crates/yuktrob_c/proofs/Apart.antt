@@ -15,7 +15,10 @@ use Rattle.formula.specs.declared.Refusal.{Refusal}
 use Rattle.formula.specs.declared.Refusal.the-variants.{AtByte, Unguarded}
 use Rattle.formula.proofs.Fuel.{Stopped, parse-stopped}
 use Rattle.formula.proofs.Early.{parse-early}
-use Rattle.yuktrob_c.specs.Numbers.{number, refusal-number, found, Letters-16, Early}
+use Rattle.catalogue.specs.Contract.{code, layer-told}
+use Rattle.catalogue.specs.declared.Location.{Location}
+use Rattle.catalogue.specs.declared.Location.the-variants.{Found, Damaged, Missing}
+use Rattle.yuktrob_c.specs.Numbers.{number, refusal-number, found, location-number, Letters-16, Early}
 use Rattle.yuktrob_c.specs.Entry.{argument-of, packed}
 
 -- where there is no place the bits are 0
@@ -127,3 +130,12 @@ entry-apart o end h i j =
       argument-is = part n (256 * c) 65536 a 256 end (omega arith) (omega (arith, h)) i;
       end-is = part n (256 * c + 65536 * a) 16777216 end 256 0 (omega arith) (omega (arith, h, i)) j;
     }
+
+-- the header's yuktrob_refusal and yuktrob_sheet: a shift by 8 bits
+code-small : (l : Location) → code l < 256
+code-small (Found layer start size) = omega arith
+code-small (Damaged layer place) = omega arith
+code-small Missing = omega arith
+
+pub location-apart : (l : Location) → (location-number l % 256 ≡ code l) × (location-number l / 256 ≡ layer-told l)
+location-apart l = number-apart (code l) (layer-told l) (code-small l)
