@@ -1,13 +1,12 @@
 -- Going through a byte string finds whole records to the end exactly if it is a catalogue, and then the records of its entries, in order
 -- (`catalogue-records`, `records-catalogue`). Assumes nothing.
 use mathlib.Core.Path.{_≡_, refl, sym, ap, subst, _∙_}
-use mathlib.Core.Logic.{_⊎_, inl, inr}
+use mathlib.Core.Logic.{inl, inr}
 use mathlib.Core.List.{List, [], _∷_, _++_, List·Memᴰ, List·Memᴰ·head, List·Memᴰ·tail, List·Memᴰ·not-nil, List·Memᴰ·cases-cons}
 use Prim.Native.Nat.{ℕ, suc, _+_, _*_, _-_, _≤_, _<_}
 use native.Mathlib.Omega.{arith}
 use lib.ListN.{length, getD, take, drop, length-append, length-drop, take-append-drop, drop-of-length-le}
 use lib.Seq.{length-take-le, drop-cons, drop-drop, getD-drop, take-append-seam, drop-append-seam}
-use Rattle.base.specs.Lists.{flat-map}
 use Rattle.catalogue.specs.Catalogue.{mark, Entry, number, spelled, written, Rising, Catalogue, placed}
 use Rattle.catalogue.specs.Records.{byte, number-of, size-of, end-of, record-of, Records, behind, records-from, records}
 use Rattle.catalogue.specs.Faults.{Whole-at}
@@ -115,7 +114,8 @@ module _ (bytes : List ℕ) (at : ℕ) (w : Whole-at bytes at) where
       ∙ ap (λ z. mark ∷ low ∷ high ∷ z ∷ drop (at + 4) bytes) entry-size
       ∙ ap (λ l. mark ∷ low ∷ high ∷ length (entry-at bytes at .formula) ∷ l) parted)
 
-  placed-as : {rs : List Record} (es : List Entry) {n z : ℕ} → number-of bytes at ≡ n → size-of bytes at ≡ z → rs ≡ placed (end-of bytes at) es
+  placed-as : {rs : List Record} (es : List Entry) {n z : ℕ} → number-of bytes at ≡ n → size-of bytes at ≡ z
+      → rs ≡ placed (end-of bytes at) es
       → record-of bytes at ∷ rs ≡ record { number = n; start = at + 4; size = z } ∷ placed (at + 4 + z) es
   placed-as es {n} p q r =
       ap (λ l. record-of bytes at ∷ l) r

@@ -2,16 +2,15 @@
 -- catalogues are whole, and the part lies within its catalogue (`location-within`); damage is told whatever the other bytes and the number
 -- are. Assumes nothing.
 use mathlib.Core.Path.{_≡_, refl, sym, ap, subst, _∙_}
-use mathlib.Core.Logic.{_⊎_, inl, inr}
-use mathlib.Core.Bool.{Bool}
+use mathlib.Core.Logic.{inl, inr}
 use mathlib.Core.List.{List, List·Memᴰ}
 use mathlib.Core.Option.{Option, none, some}
 use Prim.Native.Nat.{ℕ, _+_, _≤_}
 use native.Mathlib.Omega.{arith}
 use lib.Dec.{T, eqb, eqb→eq, eqb-refl}
 use lib.ListN.{length}
-use Rattle.base.proofs.FirstLaws.{first-none, first-some, Least}
-use Rattle.base.proofs.SortedLaws.{Sorted, sorted-either}
+use Rattle.base.proofs.FirstLaws.{first-none, first-some}
+use Rattle.base.proofs.SortedLaws.{sorted-either}
 use Rattle.catalogue.specs.Records.{Records, records}
 use Rattle.catalogue.specs.Location.{numbered, chosen, asked, location}
 use Rattle.catalogue.specs.declared.Record.{Record}
@@ -19,7 +18,7 @@ use Rattle.catalogue.specs.declared.Layer.{Layer}
 use Rattle.catalogue.specs.declared.Layer.the-variants.{Overlay, Base}
 use Rattle.catalogue.specs.declared.Location.{Location}
 use Rattle.catalogue.specs.declared.Location.the-variants.{Found, Damaged, Missing}
-use Rattle.catalogue.proofs.RunLaws.{whole-run, Stands-in, run-stands, Below, run-rising}
+use Rattle.catalogue.proofs.RunLaws.{whole-run, run-stands, Below, run-rising}
 
 -- ---- one catalogue
 -- At most one record of a catalogue has a number.
@@ -132,8 +131,8 @@ pub damaged-overlay : (overlay : List ℕ) {p : ℕ} → records overlay ≡ Rec
     → (base : List ℕ) (n : ℕ) → location overlay base n ≡ Damaged Overlay p
 damaged-overlay overlay e base n = location-by overlay base n e refl
 
-pub damaged-base : (overlay base : List ℕ) {os : List Record} {p : ℕ} → records overlay ≡ Records.whole os → records base ≡ Records.damaged p
-    → (n : ℕ) → location overlay base n ≡ Damaged Base p
+pub damaged-base : (overlay base : List ℕ) {os : List Record} {p : ℕ} → records overlay ≡ Records.whole os
+    → records base ≡ Records.damaged p → (n : ℕ) → location overlay base n ≡ Damaged Base p
 damaged-base overlay base d e n = location-by overlay base n d e
 
 -- ---- for the code: a location that was matched, and its layer behind it

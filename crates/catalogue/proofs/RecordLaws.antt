@@ -1,12 +1,12 @@
 -- What stands where a record is due, by the questions in their order: which answers lead to which outcome (for the code), and what each
 -- outcome says of the bytes (`record-stands`, for all laws above). Assumes nothing.
 use mathlib.Core.Path.{_≡_, refl, sym, ap, subst, _∙_}
-use mathlib.Core.Bool.{Bool, true, false, cond, _||_}
+use mathlib.Core.Bool.{true, cond, _||_}
 use mathlib.Core.List.{List}
 use mathlib.Core.Logic.{_⊎_, ⊎-elim}
-use Prim.Native.Nat.{ℕ, suc, _+_, _≤_, _<_}
+use Prim.Native.Nat.{ℕ, _+_, _≤_, _<_}
 use native.Mathlib.Omega.{arith}
-use lib.Dec.{T, eqb, leb, leb→le, le→leb, eqb→eq}
+use lib.Dec.{T, eqb, leb, leb→le, eqb→eq}
 use lib.ListN.{length}
 use borrow.Author.Tests.{leb-false, le-leb, lt-leb, eq-eqb, ne-eqb}
 use Rattle.base.specs.Ask.{ask}
@@ -124,7 +124,8 @@ module _ (bytes : List ℕ) (at least : ℕ) where
   sized-stands : at < length bytes → byte bytes at ≡ mark → (at + 2 < length bytes → least ≤ number-of bytes at)
       → Stands bytes at least sized
   sized-stands h m r =
-      by-test (leb (end-of bytes at) (length bytes)) (λ b. Stands bytes at least (ask b (Fault (length bytes)) (Whole (record-of bytes at))))
+      by-test (leb (end-of bytes at) (length bytes))
+      (λ b. Stands bytes at least (ask b (Fault (length bytes)) (Whole (record-of bytes at))))
       (λ t. let e = leb→le (end-of bytes at) (length bytes) t in
       Stands.whole (record { marked = m; ended = e }) (r (omega arith)))
       (λ n. Stands.faulty (Fault-at.cut-short h m (not-leb (end-of bytes at) (length bytes) n)) (cut-least m r))

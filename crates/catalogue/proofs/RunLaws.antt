@@ -1,14 +1,14 @@
 -- The records of a byte string by what stands at each place, with nothing said of how they are looked for (`records-run`): whole records
 -- with rising numbers up to the end, or up to a place where something is wrong. All laws of catalogues go by these two. Assumes nothing.
-use mathlib.Core.Path.{_≡_, refl, sym, subst}
-use mathlib.Core.Logic.{_⊎_, inl, inr}
+use mathlib.Core.Path.{_≡_, sym, subst}
+use mathlib.Core.Logic.{inl, inr}
 use mathlib.Core.List.{List, [], _∷_, List·Memᴰ, List·Memᴰ·cases-cons, List·Memᴰ·not-nil}
 use Prim.Native.Nat.{ℕ, zero, suc, _+_, _*_, _≤_, _<_}
 use native.Mathlib.Omega.{arith}
 use lib.ListN.{length, getD}
 use Rattle.base.proofs.BytesLaws.{number-small}
 use Rattle.base.proofs.SortedLaws.{Sorted}
-use Rattle.catalogue.specs.Records.{record-at, Records, behind, onward, number-of, end-of, record-of, records-within, records-from, records}
+use Rattle.catalogue.specs.Records.{Records, behind, onward, number-of, end-of, record-of, records-within, records-from, records}
 use Rattle.catalogue.specs.Faults.{Whole-at, Fault-at}
 use Rattle.catalogue.specs.declared.Record.{Record}
 use Rattle.catalogue.specs.declared.Due.{Due}
@@ -40,7 +40,9 @@ run-onward : {bytes : List ℕ} {at least : ℕ} (rest : (at least : ℕ) → Re
 run-onward rest (Stands.ended h) f = Whole-run.ends h
 run-onward rest (Stands.faulty g m) f = Damaged-run.breaks g m
 run-onward {bytes} {at} {least} rest (Stands.whole w l) f =
-    run-behind bytes at least w l (rest (end-of bytes at) (number-of bytes at + 1)) (f (end-of bytes at) (number-of bytes at + 1) (omega arith))
+    let end = end-of bytes at in
+    let next = number-of bytes at + 1 in
+    run-behind bytes at least w l (rest end next) (f end next (omega arith))
 
 run-within : (n : ℕ) (bytes : List ℕ) (at least : ℕ) → length bytes ≤ at + n → Run bytes at least (records-within n bytes at least)
 run-within zero bytes at least h = Whole-run.ends {at = at} (omega arith)

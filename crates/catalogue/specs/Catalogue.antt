@@ -1,7 +1,7 @@
 -- What a catalogue is (MEANING 9.1; document 02: a sheet): formulas with their numbers, one record each, one record behind another.
 -- Assumes nothing.
 use mathlib.Core.Path.{_≡_}
-use mathlib.Core.List.{List, [], _∷_, _++_}
+use mathlib.Core.List.{List, [], _∷_}
 use Prim.Native.Nat.{ℕ, _+_, _*_, _≤_}
 use lib.ListN.{length}
 use Rattle.base.specs.Lists.{flat-map}

@@ -18,8 +18,8 @@ pub data Due-at (bytes : List ℕ) : (from least at next : ℕ) → Type 0 where
   later : {from least at next : ℕ} → Whole-at bytes from → Due-at bytes (end-of bytes from) (number-of bytes from + 1) at next
       → Due-at bytes from least at next
 
--- What is wrong where a record is due, and the place that is told: another byte than the mark, its own place; both bytes of a number that is
--- too small, the place of the low one; a record that is cut short, the length of the whole.
+-- What is wrong where a record is due, and the place that is told: another byte than the mark, its own place; a number that is too small,
+-- if both its bytes are there, the place of the low one; a record that is cut short, the length of the whole.
 pub data Fault-at (bytes : List ℕ) (at least : ℕ) : (place : ℕ) → Type 0 where
   unmarked : at < length bytes → (byte bytes at ≡ mark → ⊥) → Fault-at bytes at least at
   unrisen : byte bytes at ≡ mark → at + 2 < length bytes → number-of bytes at < least → Fault-at bytes at least (at + 1)

@@ -1,5 +1,5 @@
--- The records of a byte string, one after another, or the place where it is damaged (MEANING 9.2). That this says what a catalogue is, and
--- where the least of all faults of one that is none, are theorems: proofs/CatalogueLaws.antt, proofs/FaultLaws.antt. Assumes nothing.
+-- The records of a byte string, one after another, or the place where it is damaged (MEANING 9.2). That this tells catalogues from other
+-- strings, and that the place is the least of all faults', are theorems: proofs/CatalogueLaws.antt, proofs/FaultLaws.antt. Assumes nothing.
 use mathlib.Core.Bool.{Bool, cond, _||_}
 use mathlib.Core.List.{List, [], _∷_}
 use Prim.Native.Nat.{ℕ, zero, suc, _+_}
@@ -33,8 +33,8 @@ record-of bytes at = record { number = number-of bytes at; start = at + 4; size 
 abbrev pub may-be : List ℕ → (at least : ℕ) → Bool
 may-be bytes at least = leb (length bytes) (at + 2) || leb least (number-of bytes at)
 
--- What stands at a place where a record is due that may have the numbers from `least` on: nothing, at the end; a fault, with its place; or a
--- record, its number, and where its formula begins and how long it is.
+-- What stands at a place where a record is due that may have the numbers from `least` on: nothing, at the end; a fault, with its place; or
+-- a record, its number, and where its formula begins and how long it is.
 abbrev pub record-at : List ℕ → (at least : ℕ) → Due
 record-at bytes at least =
     cond (leb (length bytes) at) End

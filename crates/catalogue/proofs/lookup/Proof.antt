@@ -5,78 +5,78 @@ use Rattle.catalogue.proofs.LocationLaws.{location-within, found-in}
 use borrow.Author.Needs.{needs}
 use Rattle.catalogue.proofs.lookup.Statement.{statement}
 use Rattle.catalogue.proofs.lookup.Tie as tie
-use Rattle.catalogue.proofs.lookup.Reads as reads
-use Rattle.catalogue.proofs.lookup.Lts as lts
-use Rattle.catalogue.proofs.locate.Reads as locate-reads
-use Rattle.catalogue.proofs.part.Reads as part-reads
 
--- src/lib.rt:196:11
 locate-requires : tie.Need-locate-requires
 locate-requires c κs = search needs
 
--- src/lib.rt:197:27
 enum-known-layer : tie.Need-enum-known-layer
 enum-known-layer c = search needs
 
--- src/lib.rt:198:31
 enum-told : tie.Need-enum-told
 enum-told c = search needs
 
--- src/lib.rt:198:31
 part-requires : tie.Need-part-requires
 part-requires c κs =
-    let a = c .before .before .before .before .before .before .before .before .args in
-    location-within (a .overlay .now) (a .base .now) (a .number) (found-in (c .before .before .before .before .before .locate .ensures) (c .before .before .before .layer .given .1) (c .enum-told .given .1))
+    let layer = c .before .before .before in
+    let locate = layer .before .before in
+    let a = locate .before .before .before .args in
+    let f = found-in (locate .locate .ensures) (layer .layer .given .1) (c .enum-told .given .1) in
+    location-within (a .overlay .now) (a .base .now) (a .number) f
 
--- src/lib.rt:199:28
 enum-told-2 : tie.Need-enum-told-2
 enum-told-2 c = search needs
 
--- src/lib.rt:199:28
 part-requires-2 : tie.Need-part-requires-2
 part-requires-2 c κs =
-    let a = c .before .before .before .before .before .before .before .before .args in
-    location-within (a .overlay .now) (a .base .now) (a .number) (found-in (c .before .before .before .before .before .locate .ensures) (c .before .before .before .layer .given .1) (c .enum-told2 .given .1))
+    let layer = c .before .before .before in
+    let locate = layer .before .before in
+    let a = locate .before .before .before .args in
+    let f = found-in (locate .locate .ensures) (layer .layer .given .1) (c .enum-told2 .given .1) in
+    location-within (a .overlay .now) (a .base .now) (a .number) f
 
--- src/lib.rt:201:53
 enum-told-3 : tie.Need-enum-told-3
 enum-told-3 c = search needs
 
--- src/lib.rt:201:53
 part-requires-3 : tie.Need-part-requires-3
 part-requires-3 c κs = search needs
 
--- src/lib.rt:202:30
 enum-told-4 : tie.Need-enum-told-4
 enum-told-4 c = search needs
 
--- src/lib.rt:202:30
 part-requires-4 : tie.Need-part-requires-4
 part-requires-4 c κs = search needs
 
--- src/lib.rt:192:1
 returns : tie.Need-returns
 returns c =
-    let a = c .before .before .before .before .before .before .before .before .before .args in
-    c .part .ensures ∙ sym (ap (λ l. handed l (view (a .overlay)) (view (a .base))) (found-in (c .before .before .before .before .before .before .locate .ensures) (c .before .before .before .before .layer .given .1) (c .before .enum-told .given .1)))
+    let layer = c .before .before .before .before in
+    let locate = layer .before .before in
+    let a = locate .before .before .before .args in
+    let f = found-in (locate .locate .ensures) (layer .layer .given .1) (c .before .enum-told .given .1) in
+    c .part .ensures ∙ sym (ap (λ l. handed l (view (a .overlay)) (view (a .base))) f)
 
--- src/lib.rt:192:1
 returns-2 : tie.Need-returns-2
 returns-2 c =
-    let a = c .before .before .before .before .before .before .before .before .before .args in
-    c .part2 .ensures ∙ sym (ap (λ l. handed l (view (a .overlay)) (view (a .base))) (found-in (c .before .before .before .before .before .before .locate .ensures) (c .before .before .before .before .layer .given .1) (c .before .enum-told2 .given .1)))
+    let layer = c .before .before .before .before in
+    let locate = layer .before .before in
+    let a = locate .before .before .before .args in
+    let f = found-in (locate .locate .ensures) (layer .layer .given .1) (c .before .enum-told2 .given .1) in
+    c .part2 .ensures ∙ sym (ap (λ l. handed l (view (a .overlay)) (view (a .base))) f)
 
--- src/lib.rt:192:1
 returns-3 : tie.Need-returns-3
 returns-3 c =
-    let a = c .before .before .before .before .before .before .args in
-    c .part3 .ensures ∙ sym (ap (λ l. handed l (view (a .overlay)) (view (a .base))) (sym (c .before .before .before .locate .ensures) ∙ c .before .enum-told3 .given .1))
+    let told = c .before in
+    let locate = told .before .before in
+    let a = locate .before .before .before .args in
+    c .part3 .ensures
+    ∙ sym (ap (λ l. handed l (view (a .overlay)) (view (a .base))) (sym (locate .locate .ensures) ∙ told .enum-told3 .given .1))
 
--- src/lib.rt:192:1
 returns-4 : tie.Need-returns-4
 returns-4 c =
-    let a = c .before .before .before .before .before .before .args in
-    c .part4 .ensures ∙ sym (ap (λ l. handed l (view (a .overlay)) (view (a .base))) (sym (c .before .before .before .locate .ensures) ∙ c .before .enum-told4 .given .1))
+    let told = c .before in
+    let locate = told .before .before in
+    let a = locate .before .before .before .args in
+    c .part4 .ensures
+    ∙ sym (ap (λ l. handed l (view (a .overlay)) (view (a .base))) (sym (locate .locate .ensures) ∙ told .enum-told4 .given .1))
 
 pub lookup-spec : {M : Type 1} → statement M
 lookup-spec =

@@ -5,34 +5,26 @@ use Rattle.catalogue.specs.declared.Scanned.the-variants.{Has}
 use borrow.Author.Needs.{needs}
 use Rattle.catalogue.proofs.overlaid.Statement.{statement}
 use Rattle.catalogue.proofs.overlaid.Tie as tie
-use Rattle.catalogue.proofs.overlaid.Reads as reads
-use Rattle.catalogue.proofs.overlaid.Lts as lts
 
--- src/lib.rt:141:25
 enum-known-under : tie.Need-enum-known-under
 enum-known-under c = search needs
 
--- src/lib.rt:145:47
 enum-told : tie.Need-enum-told
 enum-told c = search needs
 
--- src/lib.rt:146:27
 enum-told-2 : tie.Need-enum-told-2
 enum-told-2 c = search needs
 
--- src/lib.rt:132:1
 returns : tie.Need-returns
 returns c =
     let a = c .before .before .before .args in
     sym (ap (told (Has (a .start) (a .size))) (c .before .under .given .1))
 
--- src/lib.rt:132:1
 returns-2 : tie.Need-returns-2
 returns-2 c =
     let a = c .before .before .args in
     sym (ap (told (Has (a .start) (a .size))) (c .enum-told .given .1))
 
--- src/lib.rt:132:1
 returns-3 : tie.Need-returns-3
 returns-3 c =
     let a = c .before .before .args in

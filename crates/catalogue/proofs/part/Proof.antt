@@ -3,26 +3,19 @@ use Rattle.catalogue.proofs.ViewLaws.{view-part}
 use borrow.Author.Needs.{needs}
 use Rattle.catalogue.proofs.part.Statement.{statement}
 use Rattle.catalogue.proofs.part.Tie as tie
-use Rattle.catalogue.proofs.part.Reads as reads
-use Rattle.catalogue.proofs.part.Lts as lts
 
--- src/lib.rt:186:23
 add-result : tie.Need-add-result
 add-result c = search needs
 
--- src/lib.rt:186:5
 sub-result : tie.Need-sub-result
 sub-result c = search needs
 
--- src/lib.rt:186:5
 part-result-start : tie.Need-part-result-start
 part-result-start c = search needs
 
--- src/lib.rt:186:5
 part-result-end : tie.Need-part-result-end
 part-result-end c = search needs
 
--- src/lib.rt:182:1
 returns : tie.Need-returns
 returns c =
     let a = c .before .args in

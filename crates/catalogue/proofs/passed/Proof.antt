@@ -5,40 +5,31 @@ use Rattle.catalogue.proofs.ScanLaws.{kept-same, kept-other}
 use borrow.Author.Needs.{needs}
 use Rattle.catalogue.proofs.passed.Statement.{statement}
 use Rattle.catalogue.proofs.passed.Tie as tie
-use Rattle.catalogue.proofs.passed.Reads as reads
-use Rattle.catalogue.proofs.passed.Lts as lts
 
--- src/lib.rt:97:24
 enum-known-found : tie.Need-enum-known-found
 enum-known-found c = search needs
 
--- src/lib.rt:99:16
 enum-told : tie.Need-enum-told
 enum-told c = search needs
 
--- src/lib.rt:100:17
 returns : tie.Need-returns
 returns c =
     let a = c .before .before .before .before .args in
     kept-same (a .number) (a .r) (c .before .before .enum-told .given .1) (c .if1 .taken)
 
--- src/lib.rt:107:25
 enum-known-found-2 : tie.Need-enum-known-found-2
 enum-known-found-2 c = search needs
 
--- src/lib.rt:93:1
 returns-2 : tie.Need-returns-2
 returns-2 c =
     let a = c .before .before .before .args in
     sym (ap (λ f. kept (a .number) f (a .r)) (c .before .found .given .1))
 
--- src/lib.rt:93:1
 returns-3 : tie.Need-returns-3
 returns-3 c =
     let a = c .before .before .before .before .args in
     kept-other (a .number) (a .r) (c .before .before .enum-told .given .1) (c .if1 .left)
 
--- src/lib.rt:93:1
 returns-4 : tie.Need-returns-4
 returns-4 c =
     let a = c .before .before .before .args in

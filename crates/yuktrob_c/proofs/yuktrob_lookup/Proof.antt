@@ -5,30 +5,19 @@ use Rattle.yuktrob_c.specs.Numbers.{location-number}
 use borrow.Author.Needs.{needs}
 use Rattle.yuktrob_c.proofs.yuktrob_lookup.Statement.{statement}
 use Rattle.yuktrob_c.proofs.yuktrob_lookup.Tie as tie
-use Rattle.yuktrob_c.proofs.yuktrob_lookup.Reads as reads
-use Rattle.yuktrob_c.proofs.yuktrob_lookup.Lts as lts
-use Rattle.catalogue.proofs.locate.Reads as locate-reads
-use Rattle.catalogue.proofs.place_of.Reads as place-of-reads
-use Rattle.catalogue.proofs.size_of.Reads as size-of-reads
-use Rattle.yuktrob_c.proofs.location_number.Reads as location-number-reads
 
--- src/lib.rt:281:9
 locate-requires : tie.Need-locate-requires
 locate-requires c κs = search needs
 
--- src/lib.rt:282:14
 place-of-requires : tie.Need-place-of-requires
 place-of-requires c κs = search needs
 
--- src/lib.rt:283:13
 size-of-requires : tie.Need-size-of-requires
 size-of-requires c κs = search needs
 
--- src/lib.rt:284:5
 location-number-requires : tie.Need-location-number-requires
 location-number-requires c κs = search needs
 
--- src/lib.rt:269:1
 returns : tie.Need-returns
 returns c =
     let l = c .before .before .before .locate .ensures in (
