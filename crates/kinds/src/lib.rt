@@ -1,5 +1,6 @@
 // Kinds of line of the test runner that are checked apart from the program: a module each with a function `outcome`.
 pub mod greatest;
+pub mod sheets;
 
 ghost use Prim.Native.Nat.{_≤_};
 

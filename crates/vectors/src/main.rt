@@ -8,6 +8,7 @@ mod search;
 mod truth;
 
 use kinds::greatest;
+use kinds::sheets;
 use lines::area::start_bytes;
 use lines::field::BROKEN;
 use lines::field::bytes;
@@ -49,6 +50,7 @@ fn told(line: &[u8]) {
         4 => build::outcome(line, s),
         5 => search::outcome(line, s),
         6 => greatest::outcome(line, s),
+        7 => sheets::outcome(line, s),
         _ => say::malformed(),
     }
 }
@@ -72,6 +74,9 @@ fn kind(name: &[u8]) -> u8 {
     }
     if same(name, b"safety") {
         return 6;
+    }
+    if same(name, b"sheet") {
+        return 7;
     }
     0
 }
