@@ -1,6 +1,6 @@
 /* Lists the entries of a rule, decides a few, one of them with little room, tries the course of each that has one, and a course that is
  * refused; then builds the nodes of a rule once and searches them with little room, with more, and for another rule; then decides safety
- * rules with room for nodes alone. Each answer is asked for a refusal before it is taken apart. */
+ * rules with room for nodes alone; then looks rules up in two sheets. Each answer is asked for a refusal before it is taken apart. */
 #include "../include/yuktrob.h"
 #include <stdio.h>
 
@@ -48,6 +48,14 @@ static void try_course(const uint8_t *rule, size_t rule_len, const uint16_t *pla
     } else {
         printf("%s on it\n", yuktrob_is_true(answer) ? "true" : "false");
     }
+}
+
+/* A course from the previous scale to the current one, and one with a place that has neither. */
+static void try_scales(const uint8_t *rule, size_t rule_len) {
+    const uint16_t handover[] = {YUKTROB_PREVIOUS_SCALE, YUKTROB_CURRENT_SCALE};
+    const uint16_t no_flag[] = {YUKTROB_CURRENT_SCALE, 0x0000};
+    try_course(rule, rule_len, handover, 2, 1);
+    try_course(rule, rule_len, no_flag, 2, 1);
 }
 
 /* What a decision or a search answered. */
@@ -114,6 +122,36 @@ static void decide_safety(size_t nodes, const uint8_t *rule, size_t rule_len) {
     }
 }
 
+/* Looks a rule up, and decides what is found where it stands. */
+static void look_up(const uint8_t *dealer, size_t dealer_len, const uint8_t *factory, size_t factory_len, uint16_t number) {
+    size_t start, size;
+    uint64_t answer = yuktrob_lookup(dealer, dealer_len, factory, factory_len, number, &start, &size);
+    int is_dealers = yuktrob_sheet(answer) == YUKTROB_DEALER;
+    const char *whose = is_dealers ? "dealer's" : "factory's";
+    if (yuktrob_refusal(answer) == 30) {
+        printf("refused 30 at byte %zu of the %s sheet\n", start, whose);
+    } else if (yuktrob_refusal(answer)) {
+        print_refusal(answer);
+    } else {
+        printf("rule %u: %zu bytes of the %s sheet from byte %zu on\n", (unsigned)number, size, whose, start);
+        decide((is_dealers ? dealer : factory) + start, size);
+    }
+}
+
+/* Two rules of the factory's, one of which the dealer overrides; without the dealer's sheet; with either sheet damaged. */
+static void look_up_some(void) {
+    const uint8_t factory[] = {0x20, 0x07, 0x00, 0x02, 0x03, 0x00, /* rule 7: signal 0 */
+                               0x20, 0x2C, 0x01, 0x02, 0x04, 0x01}; /* rule 300: no signal 1 */
+    const uint8_t dealer[] = {0x20, 0x07, 0x00, 0x02, 0x03, 0x02}; /* rule 7: signal 2 */
+    look_up(dealer, sizeof dealer, factory, sizeof factory, 7);
+    look_up(dealer, sizeof dealer, factory, sizeof factory, 300);
+    look_up(dealer, sizeof dealer, factory, sizeof factory, 8);
+    look_up(dealer, 0, factory, sizeof factory, 7);
+    look_up(dealer, sizeof dealer - 1, factory, sizeof factory, 300);
+    look_up(dealer, sizeof dealer, factory, sizeof factory - 1, 7);
+    look_up(dealer, sizeof dealer, factory + 1, sizeof factory - 1, 7);
+}
+
 int main(void) {
     const uint8_t eventually[] = {0x09, 0x06, 0x03, 0x00, 0x08, 0x05, 0x00}; /* sooner or later signal 0 */
     const uint8_t either[] = {0x06, 0x03, 0x01, 0x03, 0x00}; /* signal 1 or signal 0: two courses as short, the left one is given */
@@ -126,8 +164,6 @@ int main(void) {
     /* signal 0 at every second place and signal 1 at every third */
     const uint8_t by_turns[] = {0x07, 0x0A, 0x07, 0x03, 0x00, 0x08, 0x08, 0x05, 0x00,
                                 0x0A, 0x07, 0x03, 0x01, 0x08, 0x08, 0x08, 0x05, 0x00};
-    const uint16_t handover[] = {YUKTROB_PREVIOUS_SCALE, YUKTROB_CURRENT_SCALE};
-    const uint16_t no_flag[] = {YUKTROB_CURRENT_SCALE, 0x0000};
     list(eventually, sizeof eventually);
     list(unguarded, sizeof unguarded);
     decide(eventually, sizeof eventually);
@@ -139,8 +175,7 @@ int main(void) {
     decide_within(4, often, sizeof often);
     decide_within(3, often, sizeof often);
     decide(never_previous, sizeof never_previous);
-    try_course(never_previous, sizeof never_previous, handover, 2, 1);
-    try_course(never_previous, sizeof never_previous, no_flag, 2, 1);
+    try_scales(never_previous, sizeof never_previous);
     size_t built = build(often, sizeof often);
     search_within(3, built, often, sizeof often);
     search_within(4, built, often, sizeof often);
@@ -152,5 +187,6 @@ int main(void) {
     decide_safety(NODES, never, sizeof never);
     decide_safety(NODES, often, sizeof often);
     decide_safety(NODES, unguarded, sizeof unguarded);
+    look_up_some();
     return 0;
 }

@@ -1,5 +1,5 @@
-/* Rules of tractor-guidance terminals: reading, truth on a repeating course, and the decision, at once or in two: building and search; and
- * that of safety rules, which takes no profiles.
+/* Rules of tractor-guidance terminals: reading, truth on a repeating course, and the decision, at once or in two: building and search;
+ * that of safety rules, which takes no profiles; and the lookup of a rule by its number, in a dealer's sheet before the factory's.
  *
  * Each function answers one number. Its lowest byte is the number of a refusal, or 0; what the answer carries stands above it:
  *   reading    accepted: the number of entries; refused 1 to 9: its places
@@ -12,11 +12,13 @@
  *   search     MET and NOT as the decision has them; refused 1 to 9: its places; refused 11 to 13, 15 or 36: nothing
  *   safety     MET and NOT as the decision has them, the 13 bits of the profiles being 0; refused 1 to 9 or 43: its places; refused 11 to
  *              14: nothing
+ *   lookup     found or refused 30: the sheet, 0 for the dealer's, 1 for the factory's; refused 31: nothing
  * The places of a refusal are 8 bits for the byte's place and, of 8 alone, 8 bits above them for where the variable's fixpoint begins.
- * docs/FORMULAS.md lists the refusals; later versions may have more. Ask for a refusal before taking an answer apart.
+ * What can be any place in memory does not fit beside a refusal: where a rule or a fault stands in a sheet, the lookup puts into words that
+ * the caller lends. docs/FORMULAS.md lists the refusals; later versions may have more. Ask for a refusal before taking an answer apart.
  *
- * No function asks anything of its arguments but that a pointer has as many elements as the length behind it says, and that what a function
- * writes overlaps nothing else that it is given. */
+ * No function asks anything of its arguments but that a pointer has as many elements as the length behind it says, one where there is none,
+ * and that what a function writes overlaps nothing else that it is given. */
 #ifndef YUKTROB_H
 #define YUKTROB_H
 
@@ -32,6 +34,10 @@
  * or the current one's. Each place has exactly one of these two bits, and any of the others. */
 #define YUKTROB_PREVIOUS_SCALE 0x4000u
 #define YUKTROB_CURRENT_SCALE 0x8000u
+
+/* The two sheets of a lookup. */
+#define YUKTROB_DEALER 0
+#define YUKTROB_FACTORY 1
 
 /* How large the areas must be: the bytes of the work area of building, which are the first ones of a search's, and of a safety rule, whose
  * course buffer has as many places as there is room for nodes; the bytes of the work area and the places of the course buffer of a decision
@@ -101,8 +107,22 @@ uint64_t yuktrob_search(const uint8_t *rule, size_t rule_len, size_t built, size
 uint64_t yuktrob_decide_safety(const uint8_t *rule, size_t rule_len, size_t nodes, uint8_t *work, size_t work_len, uint16_t *course,
                                size_t course_len);
 
-/* Taking an answer apart. Every answer: the refusal's number, or 0; whether the refusal has a byte's place, as 1 to 9 and 43 have; and the
- * place. Then whether it has a fixpoint's place too, which 8 alone has; and that place. */
+/* Looks up the rule of a number: the dealer's, if that sheet has one, and otherwise the factory's. The rule is handed back as a part of the
+ * sheet that has it, of *size bytes from byte *start on; these may be any bytes, or none. Nothing is copied.
+ *
+ * A sheet has one record behind another, or none. A record is the byte 20, the rule's number in two bytes, the lower one first, a byte that
+ * says how many bytes the rule has, and these. Each number is larger than that of the record before. Both sheets are gone through to the
+ * end. 30 says that one of them is not laid out so, the dealer's if neither is; it is answered whatever number is looked for, and for the
+ * factory's sheet also where the dealer's has the rule. *start is then the first place where something is wrong: that of a byte that should
+ * open a record and is not 20, or of the lower byte of a number that does not rise, or, where the last record lacks bytes, the sheet's
+ * length. 31, which is asked behind 30, says that neither sheet has the number; *start is then 0. *size is 0 after either. Both words are
+ * written always. */
+uint64_t yuktrob_lookup(const uint8_t *dealer, size_t dealer_len, const uint8_t *factory, size_t factory_len, uint16_t number,
+                        size_t *start, size_t *size);
+
+/* Taking an answer apart. Every answer: the refusal's number, or 0; whether the answer has a byte's place, as 1 to 9 and 43 have it (that
+ * of 30 is in the word *start, and not in the answer); and the place. Then whether it has a fixpoint's place too, which 8 alone has; and
+ * that place. */
 static inline unsigned yuktrob_refusal(uint64_t answer) { return (unsigned)(answer & 255); }
 static inline int yuktrob_has_place(uint64_t answer) {
     return (1 <= yuktrob_refusal(answer) && yuktrob_refusal(answer) <= 9) || yuktrob_refusal(answer) == 43;
@@ -132,6 +152,9 @@ static inline unsigned yuktrob_lead_len(uint64_t answer) { return (unsigned)(ans
 static inline unsigned yuktrob_loop_len(uint64_t answer) { return (unsigned)(answer >> 22 & 8191); }
 static inline unsigned yuktrob_nodes(uint64_t answer) { return (unsigned)(answer >> 35 & 8191); }
 static inline unsigned yuktrob_profiles(uint64_t answer) { return (unsigned)(answer >> 48 & 8191); }
+
+/* A lookup, found or refused with 30: YUKTROB_DEALER or YUKTROB_FACTORY. */
+static inline unsigned yuktrob_sheet(uint64_t answer) { return (unsigned)(answer >> 8); }
 
 #ifdef __cplusplus
 }

@@ -1,9 +1,10 @@
 //! The exported functions of the proved library, called with Rust's slices: the one module with `unsafe`.
 //!
 //! Why each call is sound. The library asks two things of its caller (`include/yuktrob.h`): that each pointer has as many elements as the
-//! length behind it says, and that what is written overlaps nothing else. A slice's pointer has its length's elements, all initialised; it
-//! is aligned and not null, even where the slice is empty; and a `&mut` slice overlaps nothing. The library is proved to stay inside its
-//! slices, for any values in them. It keeps no pointer after it returns, and it does not unwind: it has no panics.
+//! length behind it says, one where there is none, and that what is written overlaps nothing else. A slice's pointer has its length's
+//! elements, all initialised; it is aligned and not null, even where the slice is empty; and a `&mut` overlaps nothing. The library is
+//! proved to stay inside its slices, for any values in them. It keeps no pointer after it returns, and it does not unwind: it has no
+//! panics.
 
 use crate::Refusal;
 
@@ -49,6 +50,15 @@ extern "C" {
         work_len: usize,
         course: *mut u16,
         course_len: usize,
+    ) -> u64;
+    fn yuktrob_lookup(
+        dealer: *const u8,
+        dealer_len: usize,
+        factory: *const u8,
+        factory_len: usize,
+        number: u16,
+        start: *mut usize,
+        size: *mut usize,
     ) -> u64;
 }
 
@@ -106,6 +116,12 @@ pub fn decide_safety(rule: &[u8], nodes: usize, work: &mut [u8], course: &mut [u
     })
 }
 
+/// The whole answer, since 30 and what is found have the sheet above the lowest byte.
+pub fn lookup(dealer: &[u8], factory: &[u8], number: u16, start: &mut usize, size: &mut usize) -> u64 {
+    // SAFETY: pointers and lengths are those of slices, and nothing else refers to the two words; see above.
+    unsafe { yuktrob_lookup(dealer.as_ptr(), dealer.len(), factory.as_ptr(), factory.len(), number, start, size) }
+}
+
 #[cfg(test)]
 mod tests {
     use super::*;
@@ -132,5 +148,22 @@ mod tests {
         assert_eq!(decide_safety(&[2], 2, work, course), Ok(2 << 26));
         assert_eq!(decide_safety(&[7, 1, 9, 1], 2, work, course), Err(Refusal::new(43, 2)));
         assert_eq!(decide_safety(&[1], 1, work, course), Err(Refusal::new(14, 0)));
+    }
+
+    /// The sheet stands above the lowest byte, 0 for the dealer's, 1 for the factory's. Both words are written, whatever they held: a
+    /// refusal has no bytes, and 31 no place.
+    #[test]
+    fn numbers_of_lookups() {
+        let told = |dealer: &[u8], factory: &[u8], number: u16| {
+            let (mut start, mut size) = (99, 99);
+            (lookup(dealer, factory, number, &mut start, &mut size), start, size)
+        };
+        let (one, two): (&[u8], &[u8]) = (&[0x20, 1, 0, 2, 7, 8], &[0x20, 2, 0, 1, 9]);
+        let cut = &one[..5];
+        assert_eq!(told(one, two, 1), (0, 4, 2));
+        assert_eq!(told(two, one, 1), (256, 4, 2));
+        assert_eq!(told(cut, cut, 1), (30, 5, 0));
+        assert_eq!(told(one, cut, 1), (30 + 256, 5, 0));
+        assert_eq!(told(one, two, 3), (31, 0, 0));
     }
 }

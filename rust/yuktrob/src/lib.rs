@@ -1,6 +1,6 @@
 //! Rules of tractor-guidance terminals: reading a rule, its truth on a repeating course, and the decision whether any course meets it,
-//! with a short example, the same one each time. A rule is a formula of the linear-time mu-calculus in bytes; `docs/FORMULAS.md` shows how
-//! to write one.
+//! with a short example, the same one each time; and finding a rule by its number in the sheets of a dealer and of the factory. A rule is a
+//! formula of the linear-time mu-calculus in bytes; `docs/FORMULAS.md` shows how to write one.
 //!
 //! The work is done by a library whose every function is proved to meet its contract. This crate wraps its exported functions and takes
 //! their numbers apart.
@@ -46,6 +46,20 @@
 //! # Ok::<(), yuktrob::Refusal>(())
 //! ```
 //!
+//! A rule that is kept in a sheet is looked up by its number, the dealer's sheet before the factory's, and read where it stands:
+//!
+//! ```
+//! use yuktrob::{lookup, Rule, Sheet};
+//! // the factory's rules 1 and 2, and a rule 2 of the dealer's
+//! let factory = [0x20, 0x01, 0x00, 0x01, 0x01, 0x20, 0x02, 0x00, 0x02, 0x03, 0x00];
+//! let dealer = [0x20, 0x02, 0x00, 0x02, 0x03, 0x04];
+//! let found = lookup(&dealer, &factory, 2)?;
+//! assert_eq!((found.sheet, found.rule), (Sheet::Dealer, &dealer[4..]));
+//! assert_eq!(Rule::read(found.rule)?.entry_count(), 1);
+//! assert_eq!(lookup(&dealer, &factory, 1)?.sheet, Sheet::Factory);
+//! # Ok::<(), Box<dyn std::error::Error>>(())
+//! ```
+//!
 //! [`truth`], [`decide`], [`build`], [`search`] and [`decide_safety`] take the rule's bytes and areas that the caller lends, as the
 //! functions of `include/yuktrob.h` do.
 
@@ -58,6 +72,7 @@ mod exported;
 mod refusal;
 mod rule;
 mod safety;
+mod sheet;
 mod truth;
 
 pub use building::{build, nodes_len, search, Built};
@@ -65,4 +80,5 @@ pub use decision::{course_len, decide, work_len, Areas, Verdict, MOST_NODES, MOS
 pub use refusal::Refusal;
 pub use rule::{Command, Entry, Rule};
 pub use safety::{decide_safety, SafetyVerdict};
+pub use sheet::{lookup, Found, NotFound, Sheet};
 pub use truth::{truth, words_len, CURRENT_SCALE, MOST_PLACES, PREVIOUS_SCALE};

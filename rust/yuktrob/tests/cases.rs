@@ -1,10 +1,11 @@
 //! The outcomes that document 01 gives, through the wrappers: cases A to L and the truth examples, each place with a scale flag and each
 //! count of profiles as document 02 asks; which course is given of several as short; what the flags refuse; little room for profiles, and
 //! the areas then; nodes that are built and searched, and nodes that are not the rule's; safety rules, their refusals and what they leave
-//! in the areas; and the refusals of reading with their places.
+//! in the areas; the refusals of reading with their places; and rules looked up in two sheets, where they stand in memory, and what is
+//! wrong with a sheet.
 
-use yuktrob::{build, course_len, decide, decide_safety, nodes_len, search, truth, work_len};
-use yuktrob::{Areas, Refusal, Rule, SafetyVerdict, Verdict, MOST_NODES};
+use yuktrob::{build, course_len, decide, decide_safety, lookup, nodes_len, search, truth, work_len};
+use yuktrob::{Areas, Found, NotFound, Refusal, Rule, SafetyVerdict, Sheet, Verdict, MOST_NODES};
 
 fn met(lead_len: usize, loop_len: usize, nodes: usize, profiles: usize, course: &[u16]) -> Verdict<'_> {
     Verdict::Met { lead_len, loop_len, nodes, profiles, course }
@@ -599,6 +600,126 @@ fn of_the_refusals_of_reading_8_alone_names_a_fixpoint() {
         for why in refused(rule) {
             let parts = why.map(|why| (why.number, why.place, why.fixpoint));
             assert_eq!(parts, Some((number, Some(place), fixpoint)), "{rule:02x?}");
+        }
+    }
+}
+
+fn record(number: u16, rule: &[u8]) -> Vec<u8> {
+    let [low, high] = number.to_le_bytes();
+    [&[0x20, low, high, rule.len() as u8], rule].concat()
+}
+
+fn sheet(rules: &[(u16, &[u8])]) -> Vec<u8> {
+    rules.iter().flat_map(|&(number, rule)| record(number, rule)).collect()
+}
+
+/// The bytes are found, and handed back where they stand in that sheet: neither copied nor from the other one.
+fn check_found(sheets: [&[u8]; 2], number: u16, sheet: Sheet, start: usize, rule: &[u8]) {
+    let [dealer, factory] = sheets;
+    let found = lookup(dealer, factory, number);
+    assert_eq!(found, Ok(Found { sheet, start, rule }), "{sheets:02x?} {number}");
+    let own = if sheet == Sheet::Dealer { dealer } else { factory };
+    assert!(found.is_ok_and(|found| std::ptr::eq(found.rule, &own[start..start + rule.len()])), "{sheets:02x?} {number}");
+}
+
+fn check_missing(dealer: &[u8], factory: &[u8], number: u16) {
+    assert_eq!(lookup(dealer, factory, number), Err(NotFound::Missing), "{dealer:02x?} {factory:02x?} {number}");
+}
+
+#[test]
+fn the_dealers_rule_before_the_factorys() {
+    let factory = sheet(&[(1, &[1]), (7, &[3, 0]), (300, &[4, 1])]);
+    let dealer = sheet(&[(7, &[3, 2]), (9, &[2])]);
+    let both: [&[u8]; 2] = [&dealer, &factory];
+    check_found(both, 1, Sheet::Factory, 4, &[1]);
+    check_found(both, 7, Sheet::Dealer, 4, &[3, 2]);
+    check_found(both, 9, Sheet::Dealer, 10, &[2]);
+    check_found(both, 300, Sheet::Factory, 15, &[4, 1]);
+    for number in [0, 2, 8, 10, 299, 301, 7 << 8, 65535] {
+        check_missing(&dealer, &factory, number);
+    }
+    // the same bytes in both, in two places of memory and in one
+    check_found([&factory.clone(), &factory], 7, Sheet::Dealer, 9, &[3, 0]);
+    check_found([&factory, &factory], 7, Sheet::Dealer, 9, &[3, 0]);
+    let joined = [&dealer[..], &factory].concat();
+    let (front, back) = joined.split_at(dealer.len());
+    check_found([front, back], 9, Sheet::Dealer, 10, &[2]);
+    check_found([front, back], 1, Sheet::Factory, 4, &[1]);
+    check_found([back, front], 9, Sheet::Factory, 10, &[2]);
+}
+
+#[test]
+fn an_empty_sheet_has_no_rules() {
+    let one = sheet(&[(7, &[3, 0])]);
+    check_found([&one, &[]], 7, Sheet::Dealer, 4, &[3, 0]);
+    check_found([&[], &one], 7, Sheet::Factory, 4, &[3, 0]);
+    for number in [0, 7, 65535] {
+        check_missing(&[], &[], number);
+    }
+    check_missing(&one, &[], 0);
+    check_missing(&[], &one, 0);
+}
+
+#[test]
+fn numbers_and_lengths_at_their_ends() {
+    let longest: Vec<u8> = (0..=254).collect();
+    // a record's bytes are no record: the rule of 256 has those of another rule 0
+    let inside = record(0, &[1]);
+    let all = sheet(&[(0, &[]), (255, &longest), (256, &inside), (65534, &[0x20]), (65535, &[])]);
+    for (sheets, sheet) in [([&all[..], &[]], Sheet::Dealer), ([&[], &all[..]], Sheet::Factory)] {
+        check_found(sheets, 0, sheet, 4, &[]);
+        check_found(sheets, 255, sheet, 8, &longest);
+        check_found(sheets, 256, sheet, 267, &inside);
+        check_found(sheets, 65534, sheet, 276, &[0x20]);
+        check_found(sheets, 65535, sheet, 281, &[]);
+        check_missing(sheets[0], sheets[1], 1);
+    }
+    // an empty rule of the dealer's is a rule
+    check_found([&record(255, &[]), &all], 255, Sheet::Dealer, 4, &[]);
+}
+
+/// Bytes that are no sheet, and the place of the first fault.
+fn damaged() -> Vec<(Vec<u8>, usize)> {
+    let start = sheet(&[(2, &[1]), (300, &[3, 0])]);
+    let behind = |bytes: &[u8]| [&start[..], bytes].concat();
+    let mut table = vec![
+        (vec![0x21], 0),
+        (vec![0], 0),
+        (behind(&[0]), 11),
+        (behind(&record(301, &[1])[1..]), 11),
+        // a number as before, a smaller one, one whose low byte alone is larger
+        (behind(&record(300, &[])), 12),
+        (behind(&record(2, &[1])), 12),
+        (behind(&record(255, &[1])), 12),
+        // one whose high byte alone is larger rises, but the record lacks bytes
+        (behind(&[0x20, 0x00, 0x02, 0xff]), 15),
+        // a number that does not rise where the record lacks bytes as well, or what comes behind it is wrong
+        (behind(&[0x20, 0x2c, 0x01]), 12),
+        (behind(&[0x20, 0x2c, 0x01, 1]), 12),
+        (behind(&[0x20, 0x2b, 0x01, 0, 0]), 12),
+        // 254 bytes of 255
+        (behind(&record(301, &[0x20; 255])[..258]), 269),
+        (record(0, &[7; 255])[..258].to_vec(), 258),
+    ];
+    // a record that ends anywhere
+    let whole = record(301, &[0x20, 1, 0, 0]);
+    table.extend((1..whole.len()).map(|len| (behind(&whole[..len]), 11 + len)));
+    table
+}
+
+#[test]
+fn a_damaged_sheet_is_refused_whatever_is_looked_for() {
+    let good = sheet(&[(2, &[1]), (300, &[2])]);
+    for (bad, place) in damaged() {
+        for number in [0, 2, 300, 301, 65535] {
+            let by = |sheet| Err(NotFound::Damaged { sheet, place });
+            for factory in [&[][..], &good, &bad, &[0xff]] {
+                assert_eq!(lookup(&bad, factory, number), by(Sheet::Dealer), "{bad:02x?} {factory:02x?} {number}");
+            }
+            // also where the dealer's sheet has the number
+            for dealer in [&[][..], &good] {
+                assert_eq!(lookup(dealer, &bad, number), by(Sheet::Factory), "{dealer:02x?} {bad:02x?} {number}");
+            }
         }
     }
 }
