@@ -2,9 +2,11 @@
 
 mod building;
 mod safety;
+mod sheet;
 
 pub use building::{Buildings, Changed};
 pub use safety::{safety, Safeties};
+pub use sheet::{lookup, proved_lookup, Faults, Lookups};
 
 use crate::least::{self, Course};
 use crate::random::{nesting, Random};

@@ -1,4 +1,8 @@
-//! Random rules, whole and damaged, and random courses, for comparing and timing. The same seed gives the same ones.
+//! Random rules and sheets, whole and damaged, and random courses, for comparing and timing. The same seed gives the same ones.
+
+mod sheets;
+
+pub use sheets::Sheets;
 
 use crate::reading::{ends, read, Command};
 use crate::scale::{is_place, FLAGS};

@@ -1,6 +1,6 @@
 //! The proved library and the independent implementation agree.
 
-use yuktrob_plain::compared::{self, Areas, Buildings, Courses, Decisions, Input, Rooms, Safeties, Signals, Truths, Unguarded};
+use yuktrob_plain::compared::{self, Areas, Buildings, Courses, Decisions, Input, Lookups, Rooms, Safeties, Signals, Truths, Unguarded};
 use yuktrob_plain::random::Random;
 
 /// Courses are kept this short, so that the test takes seconds; `compare` draws longer ones.
@@ -36,6 +36,15 @@ fn on_some_thousands_of_safety_rules() {
         assert_eq!(compared::safety(&mut random, &mut areas, &mut safeties), Ok(()));
     }
     check_safeties(&safeties);
+}
+
+#[test]
+fn on_some_thousands_of_lookups() {
+    let (mut random, mut lookups) = (Random::new(42), Lookups::default());
+    for _ in 0..20_000 {
+        assert_eq!(compared::lookup(&mut random, &mut lookups), Ok(()));
+    }
+    check_lookups(&lookups);
 }
 
 /// Each count is above the number behind it.
@@ -131,5 +140,36 @@ fn check_safeties(safeties: &Safeties) {
         (safeties.beyond_not, 5, "NOT where the general decision has no room"),
         (safeties.again, 300, "verdicts asked for again with more room"),
         (safeties.courses.differing, 200, "courses with others as short that have other places"),
+    ]);
+}
+
+fn check_lookups(lookups: &Lookups) {
+    let (faults, [of_0, of_255, of_256, of_65535]) = (&lookups.faults, lookups.edges);
+    let [one, two, three, more] = faults.cuts;
+    check_counts(&[
+        (lookups.dealer, 3000, "rules found in the dealer's sheet"),
+        (lookups.overridden, 800, "rules found in the dealer's sheet that the factory's has too"),
+        (lookups.factory, 2000, "rules found in the factory's sheet"),
+        (lookups.empty, 1000, "rules without bytes"),
+        (lookups.longest, 300, "rules of 255 bytes"),
+        (lookups.far, 10, "rules behind place 65,535"),
+        (of_0.min(of_255).min(of_256).min(of_65535), 80, "rules with a number at an edge"),
+        (lookups.missing, 2000, "lookups refused with 31"),
+        (lookups.missing_in_both, 1000, "lookups refused with 31 with records in both sheets"),
+        (lookups.damaged_dealer, 4000, "damaged sheets of the dealer's"),
+        (lookups.damaged_both, 1500, "damaged sheets of the dealer's above a damaged one"),
+        (lookups.damaged_alike, 400, "damaged sheets of both with the same place"),
+        (lookups.damaged_factory, 3000, "damaged sheets of the factory's"),
+        (lookups.behind_number, 1500, "faults behind a record with the number"),
+        (lookups.below_number, 1200, "damaged sheets of the factory's below one that has the number"),
+        (faults.marks, 3000, "records with another first byte"),
+        (faults.repeated, 500, "numbers as before"),
+        (faults.fallen, 500, "numbers that are smaller"),
+        (faults.unrisen_cut, 500, "numbers that do not rise in a record that lacks bytes"),
+        (one.min(two).min(three), 200, "records of which one, two or three bytes are there"),
+        (more, 1500, "records that lack bytes of the rule"),
+        (faults.cut_by_one, 300, "records of which 254 bytes of 255 are there"),
+        (faults.at_first, 2000, "faults at the first byte"),
+        (faults.far, 20, "faults behind place 65,535"),
     ]);
 }

@@ -3,13 +3,10 @@
 
 use yuktrob_plain::building::{build, search, Building};
 use yuktrob_plain::decision::{decide, Verdict};
+use yuktrob_plain::hex::bytes;
 
 /// What an area holds beforehand.
 const BEFORE: u8 = 0xa5;
-
-fn bytes(hex: &str) -> Vec<u8> {
-    (0..hex.len()).step_by(2).map(|i| u8::from_str_radix(&hex[i..i + 2], 16).expect("two hex digits")).collect()
-}
 
 /// Rules in hex, the room for nodes, and what building comes to: K and the nodes in hex, or the refusal.
 const LINES: [(&str, usize, &str); 18] = [

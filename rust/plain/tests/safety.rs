@@ -2,6 +2,7 @@
 //! areas; and beside trying all that is as short, the general decision and truth on random rules.
 
 use yuktrob_plain::decision::{decide, Verdict};
+use yuktrob_plain::hex::bytes;
 use yuktrob_plain::least::{first, runs_on, shortest, Course};
 use yuktrob_plain::random::Random;
 use yuktrob_plain::reading::read;
@@ -11,10 +12,6 @@ use yuktrob_plain::truth::{by_laps, Truth};
 /// What areas hold beforehand.
 const WORK_BEFORE: u8 = 0xa5;
 const COURSE_BEFORE: u16 = 0x5a5a;
-
-fn bytes(hex: &str) -> Vec<u8> {
-    (0..hex.len()).step_by(2).map(|i| u8::from_str_radix(&hex[i..i + 2], 16).expect("two hex digits")).collect()
-}
 
 /// The verdict, in areas of these lengths, and the areas behind it.
 fn decided(rule: &[u8], n: usize, work: usize, course: usize) -> (SafetyVerdict, Vec<u8>, Vec<u16>) {

@@ -1,21 +1,26 @@
 //! Runs the proved library and the independent implementation on the same random inputs, and reports every difference.
 //!
-//! - `compare [INPUTS [SEED [LONGEST]]]`: readings, truths, decisions and decisions of safety rules in turn, where no course that both work
-//!   out is longer than LONGEST places, 60 at least and 8,192 at most.
+//! - `compare [INPUTS [SEED [LONGEST]]]`: readings, truths, decisions, decisions of safety rules and lookups in turn, where no course that
+//!   both work out is longer than LONGEST places, 60 at least and 8,192 at most.
 //! - `compare safety [INPUTS [SEED]]`: decisions of safety rules alone.
+//! - `compare sheet [INPUTS [SEED]]`: lookups alone.
 
 use std::time::Instant;
 use yuktrob_plain::compared::{self, Areas, Input, LONG};
-use yuktrob_plain::compared::{Buildings, Changed, Courses, Decisions, Rooms, Safeties, Signals, Truths, Unguarded};
+use yuktrob_plain::compared::{Buildings, Changed, Courses, Decisions, Faults, Lookups, Rooms, Safeties, Signals, Truths, Unguarded};
 use yuktrob_plain::random::Random;
 
 fn main() {
     let mut words: Vec<String> = std::env::args().skip(1).collect();
-    let safety_alone = words.first().is_some_and(|word| word == "safety");
-    words.drain(..safety_alone as usize);
+    let alone: Option<fn(u64, u64) -> u64> = match words.first().map(String::as_str) {
+        Some("safety") => Some(safety),
+        Some("sheet") => Some(sheet),
+        _ => None,
+    };
+    words.drain(..alone.is_some() as usize);
     let word = |i: usize, otherwise: u64| words.get(i).map_or(otherwise, |w| w.parse().expect("a number"));
     let (inputs, seed, longest) = (word(0, 100_000), word(1, 1), word(2, 8192).clamp(60, 8192) as usize);
-    let differences = if safety_alone { safety(inputs, seed) } else { all(inputs, seed, longest) };
+    let differences = alone.map_or_else(|| all(inputs, seed, longest), |alone| alone(inputs, seed));
     println!("differences: {differences}");
     if differences > 0 {
         std::process::exit(1);
@@ -39,31 +44,45 @@ fn safety(inputs: u64, seed: u64) -> u64 {
     differences
 }
 
+/// How many of so many lookups differ.
+fn sheet(inputs: u64, seed: u64) -> u64 {
+    let (mut random, mut lookups) = (Random::new(seed), Lookups::default());
+    let start = Instant::now();
+    let differences = (0..inputs).map(|_| reported(compared::lookup(&mut random, &mut lookups))).sum();
+    println!("compared: {inputs} lookups in {:.1} s", start.elapsed().as_secs_f64());
+    report_lookups(&lookups);
+    differences
+}
+
 /// How many of so many inputs differ.
 fn all(inputs: u64, seed: u64, longest: usize) -> u64 {
     let mut random = Random::new(seed);
     let (mut unguarded, mut signals) = (Unguarded::default(), Signals::default());
-    let (mut areas, mut truths, mut decisions, mut safeties) = (Areas::new(), Truths::default(), Decisions::default(), Safeties::default());
+    let (mut areas, mut truths, mut decisions) = (Areas::new(), Truths::default(), Decisions::default());
+    let (mut safeties, mut lookups) = (Safeties::default(), Lookups::default());
     let mut differences = 0u64;
     let start = Instant::now();
     for i in 0..inputs {
-        if i % 4 == 3 {
-            differences += reported(compared::safety(&mut random, &mut areas, &mut safeties));
-            continue;
-        }
-        let input = Input::new(&mut random);
-        let rule = &input.rule;
-        unguarded.count(rule);
-        signals.count(rule);
-        differences += reported(match i % 4 {
-            0 => compared::reading(rule),
-            1 => compared::truth(&mut random, &input, longest, &mut truths),
-            _ => compared::decision(&mut random, rule, &mut areas, &mut decisions),
+        differences += reported(match i % 5 {
+            3 => compared::safety(&mut random, &mut areas, &mut safeties),
+            4 => compared::lookup(&mut random, &mut lookups),
+            share => {
+                let input = Input::new(&mut random);
+                let rule = &input.rule;
+                unguarded.count(rule);
+                signals.count(rule);
+                match share {
+                    0 => compared::reading(rule),
+                    1 => compared::truth(&mut random, &input, longest, &mut truths),
+                    _ => compared::decision(&mut random, rule, &mut areas, &mut decisions),
+                }
+            }
         });
     }
     let seconds = start.elapsed().as_secs_f64();
-    let [readings, decided, safely] = [3, 1, 0].map(|more| (inputs + more) / 4);
-    println!("compared: {readings} readings, {} truths, {decided} decisions, {safely} of safety rules in {seconds:.1} s", truths.all);
+    let [readings, decided, safely, found] = [4, 2, 1, 0].map(|more| (inputs + more) / 5);
+    let (all, rest) = (truths.all, format!("{safely} of safety rules, {found} lookups in {seconds:.1} s"));
+    println!("compared: {readings} readings, {all} truths, {decided} decisions, {rest}");
     println!("truths of rules with alternating fixpoints: {}, of these on {LONG} places or more: {}", truths.alternating, truths.long);
     let Unguarded { all, between } = unguarded;
     println!("rules refused with 8: {all}, of these for a fixpoint that is neither the innermost nor at byte 0: {between}");
@@ -71,6 +90,7 @@ fn all(inputs: u64, seed: u64, longest: usize) -> u64 {
     report_flags(&truths, &decisions);
     report_decisions(&decisions);
     report_safeties(&safeties);
+    report_lookups(&lookups);
     differences
 }
 
@@ -133,4 +153,22 @@ fn report_safeties(safeties: &Safeties) {
     println!("verdicts of decide too: {general}; where it has no room for profiles: {beyond_met} MET, {beyond_not} NOT");
     println!("verdicts asked for again with more room: {again}");
     report_courses(courses);
+}
+
+fn report_lookups(lookups: &Lookups) {
+    let Lookups { dealer, overridden, factory, missing, missing_in_both, .. } = lookups;
+    println!("found in the dealer's sheet: {dealer}, of these in the factory's too: {overridden}; in the factory's alone: {factory}");
+    let Lookups { empty, longest, far, edges: [of_0, of_255, of_256, of_65535], .. } = lookups;
+    println!("rules without bytes: {empty}, of 255 bytes: {longest}, behind place 65,535: {far}");
+    println!("number 0: {of_0}, 255: {of_255}, 256: {of_256}, 65535: {of_65535}");
+    println!("refused with 31: {missing}, of these with records in both sheets: {missing_in_both}");
+    let Lookups { damaged_dealer, damaged_both, damaged_alike, damaged_factory, behind_number, below_number, faults, .. } = lookups;
+    println!("refused with 30, the dealer's sheet: {damaged_dealer}, of these the factory's too: {damaged_both}, alike: {damaged_alike}");
+    println!("the factory's: {damaged_factory}, of these where the dealer's has the number: {below_number}");
+    println!("behind a record with the number: {behind_number}");
+    let Faults { marks, repeated, fallen, unrisen_cut, cuts: [one, two, three, more], cut_by_one, at_first, far } = faults;
+    println!("for another byte than 20: {marks}, a number as before: {repeated}, a smaller one: {fallen}");
+    println!("of these numbers where the record lacks bytes too: {unrisen_cut}");
+    println!("for a record of which one byte is there: {one}, two: {two}, three: {three}, more: {more}");
+    println!("of these with 254 bytes of 255: {cut_by_one}; at the first byte: {at_first}, behind place 65,535: {far}");
 }

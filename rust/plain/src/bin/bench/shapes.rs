@@ -1,5 +1,7 @@
 //! Rules of the usual shapes, in bytes.
 
+pub use yuktrob_plain::hex::bytes as written;
+
 /// F, G, G F, U, R in bytes, over what they are applied to.
 pub fn eventually(f: &[u8]) -> Vec<u8> {
     [&[9, 6][..], f, &[8, 5, 0]].concat()
@@ -30,10 +32,4 @@ pub fn each_or_absent_next(signals: u8) -> Vec<u8> {
 /// At every place signal 0 is present now or absent so many places on.
 pub fn or_absent_later(places: usize) -> Vec<u8> {
     always(&[&[6, 3, 0][..], &vec![8; places], &[4, 0]].concat())
-}
-
-/// A rule written out in hex.
-pub fn written(hex: &str) -> Vec<u8> {
-    let byte = |i| u8::from_str_radix(&hex[i..i + 2], 16).expect("two hex digits");
-    (0..hex.len()).step_by(2).map(byte).collect()
 }
