@@ -1,8 +1,8 @@
 //! Every line of the ```rules blocks of docs/FORMULAS.md, run; its words for each refusal, held beside the crate's; and a rule that is
 //! searched with more and more room.
 
-use yuktrob::{build, course_len, decide, decide_safety, nodes_len, search, truth, work_len};
-use yuktrob::{Refusal, Rule, SafetyVerdict, Verdict, MOST_NODES, PREVIOUS_SCALE};
+use yuktrob::{build, course_len, decide, decide_safety, lookup, nodes_len, search, truth, work_len};
+use yuktrob::{Found, NotFound, Refusal, Rule, SafetyVerdict, Sheet, Verdict, MOST_NODES, PREVIOUS_SCALE};
 
 fn document() -> String {
     std::fs::read_to_string(concat!(env!("CARGO_MANIFEST_DIR"), "/../../docs/FORMULAS.md")).expect("docs/FORMULAS.md")
@@ -137,12 +137,30 @@ fn decided_safely(rule: &[u8], nodes: usize, lent: With) -> String {
     }
 }
 
+/// The lookup of a rule in two sheets, of which a dash has no records.
+fn looked_up([dealer, factory]: [&str; 2], number: u16) -> String {
+    let name = |sheet| if sheet == Sheet::Dealer { "dealer" } else { "factory" };
+    let [dealer, factory] = [dealer, factory].map(|text| if text == "-" { Vec::new() } else { bytes(text) });
+    match lookup(&dealer, &factory, number) {
+        Ok(Found { sheet, start, rule }) => {
+            let digits: String = rule.iter().map(|byte| format!("{byte:02x}")).collect();
+            format!("FOUND {} {start} {}", name(sheet), if rule.is_empty() { "-" } else { &digits })
+        }
+        Err(why @ NotFound::Damaged { sheet, place }) => format!("REFUSED {} {} at {place}", why.number(), name(sheet)),
+        Err(why @ NotFound::Missing) => format!("REFUSED {}", why.number()),
+    }
+}
+
 /// What a line comes to: `RULE on COURSE`, `RULE built`, `RULE searched`, `RULE searched over RULE`, or a rule alone, which is decided. All
-/// but the first may be followed by ` with ` and numbers. Or `safety | RULE | N`, as the test runner has it, and perhaps
-/// ` | lent WORK COURSE`.
+/// but the first may be followed by ` with ` and numbers. Or, as the test runner has them, `safety | RULE | N`, and perhaps
+/// ` | lent WORK COURSE`; and `sheet | DEALER | FACTORY | NUMBER`.
 fn found(input: &str) -> String {
-    if let ["safety", rule, nodes, ref lent @ ..] = input.split(" | ").collect::<Vec<_>>()[..] {
-        return decided_safely(&bytes(rule), nodes.parse().expect("a room for nodes"), With(lent.first().unwrap_or(&"")));
+    match input.split(" | ").collect::<Vec<_>>()[..] {
+        ["safety", rule, nodes, ref lent @ ..] => {
+            return decided_safely(&bytes(rule), nodes.parse().expect("a room for nodes"), With(lent.first().unwrap_or(&"")));
+        }
+        ["sheet", dealer, factory, number] => return looked_up([dealer, factory], number.parse().expect("a rule's number")),
+        _ => {}
     }
     let (input, with) = input.split_once(" with ").unwrap_or((input, ""));
     if let Some((rule, course)) = input.split_once(" on ") {
@@ -159,7 +177,7 @@ fn found(input: &str) -> String {
 #[test]
 fn every_line_of_the_document() {
     let mut inside = false;
-    let mut lines = 0;
+    let (mut lines, mut sheets) = (0, 0);
     for line in document().lines() {
         match line {
             "```rules" => inside = true,
@@ -168,11 +186,12 @@ fn every_line_of_the_document() {
                 let (input, expected) = line.split_once(" -> ").or(line.rsplit_once(" | ")).expect("an arrow or a bar");
                 assert_eq!(found(input), expected, "{input}");
                 lines += 1;
+                sheets += input.starts_with("sheet | ") as u32;
             }
             _ => {}
         }
     }
-    assert!(lines >= 30, "only {lines} lines were found");
+    assert!(lines >= 30 && sheets >= 10, "only {lines} lines were found, {sheets} of them with sheets");
 }
 
 /// The trainers' use: nodes that are built once are searched with more and more room, lent or with their rule.
@@ -211,6 +230,15 @@ fn refusal(number: u8) -> Refusal {
     }
 }
 
+/// The same for the refusals of a lookup.
+fn not_found(number: u8) -> Option<NotFound> {
+    match number {
+        30 => lookup(&[0x20, 7, 0, 2, 3], &[], 7).err(),
+        31 => lookup(&[], &[], 7).err(),
+        _ => None,
+    }
+}
+
 #[test]
 fn every_refusal_has_the_words_of_the_document() {
     let document = document();
@@ -219,8 +247,13 @@ fn every_refusal_has_the_words_of_the_document() {
         Some((number.parse::<u8>().ok()?, words.to_string()))
     };
     let rows: Vec<(u8, String)> = document.lines().skip_while(|line| *line != "## Refusals").filter_map(row).collect();
-    assert_eq!(rows.len(), 20);
+    assert_eq!(rows.len(), 22);
     for (number, words) in rows {
+        if let Some(why) = not_found(number) {
+            let place = if number == 30 { " at byte 5 of the dealer's sheet" } else { "" };
+            assert_eq!((why.number(), why.to_string()), (number, format!("refused {number}{place}: {words}")));
+            continue;
+        }
         let why = refusal(number);
         let place = why.place.map_or(String::new(), |place| format!(" at byte {place}"));
         let fixpoint = why.fixpoint.map_or(String::new(), |fixpoint| format!(", for the fixpoint at byte {fixpoint}"));
