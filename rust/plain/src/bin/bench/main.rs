@@ -4,6 +4,7 @@
 //! - `bench early`: the table of decisions that need fewer profiles than there are.
 //! - `bench building`: the tables of building and search.
 //! - `bench safety [COUNT SEED]`: the tables of safety rules; or which of so many random ones take longest.
+//! - `bench sheets`: the tables of lookups.
 //! - `bench alternating [SHORT LONG]`: the table of truth with alternating fixpoints, at these numbers of places.
 //! - `bench search COUNT SEED [PLACES]`: which of so many random rules with fixpoints that cross, most of which alternate, take the proved
 //!   library longest, and on which course.
@@ -19,6 +20,7 @@ mod early;
 mod readings;
 mod safety;
 mod shapes;
+mod sheets;
 mod timing;
 mod truths;
 
@@ -34,6 +36,7 @@ fn all() {
     readings::table();
     decisions::tables();
     safety::tables();
+    sheets::tables();
     truths::tables();
     alternating::table(1024, 8192);
 }
@@ -47,8 +50,9 @@ fn main() {
         Some("building") => building::alone(),
         Some("safety") if words.len() > 1 => safety::search(number(1, 1000), number(2, 1) as u64),
         Some("safety") => safety::tables(),
+        Some("sheets") => sheets::tables(),
         Some("alternating") => alternating::table(number(1, 1024), number(2, 8192)),
         Some("search") => alternating::search(number(1, 3000), number(2, 1) as u64, number(3, 1024)),
-        Some(other) => panic!("{other}: not known; early, building, safety, alternating or search, or nothing"),
+        Some(other) => panic!("{other}: not known; early, building, safety, sheets, alternating or search, or nothing"),
     }
 }
