@@ -17,8 +17,8 @@
  * What can be any place in memory does not fit beside a refusal: where a rule or a fault stands in a sheet, the lookup puts into words that
  * the caller lends. docs/FORMULAS.md lists the refusals; later versions may have more. Ask for a refusal before taking an answer apart.
  *
- * No function asks anything of its arguments but that a pointer has as many elements as the length behind it says, one where there is none,
- * and that what a function writes overlaps nothing else that it is given. */
+ * No function asks anything of its arguments but that a pointer has as many elements as the length behind it says, or one where no length
+ * stands behind it, and that what a function writes overlaps nothing else that it is given. */
 #ifndef YUKTROB_H
 #define YUKTROB_H
 

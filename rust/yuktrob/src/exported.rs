@@ -1,10 +1,10 @@
 //! The exported functions of the proved library, called with Rust's slices: the one module with `unsafe`.
 //!
 //! Why each call is sound. The library asks two things of its caller (`include/yuktrob.h`): that each pointer has as many elements as the
-//! length behind it says, one where there is none, and that what is written overlaps nothing else. A slice's pointer has its length's
-//! elements, all initialised; it is aligned and not null, even where the slice is empty; and a `&mut` overlaps nothing. The library is
-//! proved to stay inside its slices, for any values in them. It keeps no pointer after it returns, and it does not unwind: it has no
-//! panics.
+//! length behind it says, or one where no length stands behind it, and that what is written overlaps nothing else. A slice's pointer has
+//! its length's elements, all initialised; it is aligned and not null, even where the slice is empty; and a `&mut` overlaps nothing. The
+//! library is proved to stay inside its slices, for any values in them. It keeps no pointer after it returns, and it does not unwind: it
+//! has no panics.
 
 use crate::Refusal;
 
