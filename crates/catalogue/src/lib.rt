@@ -44,7 +44,7 @@ pub enum Location {
 }
 
 // What one catalogue has for a number.
-pub enum Scanned {
+enum Scanned {
     Has { start: usize, size: usize },
     Lacks,
     Broken(usize),
