@@ -7,7 +7,7 @@ use native.Mathlib.Omega.{arith}
 use native.Mathlib.Nat.{le-antisymm}
 use lib.ListN.{length}
 use Rattle.catalogue.specs.Records.{Records, records, end-of}
-use Rattle.catalogue.specs.Faults.{Whole-at, Due-at, Fault-at, Fault-from, Has-fault}
+use Rattle.catalogue.specs.Faults.{Whole-at, Due-at, Fault-at, Fault-from, Has-fault, Least-fault}
 use Rattle.catalogue.specs.declared.Record.{Record}
 use Rattle.catalogue.proofs.RecordLaws.{whole-faultless}
 use Rattle.catalogue.proofs.RunLaws.{Whole-run, Damaged-run, Run, records-run, whole-run}
@@ -54,11 +54,6 @@ whole-due (Whole-run.goes {at} {least} w l run) {q} Due-at.here g = whole-faultl
 whole-due (Whole-run.goes w l run) (Due-at.later v d) g = whole-due run d g
 
 -- ---- byte strings
--- The place of p is the least of all faults.
-pub record Least-fault (bytes : List ℕ) (p : ℕ) : Type 0 where
-  pub is-fault : Has-fault bytes p
-  pub least : (q : ℕ) → Has-fault bytes q → p ≤ q
-
 pub least-fault : (bytes : List ℕ) {p : ℕ} → records bytes ≡ Records.damaged p → Least-fault bytes p
 least-fault bytes {p} e =
     let run : Damaged-run bytes 0 0 p = subst (Run bytes 0 0) e (records-run bytes 0 0) in

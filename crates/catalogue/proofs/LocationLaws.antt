@@ -66,14 +66,14 @@ module _ (bytes : List ℕ) {rs : List Record} (e : records bytes ≡ Records.wh
       by-outcome (some s) q = let k = numbered-some q in absurd (u s (k .present) (k .has))
 
 -- A formula lies within its catalogue.
-pub entered-within : (bytes : List ℕ) {rs : List Record} → records bytes ≡ Records.whole rs → (r : Record) → List·Memᴰ r rs
+pub listed-within : (bytes : List ℕ) {rs : List Record} → records bytes ≡ Records.whole rs → (r : Record) → List·Memᴰ r rs
     → r .start + r .size ≤ length bytes
-entered-within bytes e r m =
+listed-within bytes e r m =
     let s = run-stands (whole-run bytes e) r m in
     subst (λ (r : Record). r .start + r .size ≤ length bytes) (sym (s .is)) (s .whole .ended)
 
 -- ---- two catalogues
--- The cases of a location, by what is found in the two byte strings. proofs/OverlayLaws.antt says it of catalogues and faults.
+-- The cases of a location, by what is found in the two byte strings. specs/Overlay.antt says it of catalogues and faults.
 pub data Located (overlay base : List ℕ) (n : ℕ) : Location → Type 0 where
   damaged-over : {p : ℕ} → records overlay ≡ Records.damaged p → Located overlay base n (Damaged Overlay p)
   damaged-under : {p : ℕ} {os : List Record} → records overlay ≡ Records.whole os → records base ≡ Records.damaged p
@@ -89,8 +89,8 @@ module _ (overlay base : List ℕ) (n : ℕ) where
   chosen-located : {os bs : List Record} → records overlay ≡ Records.whole os → records base ≡ Records.whole bs
       → (o b : Option Record) → numbered n os ≡ o → numbered n bs ≡ b → Located overlay base n (chosen o b)
   chosen-located p q (some r) b e f = Located.found-over p q (numbered-some overlay p n e)
-  chosen-located {os} p q none (some r) e f = Located.found-under p q (numbered-none overlay p n e) (numbered-some base q n f)
-  chosen-located {os} {bs} p q none none e f = Located.missing p q (numbered-none overlay p n e) (numbered-none base q n f)
+  chosen-located p q none (some r) e f = Located.found-under p q (numbered-none overlay p n e) (numbered-some base q n f)
+  chosen-located p q none none e f = Located.missing p q (numbered-none overlay p n e) (numbered-none base q n f)
 
   under-located : {os : List Record} → records overlay ≡ Records.whole os → (bs : Records) → records base ≡ bs
       → Located overlay base n (asked (Records.whole os) bs n)
@@ -114,8 +114,8 @@ Within overlay base Missing = Unit {0}
 located-within : {overlay base : List ℕ} {n : ℕ} {l : Location} → Located overlay base n l → Within overlay base l
 located-within (Located.damaged-over p) = tt
 located-within (Located.damaged-under p q) = tt
-located-within {overlay} (Located.found-over {r = r} p q e) = entered-within overlay p r (e .present)
-located-within {base = base} (Located.found-under {r = r} p q w e) = entered-within base q r (e .present)
+located-within {overlay} (Located.found-over {r = r} p q e) = listed-within overlay p r (e .present)
+located-within {base = base} (Located.found-under {r = r} p q w e) = listed-within base q r (e .present)
 located-within (Located.missing p q w v) = tt
 
 pub location-within : (overlay base : List ℕ) (n : ℕ) {l : Location} → location overlay base n ≡ l → Within overlay base l

@@ -11,7 +11,8 @@ use Rattle.catalogue.specs.declared.Record.{Record}
 abbrev pub mark : ℕ
 mark = 32
 
--- A formula in a catalogue: its number in two bytes, and its bytes, whatever they are.
+-- A formula in a catalogue: its number in two bytes, and its bytes, whatever they are. That a byte is below 256 is not said here: those of a
+-- slice are, and only what counts entries needs it (`few-records`, proofs/RunLaws.antt).
 pub record Entry : Type 0 where
   pub low : ℕ
   pub high : ℕ

@@ -1,5 +1,5 @@
 -- The faults of a byte string (MEANING 9.2), each with its place, said without going through it. Several may be there; what counts is the
--- least place (`least-fault`, proofs/FaultLaws.antt). Assumes nothing.
+-- least place (`Least-fault`), and it is the one that going through finds (proofs/FaultLaws.antt). Assumes nothing.
 use mathlib.Core.Path.{_≡_}
 use mathlib.Core.List.{List}
 use Prim.Native.Nat.{ℕ, _+_, _≤_, _<_}
@@ -33,3 +33,8 @@ Fault-from bytes from least place =
 -- the faults of a byte string: the first record is due at its first byte, and may have any number
 abbrev pub Has-fault : List ℕ → (place : ℕ) → Type 0
 Has-fault bytes place = Fault-from bytes 0 0 place
+
+-- p is the place of a fault, and no fault has a smaller one.
+pub record Least-fault (bytes : List ℕ) (p : ℕ) : Type 0 where
+  pub is-fault : Has-fault bytes p
+  pub least : (q : ℕ) → Has-fault bytes q → p ≤ q

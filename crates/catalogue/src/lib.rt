@@ -1,5 +1,5 @@
 // Formulas kept by number in catalogues, an overlay before a base catalogue (MEANING 9; document 02: the dealer's sheet and the factory's).
-// A catalogue is gone through once, record by record, and to its end: damage is told though the number be found before it.
+// A catalogue is gone through once, record by record, to its end or its first fault: damage is told though the number be found before it.
 ghost use mathlib.Core.Path.{_≡_};
 ghost use Prim.Native.Nat.{_+_, _≤_};
 ghost use lib.ListN.{length};
