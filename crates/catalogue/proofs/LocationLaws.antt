@@ -13,6 +13,7 @@ use Rattle.base.proofs.FirstLaws.{first-none, first-some}
 use Rattle.base.proofs.SortedLaws.{sorted-either}
 use Rattle.catalogue.specs.Records.{Records, records}
 use Rattle.catalogue.specs.Location.{numbered, chosen, asked, location}
+use Rattle.catalogue.specs.Contract.{of-layer}
 use Rattle.catalogue.specs.declared.Record.{Record}
 use Rattle.catalogue.specs.declared.Layer.{Layer}
 use Rattle.catalogue.specs.declared.Layer.the-variants.{Overlay, Base}
@@ -106,8 +107,7 @@ module _ (overlay base : List ℕ) (n : ℕ) where
 
 -- The part that is found lies within its catalogue.
 abbrev pub Within : (overlay base : List ℕ) → Location → Type 0
-Within overlay base (Found Overlay start size) = start + size ≤ length overlay
-Within overlay base (Found Base start size) = start + size ≤ length base
+Within overlay base (Found layer start size) = start + size ≤ of-layer layer (length overlay) (length base)
 Within overlay base (Damaged layer place) = Unit {0}
 Within overlay base Missing = Unit {0}
 
@@ -135,6 +135,8 @@ pub damaged-base : (overlay base : List ℕ) {os : List Record} {p : ℕ} → re
     → records base ≡ Records.damaged p → (n : ℕ) → location overlay base n ≡ Damaged Base p
 damaged-base overlay base d e n = location-by overlay base n d e
 
--- ---- for the code: a location that was matched, and its layer behind it
-pub found-in : {l r : Location} {layer k : Layer} {s z : ℕ} → r ≡ l → r ≡ Found layer s z → layer ≡ k → l ≡ Found k s z
-found-in {s = s} {z} p q e = sym p ∙ q ∙ ap (λ k. Found k s z) e
+-- what is so of the two is so of the one that is taken
+pub of-layer-map : {A B : Type 0} (f : A → B) (layer : Layer) (overlay base : A)
+    → f (of-layer layer overlay base) ≡ of-layer layer (f overlay) (f base)
+of-layer-map f Overlay overlay base = refl
+of-layer-map f Base overlay base = refl

@@ -15,11 +15,17 @@ code (Found layer start size) = 0
 code (Damaged layer place) = 30
 code Missing = 31
 
--- which catalogue: 0 for the overlay, 1 for the base catalogue; 31 is about both, and has 0
+-- which catalogue: 0 for the overlay, 1 for the base catalogue
 abbrev pub layer-number : Layer → ℕ
 layer-number Overlay = 0
 layer-number Base = 1
 
+-- of two things, one for each catalogue, that of one of them
+abbrev pub of-layer : {A : Type 0} → Layer → (overlay base : A) → A
+of-layer Overlay overlay base = overlay
+of-layer Base overlay base = base
+
+-- the catalogue of which the location tells; 31 is about both, and has 0
 abbrev pub layer-told : Location → ℕ
 layer-told (Found layer start size) = layer-number layer
 layer-told (Damaged layer place) = layer-number layer
@@ -52,7 +58,6 @@ part v start size = record { block = v .block; offset = v .offset + start; bytes
 
 -- the part of one of two catalogues that is handed back; where it is refused, the empty one at the beginning of the overlay
 abbrev pub handed : Location → (overlay base : View) → View
-handed (Found Overlay start size) overlay base = part overlay start size
-handed (Found Base start size) overlay base = part base start size
+handed (Found layer start size) overlay base = part (of-layer layer overlay base) start size
 handed (Damaged layer place) overlay base = part overlay 0 0
 handed Missing overlay base = part overlay 0 0

@@ -5,7 +5,7 @@ ghost use Prim.Native.Nat.{_+_, _≤_};
 ghost use lib.ListN.{length};
 ghost use Rattle.catalogue.specs.Records.{record-at, records};
 ghost use Rattle.catalogue.specs.Location.{location};
-ghost use Rattle.catalogue.specs.Contract.{code, layer-number, layer-told, place-told, size-told, view, part, handed};
+ghost use Rattle.catalogue.specs.Contract.{code, layer-number, layer-told, place-told, size-told, of-layer, view, part, handed};
 ghost use Rattle.catalogue.specs.Inner.{Small, kept, scanned, told};
 ghost use Rattle.catalogue.specs.declared.Scanned.the-variants.{Has, Lacks};
 
@@ -187,16 +187,24 @@ fn part<'a>(catalogue: &'a [u8], start: usize, size: usize) -> &'a [u8]
     &catalogue[start..start + size]
 }
 
+fn catalogue_of<'a>(overlay: &'a [u8], base: &'a [u8], layer: Layer) -> &'a [u8]
+    ensures { λ r. ⌜ r ≡ of-layer layer (overlay .entry) (base .entry) ⌝ }
+{
+    match layer {
+        Layer::Overlay => overlay,
+        Layer::Base => base,
+    }
+}
+
 // The bytes of the formula of a number, as a part of the catalogue that has them; an empty part where `locate` refuses.
 pub fn lookup<'a>(overlay: &'a [u8], base: &'a [u8], number: u16) -> &'a [u8]
     ensures { λ r. ⌜ view r ≡ handed
         (location (now (overlay .entry)) (now (base .entry)) number) (view (overlay .entry)) (view (base .entry)) ⌝ }
 {
     match locate(overlay, base, number) {
-        Location::Found { layer, start, size } => match layer {
-            Layer::Overlay => part(overlay, start, size),
-            Layer::Base => part(base, start, size),
-        },
+        Location::Found { layer, start, size } => {
+            part(catalogue_of(overlay, base, layer), start, size)
+        }
         Location::Damaged { layer: _, place: _ } => part(overlay, 0, 0),
         Location::Missing => part(overlay, 0, 0),
     }
