@@ -13,6 +13,7 @@ pub mod Early
 pub mod Limits
 pub mod Closed
 pub mod Guarded
+pub mod Reread
 pub mod WellFormed
 pub mod RowLaws
 pub mod FitLaws

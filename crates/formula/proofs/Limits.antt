@@ -38,10 +38,10 @@ nexts f = tally next-command f
 abbrev pub fixpoints : Formula → ℕ
 fixpoints f = tally fix-command f
 
-abbrev any : Opcode → Bool
+abbrev pub any : Opcode → Bool
 any op = true
 
-size-tally : (f : Formula) → tally any f ≡ size f
+pub size-tally : (f : Formula) → tally any f ≡ size f
 size-tally (Formula.leaf l) = refl
 size-tally (Formula.variable d) = refl
 size-tally (Formula.pair o a b) = omega (arith, size-tally a, size-tally b)
