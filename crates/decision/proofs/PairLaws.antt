@@ -2,7 +2,7 @@
 -- asks them, both come to the same verdict for every input (`pair-is-decision`); and of two calls, one after the other, the answer and the
 -- buffer are the decision's, and so is the workspace once what the two left in it is cleared away (`two-in-a-row`). Question 36 never
 -- refuses in between, as it accepts what building leaves. Assumes nothing.
-use mathlib.Core.Path.{_≡_, refl, sym, ap, subst⁻¹, _∙_}
+use mathlib.Core.Path.{_≡_, refl, sym, ap, subst, subst⁻¹, _∙_}
 use mathlib.Core.List.{List, _++_, append-assoc}
 use Prim.Native.Nat.{ℕ, _+_, _≤_}
 use native.Mathlib.Omega.{arith}
@@ -205,3 +205,7 @@ module _ (bytes : List ℕ) (N M : ℕ) (w b : List ℕ) (l : Lends N M (length 
       each (Made.too-many f p n) =
           promised f p (first-refusal (from-14 N M (table f)) n) refl refl zeroed-rest
       each (Made.nodes-left f p few) = searched-on f p few
+
+  -- the same by what building answered
+  pub in-a-row : {w₁ : List ℕ} {a x : built-code.Construction} → Constructed bytes N w w₁ a → a ≡ x → In-a-row x w₁
+  in-a-row {w₁} c e = subst (λ (x : built-code.Construction). In-a-row x w₁) e (two-in-a-row c)

@@ -91,13 +91,17 @@ workspace-size N M = nodes-size N + profiles-size M
 abbrev pub witness-size : (N M : ℕ) → ℕ
 witness-size N M = N + M
 
--- The questions 11 to 13 (MEANING 5.2), and what comes after them.
-abbrev pub ask-capacities : (N M workspace buffer : ℕ) (after : Verdict) → Verdict
-ask-capacities N M workspace buffer after =
-    ask (within-capacity N M) (Verdict.refused 11)
-    (ask (leb (workspace-size N M) workspace) (Verdict.refused 12)
-    (ask (leb (witness-size N M) buffer) (Verdict.refused 13)
+-- The questions 11 to 13 (MEANING 5.2), whatever a refusal with a number is, and what comes after them.
+abbrev pub ask-room : {A : Type 0} → (refusal : ℕ → A) → (N M workspace buffer : ℕ) (after : A) → A
+ask-room refusal N M workspace buffer after =
+    ask (within-capacity N M) (refusal 11)
+    (ask (leb (workspace-size N M) workspace) (refusal 12)
+    (ask (leb (witness-size N M) buffer) (refusal 13)
     after))
+
+-- of a verdict
+abbrev pub ask-capacities : (N M workspace buffer : ℕ) (after : Verdict) → Verdict
+ask-capacities N M workspace buffer after = ask-room Verdict.refused N M workspace buffer after
 
 -- A refusal of reading is handed on; a formula's table is asked on.
 abbrev pub after-reading : (Table → Verdict) → Reading Formula → Verdict

@@ -109,7 +109,7 @@ fn store_of(node_capacity: usize, profile_capacity: usize, n: usize) -> Store
 }
 
 // The questions 11 to 13, in their order: the code of the first that refuses, or 0.
-fn ask_capacities(n: usize, m: usize, workspace: usize, witness: usize) -> u8
+pub fn ask_capacities(n: usize, m: usize, workspace: usize, witness: usize) -> u8
     ensures { λ r. ⌜ Granted-or n m workspace witness r ⌝ }
 {
     if !within_capacity(n, m) {

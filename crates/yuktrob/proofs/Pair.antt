@@ -1,6 +1,6 @@
 -- The program builds and then searches, which is the decision: what it answers and leaves in the witness buffer is the decision's, whatever
 -- building answers. Assumes nothing.
-use mathlib.Core.Path.{_≡_, subst}
+use mathlib.Core.Path.{_≡_}
 use mathlib.Core.List.{List}
 use Prim.Native.Nat.{ℕ}
 use lib.ListN.{length}
@@ -14,7 +14,7 @@ use Rattle.decision.specs.Contract.{Decided, Searched}
 use Rattle.decision.specs.Inner.{Answers}
 use Rattle.decision.specs.declared.Verdict.{Verdict}
 use Rattle.decision.specs.declared.Verdict.the-variants.{Refused, Unread}
-use Rattle.decision.proofs.PairLaws.{In-a-row, two-in-a-row}
+use Rattle.decision.proofs.PairLaws.{In-a-row, in-a-row}
 
 module _ (bytes : List ℕ) (N M : ℕ) (w b : List ℕ) (l : Lends N M (length w) (length b)) {w₁ : List ℕ} {a : Construction}
     (c : Constructed bytes N w w₁ a) where
@@ -26,7 +26,7 @@ module _ (bytes : List ℕ) (N M : ℕ) (w b : List ℕ) (l : Lends N M (length 
 
   -- building answered this
   onward : {x : Construction} → a ≡ x → In-a-row bytes N M w b l x w₁
-  onward e = subst (λ (x : Construction). In-a-row bytes N M w b l x w₁) e (two-in-a-row bytes N M w b l c)
+  onward e = in-a-row bytes N M w b l c e
 
   pub pair-unread : {why : Refusal} → a ≡ building.Unread why → Answers (verdict N M (length w) (length b) bytes) b b (Unread why)
   pair-unread e = answers-of (onward e)
