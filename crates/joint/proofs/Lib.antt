@@ -1,0 +1,10 @@
+pub mod PlaceLaws
+pub mod CheckLaws
+pub mod ConjoinLaws
+pub mod ReadableLaws
+pub mod SubsetLaws
+pub mod WordingLaws
+pub mod ShrinkLaws
+pub mod ShrinkMeaning
+pub mod ConcludeLaws
+pub mod AskedLaws

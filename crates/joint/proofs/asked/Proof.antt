@@ -1,0 +1,91 @@
+-- `joint::asked`: each answer settles the outcome.
+use mathlib.Core.Path.{refl, sym, _∙_}
+use native.Mathlib.Omega.{arith}
+use lib.ListN.{length}
+use borrow.Author.Tests.{not-true, not-false}
+use Rattle.joint.proofs.AskedLaws.{joint-miscounted, range-placed, joint-unread, range-readable, joint-refused, joint-concluded, joint-leaves}
+use borrow.Author.Needs.{needs}
+use Rattle.joint.proofs.asked.Statement.{statement}
+use Rattle.joint.proofs.asked.Tie as tie
+
+between-requires : tie.Need-between-requires
+between-requires c κs = search needs
+
+returns : tie.Need-returns
+returns c =
+    let start = c .before .before .before .before .before in
+    let a = start .args in
+    let range = sym (c .before .between .ensures) ∙ not-true (c .before .between .result) (c .if1 .taken) in
+    joint-leaves (joint-miscounted (a .node-capacity) (a .profile-capacity) (length (a .workspace .now)) (length (a .witness .now)) (a .catalogue .now) (start .pre) range) (record { answered = refl; buffered = refl; worked = refl })
+
+first-unread-requires : tie.Need-first-unread-requires
+first-unread-requires c κs =
+    let start = c .before .before .before .before .before in
+    let a = start .args in
+    let range = sym (c .before .between .ensures) ∙ not-false (c .before .between .result) (c .if1 .left) in
+    range-placed (a .node-capacity) (a .profile-capacity) (length (a .workspace .now)) (length (a .witness .now)) (a .catalogue .now) (start .pre) range
+
+enum-known-position : tie.Need-enum-known-position
+enum-known-position c = c .match .keys1
+
+enum-told : tie.Need-enum-told
+enum-told c = c .match .keys2
+
+ask-capacities-requires : tie.Need-ask-capacities-requires
+ask-capacities-requires c κs = search needs
+
+returns-2 : tie.Need-returns-2
+returns-2 c =
+    let start = c .before .before .before .before .before .before .before .before .before .before in
+    let a = start .args in
+    let range = sym (c .before .before .before .before .before .before .between .ensures) ∙ not-false (c .before .before .before .before .before .before .between .result) (c .before .before .before .before .before .if1 .left) in
+    let read = sym (c .before .before .before .before .first-unread .ensures) ∙ c .before .before .enum-told .given .1 in
+    joint-leaves (joint-refused (a .node-capacity) (a .profile-capacity) (length (a .workspace .now)) (length (a .witness .now)) (a .catalogue .now) (start .pre) range read (c .before .ask-capacities .ensures) (omega arith))
+    (record { answered = refl; buffered = refl; worked = refl })
+
+concluded-requires : tie.Need-concluded-requires
+concluded-requires c κs =
+    let start = c .before .before .before .before .before .before .before .before .before .before .before .before in
+    let a = start .args in
+    let range = sym (c .before .before .before .before .before .before .before .before .between .ensures) ∙ not-false (c .before .before .before .before .before .before .before .before .between .result) (c .before .before .before .before .before .before .before .if1 .left) in
+    let read = sym (c .before .before .before .before .before .before .first-unread .ensures) ∙ c .before .before .before .before .enum-told .given .1 in
+    (range-readable (a .node-capacity) (a .profile-capacity) (length (a .workspace .now)) (length (a .witness .now)) (a .catalogue .now) (start .pre) range read, c .before .before .before .ask-capacities .ensures .granted (c .before .before .if2 .left))
+
+returns-3 : tie.Need-returns-3
+returns-3 c =
+    let start = c .before .before .before .before .before .before .before .before .before in
+    let a = start .args in
+    let range = sym (c .before .before .before .before .before .between .ensures) ∙ not-false (c .before .before .before .before .before .between .result) (c .before .before .before .before .if1 .left) in
+    joint-leaves (joint-unread (a .node-capacity) (a .profile-capacity) (length (a .workspace .now)) (length (a .witness .now)) (a .catalogue .now) (start .pre) range (sym (c .before .before .before .first-unread .ensures) ∙ c .before .position .given .1))
+    (record { answered = refl; buffered = refl; worked = refl })
+
+same-length : tie.Need-same-length
+same-length c = search needs
+
+same-length-2 : tie.Need-same-length-2
+same-length-2 c = search needs
+
+returns-4 : tie.Need-returns-4
+returns-4 c =
+    let start = c .before .before .before .before .before .before .before .before .before .before .before .before .before .before .before .before .before in
+    let a = start .args in
+    let range = sym (c .before .before .before .before .before .before .before .before .before .before .before .before .before .between .ensures) ∙ not-false (c .before .before .before .before .before .before .before .before .before .before .before .before .before .between .result) (c .before .before .before .before .before .before .before .before .before .before .before .before .if1 .left) in
+    let read = sym (c .before .before .before .before .before .before .before .before .before .before .before .first-unread .ensures) ∙ c .before .before .before .before .before .before .before .before .before .enum-told .given .1 in
+    joint-leaves (joint-concluded (a .node-capacity) (a .profile-capacity) (length (a .workspace .now)) (length (a .witness .now)) (a .catalogue .now) (start .pre) range read (c .before .before .before .before .before .before .before .before .ask-capacities .ensures) (c .before .before .before .before .before .before .before .if2 .left)) (c .before .before .before .before .concluded .ensures)
+
+pub asked-spec : {M : Type 1} → statement M
+asked-spec =
+    tie.close
+    (tie.spec
+    between-requires
+    returns
+    first-unread-requires
+    enum-known-position
+    enum-told
+    ask-capacities-requires
+    returns-2
+    concluded-requires
+    returns-3
+    same-length
+    same-length-2
+    returns-4)

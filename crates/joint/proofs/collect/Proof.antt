@@ -1,0 +1,91 @@
+-- `joint::collect`: before each turn, the places noted and the records from here on come to what the catalogue comes to. Each record takes
+-- four bytes or more, so the bytes left fall.
+use mathlib.Core.Path.{sym, subst, _∙_}
+use Prim.Native.Nat.{_-_}
+use native.Mathlib.Omega.{arith}
+use lib.ListN.{length}
+use Rattle.catalogue.specs.Inner.{Small}
+use Rattle.catalogue.proofs.RecordLaws.{record-ahead}
+use Rattle.joint.proofs.PlaceLaws.{Collecting, collect-none, collect-end, collect-fault, collect-on}
+use borrow.Author.Needs.{needs}
+use Rattle.joint.proofs.collect.Statement.{statement}
+use Rattle.joint.proofs.collect.Tie as tie
+
+abbrev Inv-loop : tie.InvT-loop
+Inv-loop catalogue at₀ least₀ found₀ at least found = Collecting catalogue at least found
+
+abbrev μ-loop : tie.MeasureT-loop
+μ-loop catalogue at₀ least₀ found₀ at least found = length catalogue - at
+
+loop-holds : tie.Need-loop-holds Inv-loop μ-loop
+loop-holds c = collect-none (c .before .args .catalogue .now)
+
+next-record-requires : tie.Need-next-record-requires Inv-loop μ-loop
+next-record-requires c κs = search needs
+
+enum-told : tie.Need-enum-told Inv-loop μ-loop
+enum-told c = c .match .keys1
+
+returns : tie.Need-returns Inv-loop μ-loop
+returns c =
+    let next = c .before .before in
+    let loop = next .before in
+    collect-end (c .before .before .before .before .before .args .catalogue .now) (loop .loop .inv) (sym (next .next-record .ensures .0) ∙ c .enum-told .given .1)
+
+enum-known-place : tie.Need-enum-known-place Inv-loop μ-loop
+enum-known-place c = c .match .keys2
+
+returns-2 : tie.Need-returns-2 Inv-loop μ-loop
+returns-2 c =
+    let next = c .before .before .before in
+    let loop = next .before in
+    collect-fault (c .before .before .before .before .before .before .args .catalogue .now) (loop .loop .inv) (sym (next .next-record .ensures .0) ∙ c .before .place .given .1)
+
+enum-known-r : tie.Need-enum-known-r Inv-loop μ-loop
+enum-known-r c = c .match .keys3
+
+with-record-requires : tie.Need-with-record-requires Inv-loop μ-loop
+with-record-requires c κs = search needs
+
+add-at : tie.Need-add-at Inv-loop μ-loop
+add-at c =
+    let loop = c .before .before .before .before .before .before .loop in
+    let is = sym (c .before .before .before .before .before .next-record .ensures .0) ∙ c .before .before .before .r .given .1 in
+    let w = record-ahead (c .before .before .before .before .before .before .before .before .args .catalogue .now) (loop .at) (loop .least) is in
+    search (needs, w)
+
+add-least : tie.Need-add-least Inv-loop μ-loop
+add-least c =
+    let s = subst Small (c .before .before .before .before .r .given .1) (c .before .before .before .before .before .before .next-record .ensures .1) in
+    omega (arith, s)
+
+loop-less : tie.Need-loop-less Inv-loop μ-loop
+loop-less c =
+    let loop = c .before .before .before .before .before .before .before .loop in
+    let is = sym (c .before .before .before .before .before .before .next-record .ensures .0) ∙ c .before .before .before .before .r .given .1 in
+    let w = record-ahead (c .before .before .before .before .before .before .before .before .before .args .catalogue .now) (loop .at) (loop .least) is in
+    omega (arith, w .0, w .1)
+
+loop-again : tie.Need-loop-again Inv-loop μ-loop
+loop-again c =
+    let is = sym (c .before .before .before .before .before .before .next-record .ensures .0) ∙ c .before .before .before .before .r .given .1 in
+    collect-on (c .before .before .before .before .before .before .before .before .before .args .catalogue .now) (c .before .before .before .before .before .before .before .loop .inv) is (c .before .before .with-record .ensures)
+
+pub collect-spec : {M : Type 1} → statement M
+collect-spec =
+    tie.close
+    (tie.spec
+    Inv-loop
+    μ-loop
+    loop-holds
+    next-record-requires
+    enum-told
+    returns
+    enum-known-place
+    returns-2
+    enum-known-r
+    with-record-requires
+    add-at
+    add-least
+    loop-less
+    loop-again)

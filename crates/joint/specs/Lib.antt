@@ -1,0 +1,3 @@
+pub mod Joint
+pub mod Contract
+pub mod Inner
