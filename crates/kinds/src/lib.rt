@@ -1,5 +1,8 @@
-// Kinds of line of the test runner that are checked apart from the program: a module each with a function `outcome`.
+// Kinds of line of the test runner that are checked apart from the program: a module each with a function `outcome`, and `capacities` with
+// what several have in common.
+pub mod capacities;
 pub mod greatest;
+pub mod sets;
 pub mod sheets;
 
 ghost use Prim.Native.Nat.{_≤_};

@@ -8,6 +8,7 @@ mod search;
 mod truth;
 
 use kinds::greatest;
+use kinds::sets;
 use kinds::sheets;
 use lines::area::start_bytes;
 use lines::field::BROKEN;
@@ -51,6 +52,7 @@ fn told(line: &[u8]) {
         5 => search::outcome(line, s),
         6 => greatest::outcome(line, s),
         7 => sheets::outcome(line, s),
+        8 => sets::outcome(line, s),
         _ => say::malformed(),
     }
 }
@@ -77,6 +79,9 @@ fn kind(name: &[u8]) -> u8 {
     }
     if same(name, b"sheet") {
         return 7;
+    }
+    if same(name, b"set") {
+        return 8;
     }
     0
 }

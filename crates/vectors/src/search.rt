@@ -7,10 +7,10 @@
 // With `| lent WORK COURSE` behind either so many bytes and places are lent, filled with patterns, and the outcome is followed by how many
 // of the bytes for N nodes are as they were just before the search, from the start on; how many of those behind are zero from their start
 // on, and how many at the end are as they were; and how many places at the end are.
-use crate::decide::asked;
 use crate::decide::told;
 use construction::Construction;
 use decision::Verdict;
+use kinds::capacities;
 use lines::area;
 use lines::field::BROKEN;
 use lines::field::bytes;
@@ -34,7 +34,7 @@ pub(crate) fn outcome(line: &[u8], s: &[u8]) {
     let mut kept = io::large_buffer();
     let length = bytes(&mut kept, built_hex(line));
     let e = edit_of(part(line, b'|', 3));
-    let a = asked(line, lent_place(e.made));
+    let a = capacities::asked(line, lent_place(e.made));
     if area::is_beyond(unbroken(length, unbroken(e.value, a.work)), a.course) {
         say::malformed();
         return;
