@@ -46,16 +46,16 @@ module _ {A B : Type 0} (h : A → B) where
       ∙ ap (ask (leb (workspace-size N M) w) (h (refusal 12))) (ask-made (leb (witness-size N M) b) (refusal 13) after))
 
 -- a refusal's code, and anything else stands for the outcome that comes after
-abbrev joint-of : Joint → Verdict → Joint
+abbrev pub joint-of : Joint → Verdict → Joint
 joint-of after (Verdict.unread why) = after
 joint-of after (Verdict.refused code) = Joint.refused code
 joint-of after (Verdict.satisfiable stem cycle K c letters) = after
 joint-of after (Verdict.unsatisfiable K P) = after
 
-abbrev granted : Verdict
+abbrev pub granted : Verdict
 granted = Verdict.unsatisfiable 0 0
 
-room-joint : (N M w b : ℕ) (after : Joint) → ask-room Joint.refused N M w b after ≡ joint-of after (ask-room Verdict.refused N M w b granted)
+pub room-joint : (N M w b : ℕ) (after : Joint) → ask-room Joint.refused N M w b after ≡ joint-of after (ask-room Verdict.refused N M w b granted)
 room-joint N M w b after = sym (room-made (joint-of after) Verdict.refused N M w b granted)
 
 module _ {N M w b c : ℕ} (g : Granted-or N M w b c) (after : Joint) where

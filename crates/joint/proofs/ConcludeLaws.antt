@@ -48,9 +48,16 @@ read-clears N M bytes {f} e w =
     ap (λ (r : Reading Formula). decision.cleared N M (after-reading (decide N M) r) w) e ∙ decided-clears N M (table f) w
 
 -- ---- where leaving out is stuck
-unknown-is : (v : Verdict) {why : Verdict} → attempt-of v ≡ Attempt.unknown why → v ≡ why
-unknown-is (Verdict.unread w) e = cc
-unknown-is (Verdict.refused code) e = cc
+-- a verdict that is no answer
+abbrev pub Refusing : Verdict → Type 0
+Refusing (Verdict.unread why) = Unit {0}
+Refusing (Verdict.refused code) = Unit {0}
+Refusing (Verdict.satisfiable stem cycle K c letters) = ⊥
+Refusing (Verdict.unsatisfiable K P) = ⊥
+
+unknown-is : (v : Verdict) {why : Verdict} → attempt-of v ≡ Attempt.unknown why → (v ≡ why) × Refusing v
+unknown-is (Verdict.unread w) e = (cc, tt)
+unknown-is (Verdict.refused code) e = (cc, tt)
 unknown-is (Verdict.satisfiable stem cycle K c letters) e = absurd (let z : _≡_ {A = ℕ} 0 1 = cc in omega arith)
 unknown-is (Verdict.unsatisfiable K P) e = absurd (let z : _≡_ {A = ℕ} 0 1 = cc in omega arith)
 
@@ -59,6 +66,7 @@ pub record Refused-part (N M : ℕ) (cs : List (List ℕ)) (why : Verdict) : Typ
   pub formula : Formula
   pub reads : parse (conjoined cs) ≡ Reading.accepted formula
   pub verdict-is : decided N M (conjoined cs) ≡ why
+  pub refuses : Refusing why
 
 module _ (N M : ℕ) (bs : List (List ℕ)) {fs : List Formula} (accepted : Accepted bs fs) {h : Formula}
     (read : parse (conjoined bs) ≡ Reading.accepted h) where
@@ -73,7 +81,8 @@ module _ (N M : ℕ) (bs : List (List ℕ)) {fs : List Formula} (accepted : Acce
       by [] p e = absurd (let z : _≡_ {A = ℕ} 0 1 = cc in omega arith)
       by (c ∷ cs) p e =
           let (f, r) = part-read p accepted read in
-          record { formula = f; reads = r; verdict-is = unknown-is (decided N M (conjoined (c ∷ cs))) e }
+          let (is, no-answer) = unknown-is (decided N M (conjoined (c ∷ cs))) e in
+          record { formula = f; reads = r; verdict-is = is; refuses = subst Refusing is no-answer }
 
   -- the outcome where no lasso meets all, and what it leaves: a cleared workspace, and the buffer as it was
   unmet-leaves : (K P : ℕ) {w b : List ℕ} (x : Shrunk) → shrink try (length bs) (everything (length bs)) ≡ x

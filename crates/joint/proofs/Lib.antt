@@ -8,3 +8,6 @@ pub mod ShrinkLaws
 pub mod ShrinkMeaning
 pub mod ConcludeLaws
 pub mod AskedLaws
+pub mod Cases
+pub mod Meaning
+pub mod Bounds

@@ -32,6 +32,16 @@ number-of (Untried s) = 35
 number-of (Satisfiable stem cycle K c) = 0
 number-of (Unsatisfiable K P core) = 0
 
+-- where the catalogue is damaged; 0 for any other answer
+abbrev pub fault-told : code.Joint → ℕ
+fault-told (Damaged place) = place
+fault-told Miscounted = 0
+fault-told (Unread position why) = 0
+fault-told (Refused code) = 0
+fault-told (Untried s) = 0
+fault-told (Satisfiable stem cycle K c) = 0
+fault-told (Unsatisfiable K P core) = 0
+
 -- the witness buffer after each outcome (MEANING 10.4): for MET the letters first, then what was there
 abbrev pub leaves : Joint → List ℕ → List ℕ
 leaves (Joint.damaged place) l = l

@@ -16,7 +16,7 @@ ghost use Rattle.conjunction.specs.Conjunction.{conjoined};
 ghost use Rattle.decision.specs.Contract.{Decided};
 ghost use Rattle.decision.specs.Lends.{Lends};
 ghost use Rattle.joint.specs.Joint.{chosen, everything, without, attempted, shrink, concluded};
-ghost use Rattle.joint.specs.Contract.{Leaves, Jointly, number-of};
+ghost use Rattle.joint.specs.Contract.{Leaves, Jointly, number-of, fault-told};
 ghost use Rattle.joint.specs.Inner.{noted, collected, Collects, Collected-from, held-at, held, Stands, Placed, checked, Readable};
 ghost use Rattle.joint.specs.Inner.{joined, joined-if, Put-bytes, Grown, Room, Conjoins};
 ghost use Rattle.joint.specs.Inner.{Clear, attempt-told, attempt-said, shrunk-told, core-said};
@@ -573,6 +573,33 @@ pub fn code_of(j: Joint) -> u8
         Joint::Unread { position: _, why } => formula::code_of(why),
         Joint::Refused(code) => code,
         Joint::Untried(_) => 35,
+        Joint::Satisfiable {
+            stem: _,
+            cycle: _,
+            nodes: _,
+            profiles: _,
+        } => 0,
+        Joint::Unsatisfiable {
+            nodes: _,
+            profiles: _,
+            core: _,
+        } => 0,
+    }
+}
+
+// Where the catalogue is damaged, or 0.
+pub fn fault_of(j: Joint) -> usize
+    ensures { λ r. ⌜ r ≡ fault-told j ⌝ }
+{
+    match j {
+        Joint::Damaged(place) => place,
+        Joint::Miscounted => 0,
+        Joint::Unread {
+            position: _,
+            why: _,
+        } => 0,
+        Joint::Refused(_) => 0,
+        Joint::Untried(_) => 0,
         Joint::Satisfiable {
             stem: _,
             cycle: _,

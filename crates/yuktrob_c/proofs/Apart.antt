@@ -1,6 +1,6 @@
 -- An answer is taken apart as include/yuktrob.h does it, where a shift to the right is a quotient and a mask a remainder: out comes what
 -- the answer was made of. So the number says as much as the answer. Assumes nothing.
-use mathlib.Core.Path.{_≡_, refl, sym, ap, _∙_}
+use mathlib.Core.Path.{_≡_, refl, sym, ap, subst, _∙_}
 use mathlib.Core.Logic.{_↔_}
 use mathlib.Core.List.{List}
 use mathlib.Core.Option.{Option, none, some}
@@ -15,10 +15,12 @@ use Rattle.formula.specs.declared.Refusal.{Refusal}
 use Rattle.formula.specs.declared.Refusal.the-variants.{AtByte, Unguarded}
 use Rattle.formula.proofs.Fuel.{Stopped, parse-stopped}
 use Rattle.formula.proofs.Early.{parse-early}
+use Rattle.joint.specs.declared.Joint.the-variants.{Unread, Untried, Unsatisfiable}
 use Rattle.catalogue.specs.Contract.{code, layer-told}
 use Rattle.catalogue.specs.declared.Location.{Location}
 use Rattle.catalogue.specs.declared.Location.the-variants.{Found, Damaged, Missing}
-use Rattle.yuktrob_c.specs.Numbers.{number, refusal-number, found, location-number, Letters-16, Early}
+use Rattle.yuktrob_c.specs.Numbers.{number, refusal-number, found, location-number, joint-number, Letters-16, Early}
+use Rattle.yuktrob_c.proofs.JointFit.{refusal-small}
 use Rattle.yuktrob_c.specs.Entry.{argument-of, packed}
 
 -- where there is no place the bits are 0
@@ -48,32 +50,57 @@ pub record RefusalApart (n : ℕ) (why : Refusal) : Type 0 where
   pub place-is : n / 256 % 256 ≡ place-of why
   pub binder-is : n / 65536 % 256 ≡ place-or-zero (binder-place-of why)
 
--- by its kind, where its number is small and tells the kind and its places are early
-apart-by : {total : ℕ} (why : Refusal) → Stopped total why → Early why → RefusalApart (refusal-number why) why
-apart-by (AtByte code at) s e =
-    let n = number code at in
+-- by its kind, where its number is small and tells the kind and its places are early; above 24 bits for these there may be more
+apart-by : {total : ℕ} (why : Refusal) (above : ℕ) → Stopped total why → Early why
+    → RefusalApart (refusal-number why + 16777216 * above) why
+apart-by (AtByte code at) above s e =
+    let n = number code at + 16777216 * above in
     let small : code < 256 = omega (arith, s .known) in
-    let refusal = low code 256 at small in
+    let refusal : n % 256 ≡ code =
+    ap (λ (x : ℕ). x % 256) {x = n} {y = code + 256 * (at + 65536 * above)} (omega arith) ∙ low code 256 (at + 65536 * above) small in
     record {
       refusal = refusal;
       eight = (λ q. s .binder (sym refusal ∙ q), λ h. absurd (h refl));
-      place-is = part n code 256 at 256 0 (omega arith) small (omega arith);
-      binder-is = part n (code + 256 * at) 65536 0 256 0 (omega arith) (omega arith) (omega arith);
+      place-is = part n code 256 at 256 (256 * above) (omega arith) small (omega arith);
+      binder-is = part n (code + 256 * at) 65536 0 256 above (omega arith) (omega arith) (omega arith);
     }
-apart-by (Unguarded at binder-at) s (h, k) =
-    let carried = at + 256 * binder-at in
-    let n = number 8 carried in
-    let refusal = low 8 256 carried (omega arith) in
+apart-by (Unguarded at binder-at) above s (h, k) =
+    let n = number 8 (at + 256 * binder-at) + 16777216 * above in
+    let refusal : n % 256 ≡ 8 =
+    ap (λ (x : ℕ). x % 256) {x = n} {y = 8 + 256 * (at + 256 * (binder-at + 256 * above))} (omega arith)
+    ∙ low 8 256 (at + 256 * (binder-at + 256 * above)) (omega arith) in
     record {
       refusal = refusal;
       eight = (λ _. s .binder refl, λ _. refusal);
-      place-is = part n 8 256 at 256 binder-at (omega arith) (omega arith) (omega arith);
-      binder-is = part n (8 + 256 * at) 65536 binder-at 256 0 (omega arith) (omega arith) (omega arith);
+      place-is = part n 8 256 at 256 (binder-at + 256 * above) (omega arith) (omega arith) (omega arith);
+      binder-is = part n (8 + 256 * at) 65536 binder-at 256 above (omega arith) (omega arith) (omega arith);
     }
 
 -- Theorem: the number of a refusal of reading is taken apart into what the refusal says.
 pub refusal-apart : (bytes : List ℕ) (why : Refusal) → parse bytes ≡ Reading.refused why → RefusalApart (refusal-number why) why
-refusal-apart bytes why e = apart-by why (parse-stopped bytes e) (parse-early bytes why e)
+refusal-apart bytes why e =
+    subst (λ (n : ℕ). RefusalApart n why) {x = refusal-number why + 16777216 * 0} {y = refusal-number why} (omega arith)
+    (apart-by why 0 (parse-stopped bytes e) (parse-early bytes why e))
+
+-- Theorem: so is that of a formula of a catalogue, with its position, by yuktrob_position: a shift by 24 bits.
+pub unread-apart : (bytes : List ℕ) (why : Refusal) → parse bytes ≡ Reading.refused why → (position : ℕ)
+    → RefusalApart (joint-number (Unread position why)) why × (joint-number (Unread position why) / 16777216 ≡ position)
+unread-apart bytes why e position =
+    let stopped = parse-stopped bytes e in
+    let early = parse-early bytes why e in (
+      apart-by why position stopped early,
+      high (refusal-number why) 16777216 position (refusal-small why (stopped .known) early),
+    )
+
+-- Theorem: 35 is taken apart by yuktrob_refusal and yuktrob_tried, a core by yuktrob_clash: shifts by 8 and 9 bits.
+pub tried-apart : (s : ℕ) → s < 256 → (joint-number (Untried s) % 256 ≡ 35) × (joint-number (Untried s) / 256 % 256 ≡ s)
+tried-apart s h =
+    (low 35 256 s (omega arith), part (number 35 s) 35 256 s 256 0 (omega arith) (omega arith) h)
+
+pub clash-apart : (K P core : ℕ) → core < 256 → joint-number (Unsatisfiable K P core) / 512 % 256 ≡ core
+clash-apart K P core h =
+    let counts = 0 + 8192 * (K + 8192 * P) in
+    part (number 0 (found 0 core 0 K P)) 0 512 core 256 (32 * counts) (omega arith) (omega arith) h
 
 -- Theorem: so is the number of 43, by yuktrob_refusal and yuktrob_place.
 pub least-apart : (place : ℕ) → place ≤ 97 → (number 43 place % 256 ≡ 43) × (number 43 place / 256 % 256 ≡ place)

@@ -2,4 +2,5 @@ pub mod Early
 pub mod EntryLaws
 pub mod TruthFit
 pub mod VerdictFit
+pub mod JointFit
 pub mod Apart

@@ -30,7 +30,7 @@ use Rattle.safety.specs.declared.Verdict.the-variants as safety
 use Rattle.safety.proofs.Bounds as safe-bounds
 use Rattle.yuktrob_c.specs.Numbers.{Letters-16, ConstructionFits, VerdictFits, SafetyFits}
 
-small : {N M stem cycle K P : ℕ} → Answer-sized N M stem cycle K P → Letters-16 stem cycle K P
+pub small : {N M stem cycle K P : ℕ} → Answer-sized N M stem cycle K P → Letters-16 stem cycle K P
 small s =
     let c = s .capacity in
     record {

@@ -1,4 +1,4 @@
--- The number that stands for each answer: its lowest byte is the number of a refusal (MEANING 1.4, 2.5, 5.2, 5.11, 5.12, 5.14, 9.3), or 0,
+-- The number that stands for each answer: its lowest byte is the number of a refusal (MEANING 1.4, 2.5, 5.2, 5.11, 5.12, 5.14, 9.3, 10.2), or 0,
 -- and what the answer carries stands above it. include/yuktrob.h says the same in C. Assumes nothing.
 use mathlib.Core.Bool.{cond}
 use mathlib.Core.List.{List}
@@ -23,6 +23,11 @@ use Rattle.safety.specs.Safety as safe
 use Rattle.safety.specs.Contract.{shortage-code}
 use Rattle.safety.specs.declared.Verdict as safe-code
 use Rattle.safety.specs.declared.Verdict.the-variants as safety
+use Rattle.joint.specs.Joint as joined
+use Rattle.joint.specs.Joint.{max-formulas}
+use Rattle.joint.specs.Contract.{number-of}
+use Rattle.joint.specs.declared.Joint as joint-code
+use Rattle.joint.specs.declared.Joint.the-variants as joint
 use Rattle.catalogue.specs.declared.Location.{Location}
 use Rattle.catalogue.specs.Contract.{code, layer-told}
 
@@ -79,6 +84,18 @@ safety-number (safety.Unread why) = refusal-number why
 abbrev pub location-number : Location → ℕ
 location-number l = number (code l) (layer-told l)
 
+-- All formulas of a catalogue: MET as for the decision; NOT has the unsatisfiable core, a bit for each position, where MET has the stem's
+-- length. A formula's refusal of reading has the position above its 24 bits, 35 carries the subset, and the others nothing: the place of a
+-- fault is in a word of its own.
+abbrev pub joint-number : joint-code.Joint → ℕ
+joint-number (joint.Damaged place) = number (number-of (joint.Damaged place)) 0
+joint-number joint.Miscounted = number (number-of joint.Miscounted) 0
+joint-number (joint.Unread position why) = refusal-number why + 16777216 * position
+joint-number (joint.Refused code) = number code 0
+joint-number (joint.Untried s) = number (number-of (joint.Untried s)) s
+joint-number (joint.Satisfiable stem cycle K c) = number 0 (found 1 stem cycle K c)
+joint-number (joint.Unsatisfiable K P core) = number 0 (found 0 core 0 K P)
+
 -- the definition's verdict, by the formula's bytes, the capacities and the lent areas
 abbrev pub verdict-of : (bytes : List ℕ) (N M : ℕ) (workspace buffer : List ℕ) → meaning.Verdict
 verdict-of bytes N M workspace buffer = verdict N M (length workspace) (length buffer) bytes
@@ -94,6 +111,10 @@ search-of bytes K N M workspace buffer = search-verdict K N M workspace (length 
 -- The same of the safety decision.
 abbrev pub safety-of : (bytes : List ℕ) (N : ℕ) (workspace buffer : List ℕ) → safe.Verdict
 safety-of bytes N workspace buffer = safe.verdict N (length workspace) (length buffer) bytes
+
+-- and of the decision of a catalogue
+abbrev pub joint-of : (catalogue : List ℕ) (N M : ℕ) (workspace buffer : List ℕ) → joined.Joint
+joint-of catalogue N M workspace buffer = joined.joint N M (length workspace) (length buffer) catalogue
 
 -- Why the numbers fit into 64 bits: by question 11 and MEANING 5.6 the sizes of a verdict have room in 13 bits each.
 pub record Letters-16 (stem cycle K c : ℕ) : Type 0 where
@@ -132,3 +153,13 @@ SafetyFits (safety.Unsatisfiable K) = Letters-16 0 0 K 0
 SafetyFits (safety.Refused s) = Unit {0}
 SafetyFits (safety.LeastAt place) = place ≤ 97
 SafetyFits (safety.Unread why) = Early why
+
+-- and of all formulas of a catalogue, where a subset has eight bits
+abbrev pub JointFits : joint-code.Joint → Type 0
+JointFits (joint.Damaged place) = Unit {0}
+JointFits joint.Miscounted = Unit {0}
+JointFits (joint.Unread position why) = (position < max-formulas) × (code-of why ≤ 9) × Early why
+JointFits (joint.Refused code) = Unit {0}
+JointFits (joint.Untried s) = Unit {0}
+JointFits (joint.Satisfiable stem cycle K c) = Letters-16 stem cycle K c
+JointFits (joint.Unsatisfiable K P core) = Letters-16 core 0 K P

@@ -8,6 +8,7 @@ use formula::Outcome;
 use formula::Refusal;
 use formula::Subformula;
 use formula::Table;
+use joint::Joint;
 use lasso::Truth;
 ghost use mathlib.Core.Path.{_≡_};
 ghost use Prim.Native.Nat.{_≤_, _<_};
@@ -28,6 +29,8 @@ ghost use Rattle.yuktrob_c.specs.Entry.{argument-of, packed, entry-numbe
 ghost use Rattle.catalogue.specs.Location.{location};
 ghost use Rattle.catalogue.specs.Contract.{place-told, size-told};
 ghost use Rattle.yuktrob_c.specs.Numbers.{location-number};
+ghost use Rattle.joint.specs.Contract as joined;
+ghost use Rattle.yuktrob_c.specs.Numbers.{joint-number, joint-of, JointFits};
 
 // The lowest byte is a refusal's code or 0; what the answer carries stands above it.
 fn number(code: u8, carried: usize) -> u64
@@ -282,4 +285,52 @@ pub extern "C" fn yuktrob_lookup(
     *start = catalogue::place_of(l);
     *size = catalogue::size_of(l);
     location_number(l)
+}
+
+fn joint_number(j: Joint) -> u64
+    requires { ⌜ JointFits j ⌝ }
+    ensures { λ r. ⌜ r ≡ joint-number j ⌝ }
+{
+    match j {
+        Joint::Damaged(_) => number(30, 0),
+        Joint::Miscounted => number(34, 0),
+        Joint::Unread { position, why } => refusal_number(why) + 16777216 * (position as u64),
+        Joint::Refused(code) => number(code, 0),
+        Joint::Untried(s) => number(35, base::wide(s)),
+        Joint::Satisfiable {
+            stem,
+            cycle,
+            nodes,
+            profiles,
+        } => found(1, stem, cycle, nodes, profiles),
+        Joint::Unsatisfiable {
+            nodes,
+            profiles,
+            core,
+        } => found(0, base::wide(core), 0, nodes, profiles),
+    }
+}
+
+// Whether one lasso meets all formulas of a catalogue, and if none does, which of them clash.
+#[no_mangle]
+pub extern "C" fn yuktrob_decide_set(
+    sheet: &[u8],
+    nodes: usize,
+    profiles: usize,
+    work: &mut [u8],
+    course: &mut [u16],
+    place: &mut usize,
+) -> u64
+    ensures numbered { λ r. ⌜ r ≡ joint-number
+        (joined.says (joint-of (now (sheet .entry)) nodes profiles (now (work .entry)) (now (course .entry)))) ⌝ }
+    ensures filled { λ _. ⌜ now (course .exit) ≡ joined.leaves
+        (joint-of (now (sheet .entry)) nodes profiles (now (work .entry)) (now (course .entry))) (now (course .entry)) ⌝ }
+    ensures emptied { λ _. ⌜ now (work .exit) ≡ joined.cleared nodes profiles
+        (joint-of (now (sheet .entry)) nodes profiles (now (work .entry)) (now (course .entry))) (now (work .entry)) ⌝ }
+    ensures placed { λ _. ⌜ now (place .exit) ≡ joined.fault-told
+        (joined.says (joint-of (now (sheet .entry)) nodes profiles (now (work .entry)) (now (course .entry)))) ⌝ }
+{
+    let j = joint::decide_all(sheet, nodes, profiles, work, course);
+    *place = joint::fault_of(j);
+    joint_number(j)
 }
