@@ -11,3 +11,4 @@ pub mod AskedLaws
 pub mod Cases
 pub mod Meaning
 pub mod Bounds
+pub mod Examples
