@@ -1,6 +1,7 @@
 /* Lists the entries of a rule, decides a few, one of them with little room, tries the course of each that has one, and a course that is
  * refused; then builds the nodes of a rule once and searches them with little room, with more, and for another rule; then decides safety
- * rules with room for nodes alone; then looks rules up in two sheets. Each answer is asked for a refusal before it is taken apart. */
+ * rules with room for nodes alone; then looks rules up in two sheets; then decides sheets of rules at once, one of which can be met and one
+ * of which clashes. Each answer is asked for a refusal before it is taken apart. */
 #include "../include/yuktrob.h"
 #include <stdio.h>
 
@@ -152,6 +153,51 @@ static void look_up_some(void) {
     look_up(dealer, sizeof dealer, factory + 1, sizeof factory - 1, 7);
 }
 
+/* The positions of some rules of a set. */
+static void print_rules(unsigned rules) {
+    for (unsigned p = 0; p < YUKTROB_MOST_RULES; p++)
+        if (rules >> p & 1) printf(" %u", p);
+    printf("\n");
+}
+
+/* All rules of a sheet at once, with room for so many nodes, NODES at most. */
+static void decide_set(size_t nodes, const uint8_t *sheet, size_t sheet_len) {
+    size_t places = sizeof course / sizeof course[0], place;
+    uint64_t answer = yuktrob_decide_set(sheet, sheet_len, nodes, PROFILES, work, sizeof work, course, places, &place);
+    if (yuktrob_refusal(answer) == 30) {
+        printf("refused 30 at byte %zu\n", place);
+    } else if (yuktrob_refusal(answer) == 35) {
+        printf("refused 35 for the rules at");
+        print_rules(yuktrob_tried(answer));
+    } else if (yuktrob_refusal(answer)) {
+        if (yuktrob_has_place(answer)) printf("the rule at %u: ", yuktrob_position(answer));
+        print_refusal(answer);
+    } else if (yuktrob_is_met(answer)) {
+        print_sizes(answer);
+        printf(":");
+        print_course(answer);
+    } else {
+        printf("NOT, K %u, P %u, clashing:", yuktrob_nodes(answer), yuktrob_profiles(answer));
+        print_rules(yuktrob_clash(answer));
+    }
+}
+
+/* A handover file of four rules, of which the first and the last clash; without its last rule; and what is refused. */
+static void decide_sets(void) {
+    const uint8_t handover[] = {0x20, 0x0A, 0x00, 0x02, 0x03, 0x01, /* rule 10: the change is announced */
+                                0x20, 0x14, 0x00, 0x03, 0x08, 0x03, 0x00, /* rule 20: at the next place the revision changes */
+                                0x20, 0x1E, 0x00, 0x07, 0x0A, 0x07, 0x04, 0x0E, 0x08, 0x05, 0x00, /* rule 30: never the previous scale */
+                                0x20, 0x2C, 0x01, 0x07, 0x0A, 0x07, 0x04, 0x01, 0x08, 0x05, 0x00}; /* rule 300: never an announcement */
+    const uint8_t unguarded[] = {0x20, 0x0A, 0x00, 0x01, 0x01, 0x20, 0x14, 0x00, 0x03, 0x09, 0x05, 0x00}; /* rule 20 lacks a next */
+    decide_set(NODES, handover, sizeof handover);
+    decide_set(NODES, handover, sizeof handover - 11);
+    decide_set(2, handover, sizeof handover);
+    decide_set(NODES, handover, sizeof handover - 1);
+    decide_set(NODES, handover, 0);
+    decide_set(NODES, unguarded, sizeof unguarded);
+    decide_set(0, handover, sizeof handover);
+}
+
 int main(void) {
     const uint8_t eventually[] = {0x09, 0x06, 0x03, 0x00, 0x08, 0x05, 0x00}; /* sooner or later signal 0 */
     const uint8_t either[] = {0x06, 0x03, 0x01, 0x03, 0x00}; /* signal 1 or signal 0: two courses as short, the left one is given */
@@ -188,5 +234,6 @@ int main(void) {
     decide_safety(NODES, often, sizeof often);
     decide_safety(NODES, unguarded, sizeof unguarded);
     look_up_some();
+    decide_sets();
     return 0;
 }

@@ -1,5 +1,6 @@
 /* Rules of tractor-guidance terminals: reading, truth on a repeating course, and the decision, at once or in two: building and search;
- * that of safety rules, which takes no profiles; and the lookup of a rule by its number, in a dealer's sheet before the factory's.
+ * that of safety rules, which takes no profiles; the lookup of a rule by its number, in a dealer's sheet before the factory's; and the
+ * decision whether one course meets all rules of a sheet.
  *
  * Each function answers one number. Its lowest byte is the number of a refusal, or 0; what the answer carries stands above it:
  *   reading    accepted: the number of entries; refused 1 to 9: its places
@@ -13,9 +14,14 @@
  *   safety     MET and NOT as the decision has them, the 13 bits of the profiles being 0; refused 1 to 9 or 43: its places; refused 11 to
  *              14: nothing
  *   lookup     found or refused 30: the sheet, 0 for the dealer's, 1 for the factory's; refused 31: nothing
+ *   set        MET as the decision has it; NOT too, with the clashing rules in the lowest 8 of the lead-in's bits; refused 1 to 9: its
+ *              places, in 16 bits always, and above these the rule's position; refused 35: 8 bits for the rules that were tried; refused
+ *              30, 34 or 11 to 13: nothing
  * The places of a refusal are 8 bits for the byte's place and, of 8 alone, 8 bits above them for where the variable's fixpoint begins.
- * What can be any place in memory does not fit beside a refusal: where a rule or a fault stands in a sheet, the lookup puts into words that
- * the caller lends. docs/FORMULAS.md lists the refusals; later versions may have more. Ask for a refusal before taking an answer apart.
+ * Rules of a set are told by their positions in the sheet, from 0 on; of several, bit p is set for the rule at position p.
+ * What can be any place in memory does not fit beside a refusal: where a rule or a fault stands in a sheet, the lookup and the decision of
+ * a set put into words that the caller lends. docs/FORMULAS.md lists the refusals; later versions may have more. Ask for a refusal before
+ * taking an answer apart.
  *
  * No function asks anything of its arguments but that a pointer has as many elements as the length behind it says, or one where no length
  * stands behind it, and that what a function writes overlaps nothing else that it is given. */
@@ -29,6 +35,9 @@
 #define YUKTROB_MOST_PLACES 8192
 #define YUKTROB_MOST_NODES 1024
 #define YUKTROB_MOST_PROFILES 4096
+
+/* The most rules of a set. */
+#define YUKTROB_MOST_RULES 8
 
 /* A place of a course has 16 bits, bit j for signal j. Signals 14 and 15 are the scale flags: a heading has the previous revision's scale,
  * or the current one's. Each place has exactly one of these two bits, and any of the others. */
@@ -120,9 +129,25 @@ uint64_t yuktrob_decide_safety(const uint8_t *rule, size_t rule_len, size_t node
 uint64_t yuktrob_lookup(const uint8_t *dealer, size_t dealer_len, const uint8_t *factory, size_t factory_len, uint16_t number,
                         size_t *start, size_t *size);
 
+/* Whether one course meets all rules of a sheet, one to eight of them, with room for so many nodes and profiles. The sheet is laid out as
+ * for a lookup; a rule's position is how many stand before it, whatever its number is. It is decided as yuktrob_decide decides the rules'
+ * conjunction, the first and (the second and (the third ..)): with its areas, its MET and its course, and with the K and P of its NOT. NOT
+ * also has the clashing rules: no course meets these, and without any one of them some course does. Of several such subsets it is the one
+ * that is left if, from the last rule to the first, each is left out for good where the others that are left still cannot be met.
+ *
+ * The questions, in this order: 30 says that the sheet is damaged, and *place is then the first place where something is wrong, as the
+ * lookup's *start is; 34 that it has no rules or more than YUKTROB_MOST_RULES; 1 to 9 are what reading says of the first rule that it
+ * refuses; 11 to 13 are the decision's; 35 says that some rules, all of them or what leaving out has left, could not be decided: as one
+ * rule they are refused with 3 or 4, or there is no room, 14 or 15. *place is written always, and is 0 but after 30.
+ *
+ * After MET, NOT, and 35 through 14 or 15 the first YUKTROB_WORK_LEN(nodes, profiles) bytes of the work area are zero; otherwise, after 35
+ * through 3 or 4 too, the work area is unchanged. The course buffer is written by MET alone, and then begins with the course. */
+uint64_t yuktrob_decide_set(const uint8_t *sheet, size_t sheet_len, size_t nodes, size_t profiles, uint8_t *work, size_t work_len,
+                            uint16_t *course, size_t course_len, size_t *place);
+
 /* Taking an answer apart. Every answer: the refusal's number, or 0; whether the answer has a byte's place, as 1 to 9 and 43 have it (that
- * of 30 is in the word *start, and not in the answer); and the place. Then whether it has a fixpoint's place too, which 8 alone has; and
- * that place. */
+ * of 30 is in the word *start or *place, and not in the answer); and the place. Then whether it has a fixpoint's place too, which 8 alone
+ * has; and that place. */
 static inline unsigned yuktrob_refusal(uint64_t answer) { return (unsigned)(answer & 255); }
 static inline int yuktrob_has_place(uint64_t answer) {
     return (1 <= yuktrob_refusal(answer) && yuktrob_refusal(answer) <= 9) || yuktrob_refusal(answer) == 43;
@@ -145,8 +170,9 @@ static inline int yuktrob_is_true(uint64_t answer) { return (answer & 255) == 0 
 /* Building, not refused: K. */
 static inline unsigned yuktrob_built(uint64_t answer) { return (unsigned)(answer >> 8); }
 
-/* A decision or a search, not refused; the lengths are 0 after NOT. The nodes are K. After NOT the profiles are P; after MET they are those
- * of runs of at most as many steps as the loop has; of a safety rule's decision they are 0 and say nothing. */
+/* A decision or a search, of a set too, not refused; the lengths are 0 after NOT, but of a set the lead-in's bits have the clash then. The
+ * nodes are K. After NOT the profiles are P; after MET they are those of runs of at most as many steps as the loop has; of a safety rule's
+ * decision they are 0 and say nothing. */
 static inline int yuktrob_is_met(uint64_t answer) { return (answer & 255) == 0 && (answer >> 8 & 1) == 1; }
 static inline unsigned yuktrob_lead_len(uint64_t answer) { return (unsigned)(answer >> 9 & 8191); }
 static inline unsigned yuktrob_loop_len(uint64_t answer) { return (unsigned)(answer >> 22 & 8191); }
@@ -155,6 +181,11 @@ static inline unsigned yuktrob_profiles(uint64_t answer) { return (unsigned)(ans
 
 /* A lookup, found or refused with 30: YUKTROB_DEALER or YUKTROB_FACTORY. */
 static inline unsigned yuktrob_sheet(uint64_t answer) { return (unsigned)(answer >> 8); }
+
+/* A set. After NOT: the rules that clash. Refused with 1 to 9: the position of that rule. Refused with 35: the rules that were tried. */
+static inline unsigned yuktrob_clash(uint64_t answer) { return (unsigned)(answer >> 9 & 255); }
+static inline unsigned yuktrob_position(uint64_t answer) { return (unsigned)(answer >> 24); }
+static inline unsigned yuktrob_tried(uint64_t answer) { return (unsigned)(answer >> 8 & 255); }
 
 #ifdef __cplusplus
 }

@@ -60,6 +60,17 @@ extern "C" {
         start: *mut usize,
         size: *mut usize,
     ) -> u64;
+    fn yuktrob_decide_set(
+        sheet: *const u8,
+        sheet_len: usize,
+        nodes: usize,
+        profiles: usize,
+        work: *mut u8,
+        work_len: usize,
+        course: *mut u16,
+        course_len: usize,
+        place: *mut usize,
+    ) -> u64;
 }
 
 /// What an answer carries, or the refusal: the lowest byte is the number of a refusal, or 0; the rest stands above it.
@@ -122,6 +133,15 @@ pub fn lookup(dealer: &[u8], factory: &[u8], number: u16, start: &mut usize, siz
     unsafe { yuktrob_lookup(dealer.as_ptr(), dealer.len(), factory.as_ptr(), factory.len(), number, start, size) }
 }
 
+/// The whole answer, since a refusal by reading has the rule's position beside its places, and 35 the rules that were tried.
+pub fn decide_set(sheet: &[u8], nodes: usize, profiles: usize, work: &mut [u8], course: &mut [u16], place: &mut usize) -> u64 {
+    let (sheet_len, work_len, course_len) = (sheet.len(), work.len(), course.len());
+    // SAFETY: pointers and lengths are those of slices, and nothing else refers to the word; see above.
+    unsafe {
+        yuktrob_decide_set(sheet.as_ptr(), sheet_len, nodes, profiles, work.as_mut_ptr(), work_len, course.as_mut_ptr(), course_len, place)
+    }
+}
+
 #[cfg(test)]
 mod tests {
     use super::*;
@@ -165,5 +185,35 @@ mod tests {
         assert_eq!(told(cut, cut, 1), (30, 5, 0));
         assert_eq!(told(one, cut, 1), (30 + 256, 5, 0));
         assert_eq!(told(one, two, 3), (31, 0, 0));
+    }
+
+    /// NOT has the clash where MET has the lead-in's length, a refusal by reading the position above its places, 35 what was tried. The
+    /// word is written by every call, whatever it held: 30 has its place there, and all other answers 0.
+    #[test]
+    fn numbers_of_sets() {
+        let told = |sheet: &[u8], nodes: usize, work: usize, course: usize| {
+            let (work, course, mut place) = (&mut vec![0; work], &mut vec![0; course], 99);
+            (decide_set(sheet, nodes, 1, work, course, &mut place), place)
+        };
+        let sizes = |met: u64, first: u64, second: u64, nodes: u64, profiles: u64| {
+            ((met + 2 * (first + (second << 13) + (nodes << 26) + (profiles << 39))) << 8, 0)
+        };
+        let record = |number: u8, rule: &[u8]| [&[0x20, number, 0, rule.len() as u8], rule].concat();
+        let (present, absent, unguarded) = (record(1, &[3, 0]), record(2, &[4, 0]), record(3, &[8, 9, 5, 0]));
+        let clashing = [&present[..], &absent].concat();
+        assert_eq!(told(&present, 2, 208, 3), sizes(1, 1, 1, 2, 1));
+        assert_eq!(told(&clashing, 2, 208, 3), sizes(0, 3, 0, 1, 0));
+        assert_eq!(told(&record(9, &[2]), 2, 208, 3), sizes(0, 1, 0, 1, 0));
+        assert_eq!(told(&[&record(0, &[1])[..], &clashing].concat(), 2, 208, 3), sizes(0, 6, 0, 1, 0));
+        assert_eq!(told(&[], 2, 208, 3), (34, 0));
+        assert_eq!(told(&clashing[..11], 0, 0, 0), (30, 11));
+        assert_eq!(told(&[&clashing[..], &unguarded].concat(), 0, 0, 0), (8 + (3 << 8) + (1 << 16) + (2 << 24), 0));
+        assert_eq!(told(&[&present[..], &record(2, &[3, 16])].concat(), 0, 0, 0), (6 + (1 << 8) + (1 << 24), 0));
+        for (nodes, work, course, number) in [(0, 208, 3, 11), (2, 207, 3, 12), (2, 208, 2, 13)] {
+            assert_eq!(told(&clashing, nodes, work, course), (number, 0));
+        }
+        // both rules at once have one node; the first alone has two, and so have any two that can be met
+        assert_eq!(told(&clashing, 1, 200, 2), (35 + (1 << 8), 0));
+        assert_eq!(told(&[&present[..], &record(2, &[3, 1])].concat(), 1, 200, 2), (35 + (3 << 8), 0));
     }
 }

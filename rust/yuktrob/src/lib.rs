@@ -1,6 +1,7 @@
 //! Rules of tractor-guidance terminals: reading a rule, its truth on a repeating course, and the decision whether any course meets it,
-//! with a short example, the same one each time; and finding a rule by its number in the sheets of a dealer and of the factory. A rule is a
-//! formula of the linear-time mu-calculus in bytes; `docs/FORMULAS.md` shows how to write one.
+//! with a short example, the same one each time; finding a rule by its number in the sheets of a dealer and of the factory; and the
+//! decision whether one course meets all rules of a sheet. A rule is a formula of the linear-time mu-calculus in bytes; `docs/FORMULAS.md`
+//! shows how to write one.
 //!
 //! The work is done by a library whose every function is proved to meet its contract. This crate wraps its exported functions and takes
 //! their numbers apart.
@@ -60,8 +61,26 @@
 //! # Ok::<(), Box<dyn std::error::Error>>(())
 //! ```
 //!
+//! A sheet of one to eight rules is decided at once: whether one course meets them all, and which of them clash if none does:
+//!
+//! ```
+//! use yuktrob::{Areas, SetVerdict};
+//! // rule 1: always signal 0; rule 5: signal 1; rule 9: at the next place no signal 0
+//! let sheet = [
+//!     &[0x20, 0x01, 0x00, 0x07, 0x0A, 0x07, 0x03, 0x00, 0x08, 0x05, 0x00][..],
+//!     &[0x20, 0x05, 0x00, 0x02, 0x03, 0x01],
+//!     &[0x20, 0x09, 0x00, 0x03, 0x08, 0x04, 0x00],
+//! ];
+//! let mut areas = Areas::new(256, 300);
+//! let SetVerdict::Not { clash, .. } = areas.decide_set(&sheet.concat())? else { panic!("no course meets all three") };
+//! assert_eq!(clash.to_string(), "0 2");
+//! let SetVerdict::Met { course, .. } = areas.decide_set(&sheet[..2].concat())? else { panic!("some course meets two") };
+//! assert_eq!(course, [0x4003, 0x4001]);
+//! # Ok::<(), yuktrob::SetRefusal>(())
+//! ```
+//!
 //! [`truth`], [`decide`], [`build`], [`search`] and [`decide_safety`] take the rule's bytes and areas that the caller lends, as the
-//! functions of `include/yuktrob.h` do.
+//! functions of `include/yuktrob.h` do, and so does [`decide_set`] with a sheet's.
 
 #![deny(unsafe_code, missing_docs)]
 
@@ -72,6 +91,7 @@ mod exported;
 mod refusal;
 mod rule;
 mod safety;
+mod set;
 mod sheet;
 mod truth;
 
@@ -80,5 +100,6 @@ pub use decision::{course_len, decide, work_len, Areas, Verdict, MOST_NODES, MOS
 pub use refusal::Refusal;
 pub use rule::{Command, Entry, Rule};
 pub use safety::{decide_safety, SafetyVerdict};
+pub use set::{decide_set, SetRefusal, SetVerdict, Subset};
 pub use sheet::{lookup, Found, NotFound, Sheet};
 pub use truth::{truth, words_len, CURRENT_SCALE, MOST_PLACES, PREVIOUS_SCALE};

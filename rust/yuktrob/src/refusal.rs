@@ -67,6 +67,8 @@ impl Refusal {
             19 => "a place with both scale flags or neither; it must have either signal 14 or signal 15",
             30 => "another byte than the 20 of a record, a number that does not rise, or, at the sheet's length, a record that lacks bytes",
             31 => "neither sheet has a rule with this number",
+            34 => "the sheet has no rules, or more than eight",
+            35 => "as one rule these have more commands, or, next or fixpoints than 3 and 4 allow, or need more room than 14 and 15 find",
             36 => "K or the first 8 N bytes of the work area are not what building with N leaves for this rule",
             43 => "a least fixpoint, where safety rules have greatest ones alone",
             _ => "a refusal that has no words here",

@@ -1,11 +1,11 @@
 //! The outcomes that document 01 gives, through the wrappers: cases A to L and the truth examples, each place with a scale flag and each
 //! count of profiles as document 02 asks; which course is given of several as short; what the flags refuse; little room for profiles, and
 //! the areas then; nodes that are built and searched, and nodes that are not the rule's; safety rules, their refusals and what they leave
-//! in the areas; the refusals of reading with their places; and rules looked up in two sheets, where they stand in memory, and what is
-//! wrong with a sheet.
+//! in the areas; the refusals of reading with their places; rules looked up in two sheets, where they stand in memory, and what is wrong
+//! with a sheet; and the rules of a sheet decided at once, which of them clash, their refusals and what they leave in the areas.
 
-use yuktrob::{build, course_len, decide, decide_safety, lookup, nodes_len, search, truth, work_len};
-use yuktrob::{Areas, Found, NotFound, Refusal, Rule, SafetyVerdict, Sheet, Verdict, MOST_NODES};
+use yuktrob::{build, course_len, decide, decide_safety, decide_set, lookup, nodes_len, search, truth, work_len};
+use yuktrob::{Areas, Found, NotFound, Refusal, Rule, SafetyVerdict, SetRefusal, SetVerdict, Sheet, Verdict, MOST_NODES};
 
 fn met(lead_len: usize, loop_len: usize, nodes: usize, profiles: usize, course: &[u16]) -> Verdict<'_> {
     Verdict::Met { lead_len, loop_len, nodes, profiles, course }
@@ -722,4 +722,162 @@ fn a_damaged_sheet_is_refused_whatever_is_looked_for() {
             }
         }
     }
+}
+
+/// The rules with the numbers 5, 305, 605 and so on, so that none is its position.
+fn numbered(rules: &[&[u8]]) -> Vec<u8> {
+    let rules: Vec<(u16, &[u8])> = rules.iter().enumerate().map(|(i, rule)| (300 * i as u16 + 5, *rule)).collect();
+    sheet(&rules)
+}
+
+/// What the decision of a set answers, in a line.
+fn set_told(answer: Result<SetVerdict, SetRefusal>) -> String {
+    match answer {
+        Ok(SetVerdict::Met { lead_len, loop_len, nodes, profiles, course }) => {
+            format!("MET {lead_len} {loop_len} {nodes} {profiles} {course:04x?}")
+        }
+        Ok(SetVerdict::Not { nodes, profiles, clash }) => format!("NOT {nodes} {profiles}: {clash}"),
+        Err(SetRefusal::Damaged { place }) => format!("30 at {place}"),
+        Err(SetRefusal::Unread { position, refusal: Refusal { number, place, fixpoint, .. } }) => {
+            format!("{number} at {place:?} from {fixpoint:?} of {position}")
+        }
+        Err(SetRefusal::Undecided { tried }) => format!("35: {tried}"),
+        Err(why) => why.number().to_string(),
+    }
+}
+
+/// A set is decided in areas of these lengths, which hold something. Afterwards so many bytes are zero, the course of MET stands at the
+/// beginning of the buffer, and all else is as it was.
+fn check_set(sheet: &[u8], (nodes, profiles): (usize, usize), lent: (usize, usize), expected: &str, zeros: usize) {
+    let (mut work, mut buffer) = (vec![0xa5; lent.0], vec![0x5a5a; lent.1]);
+    let answer = decide_set(sheet, nodes, profiles, &mut work, &mut buffer);
+    let course = if let Ok(SetVerdict::Met { course, .. }) = answer { course.to_vec() } else { Vec::new() };
+    assert_eq!(set_told(answer), expected, "{sheet:02x?} {nodes} {profiles} {lent:?}");
+    assert!(work == [vec![0; zeros], vec![0xa5; lent.0 - zeros]].concat(), "{sheet:02x?} {nodes} {profiles} {lent:?}: work area");
+    assert_eq!(buffer, [&course[..], &vec![0x5a5a; lent.1 - course.len()]].concat(), "{sheet:02x?} {nodes} {profiles} {lent:?}");
+}
+
+/// With enough room, in areas just as asked and longer; and in `Areas`.
+fn check_set_rooms(rules: &[&[u8]], expected: &str) {
+    let sheet = numbered(rules);
+    for (nodes, profiles) in [(8, 16), (256, 300), (1024, 4096)] {
+        let (work, places) = (work_len(nodes, profiles), course_len(nodes, profiles));
+        check_set(&sheet, (nodes, profiles), (work, places), expected, work);
+        check_set(&sheet, (nodes, profiles), (work + 40, places + 4), expected, work);
+        assert_eq!(set_told(Areas::new(nodes, profiles).decide_set(&sheet)), expected, "{sheet:02x?} {nodes} {profiles}");
+    }
+}
+
+const EVENTUALLY: &[u8] = &[9, 6, 3, 0, 8, 5, 0];
+const NEVER: &[u8] = &[10, 7, 4, 0, 8, 5, 0];
+
+#[test]
+fn sets() {
+    let table: [(&[&[u8]], &str); 16] = [
+        // of one rule it is the decision
+        (&[&[1]], "MET 1 1 2 1 [4000, 4000]"),
+        (&[&CASE_F], "MET 1 1 3 4 [4001, 4001]"),
+        (&[&CASE_I], "NOT 3 6: 0"),
+        (&[&[2]], "NOT 1 0: 0"),
+        (&[&[3, 0], &[3, 1]], "MET 1 1 2 1 [4003, 4000]"),
+        // the ors are numbered through all rules: of courses as short that of the first by pick words
+        (&[&[6, 3, 1, 3, 0], &[6, 4, 1, 4, 0]], "MET 1 1 2 1 [4001, 4000]"),
+        // a rule at each place
+        (&[&[8, 8, 3, 2], &[3, 0], &[8, 3, 1]], "MET 3 1 4 3 [4001, 4002, 4004, 4000]"),
+        // eight rules
+        (&[&[3, 0], &[3, 1], &[3, 2], &[3, 3], &[3, 4], &[3, 5], &[3, 6], &[3, 15]], "MET 1 1 2 1 [807f, 4000]"),
+        (&[&[3, 0], &[3, 1], &[3, 2], &[3, 3], &[3, 4], &[3, 5], &[3, 6], &[4, 0]], "NOT 1 0: 0 7"),
+        (&[&[3, 14], &[1], &[1], &[1], &[1], &[1], &[1], &[3, 15]], "NOT 1 0: 0 7"),
+        // each passes, and the first and the last do not go together
+        (&[EVENTUALLY, &[3, 1], NEVER], "NOT 2 1: 0 2"),
+        // K and P are those of all rules, not of what clashes
+        (&[EVENTUALLY, NEVER, &[8, 8, 1]], "NOT 4 4: 0 1"),
+        // two pairs that clash: what is left behind leaving out from the last on
+        (&[&[3, 0], &[3, 1], &[4, 1], &[4, 0]], "NOT 1 0: 1 2"),
+        (&[&[3, 0], &[3, 1], &[4, 0], &[4, 1]], "NOT 1 0: 0 2"),
+        // any two of three can be met
+        (&[&[6, 3, 0, 3, 1], &[4, 0], &[4, 1]], "NOT 1 0: 0 1 2"),
+        // two rules that cannot be met by themselves
+        (&[&[1], &[2], &[7, 3, 0, 4, 0]], "NOT 1 0: 1"),
+    ];
+    for (rules, expected) in table {
+        check_set_rooms(rules, expected);
+    }
+}
+
+#[test]
+fn refusals_of_sets_in_order() {
+    let nine: Vec<&[u8]> = vec![&[]; 9];
+    // 30, before there are too many rules and before they are none; 34; the first that reading refuses; whatever the room and the areas
+    for (bytes, expected) in [
+        (numbered(&nine)[..35].to_vec(), "30 at 35"),
+        ([numbered(&nine), vec![0x21]].concat(), "30 at 36"),
+        ([numbered(&[&[1, 1]]), record(5, &[])].concat(), "30 at 7"),
+        (vec![], "34"),
+        (numbered(&nine), "34"),
+        (numbered(&nine[1..]), "1 at Some(0) from None of 0"),
+        (numbered(&[&[1], &[8, 9, 5, 0], &[]]), "8 at Some(3) from Some(1) of 1"),
+        (numbered(&[&[1], &[1], &[1], &[1], &[1], &[1], &[1], &[3, 16]]), "6 at Some(1) from None of 7"),
+        (numbered(&[&[7; 49], &[1, 1]]), "3 at Some(48) from None of 0"),
+        (numbered(&[&[1], &[8; 13]]), "4 at Some(12) from None of 1"),
+    ] {
+        for room in [(0, 0), (2, 1), (1025, 4097), (usize::MAX, usize::MAX)] {
+            check_set(&bytes, room, (0, 0), expected, 0);
+            check_set(&bytes, room, (9000, 2000), expected, 0);
+        }
+    }
+    let two = numbered(&[&[3, 0], &[3, 1]]);
+    for room in [(0, 1), (2, 0), (1025, 1), (2, 4097), (usize::MAX, usize::MAX)] {
+        check_set(&two, room, (0, 0), "11", 0);
+        check_set(&two, room, (9000, 2000), "11", 0);
+    }
+    check_set(&two, (2, 1), (207, 0), "12", 0);
+    check_set(&two, (2, 1), (207, 3), "12", 0);
+    check_set(&two, (2, 1), (208, 2), "13", 0);
+    check_set(&two, (2, 1), (208, 3), "MET 1 1 2 1 [4003, 4000]", 208);
+    check_set(&two, (1, 1), (240, 9), "35: 0 1", 200);
+    assert_eq!(set_told(Areas::new(0, 1).decide_set(&two)), "11");
+    assert_eq!(set_told(Areas::new(1, 1).decide_set(&two)), "35: 0 1");
+}
+
+/// 35 through 14 and 15, at the whole set and at what is left of it, leaves zeros, and through 3 and 4 it writes nothing. The course buffer
+/// is as it was, whatever subsets were met on the way.
+#[test]
+fn rules_that_cannot_be_decided_together() {
+    // case F takes three nodes and four profiles; all three rules take one node, having no step
+    let (f, unmet) = (numbered(&[&CASE_F, &[3, 1], &[4, 1]]), "NOT 1 0: 1 2");
+    check_set(&f, (3, 4), (work_len(3, 4), 7), unmet, work_len(3, 4));
+    check_set(&f, (3, 3), (work_len(3, 4), 7), "35: 0 1", work_len(3, 3));
+    check_set(&f, (2, 4), (work_len(3, 4), 7), "35: 0 1", work_len(2, 4));
+    // the last rule is left out for good, and then the first is tried alone
+    let later = numbered(&[&CASE_F, &[7, 3, 1, 4, 1], &[3, 2]]);
+    check_set(&later, (3, 4), (work_len(3, 4), 7), "NOT 1 0: 1", work_len(3, 4));
+    check_set(&later, (2, 4), (work_len(3, 4), 7), "35: 0", work_len(2, 4));
+    check_set(&later, (3, 3), (work_len(3, 4), 7), "35: 0", work_len(3, 3));
+    let met = numbered(&[&CASE_F, &[3, 1]]);
+    check_set(&met, (3, 4), (work_len(3, 4), 7), "MET 1 1 3 4 [4003, 4001]", work_len(3, 4));
+    check_set(&met, (2, 4), (work_len(3, 4), 7), "35: 0 1", work_len(2, 4));
+    check_set(&met, (3, 3), (work_len(3, 4), 7), "35: 0 1", work_len(3, 3));
+    // 23 commands, an and and 25 are one too many, and so are 6 ors and 7, 6 nexts and 7, 3 fixpoints and 5
+    let ands = [vec![7; 11], vec![1; 12]].concat();
+    let joined = |command: u8, count: usize| [vec![command; count], vec![1; count + 1]].concat();
+    let before = |command: u8, count: usize| [vec![command; count], vec![1]].concat();
+    let (large, larger) = ([&[8][..], &ands].concat(), [&[8, 8][..], &ands].concat());
+    check_set(&numbered(&[&ands, &large]), (64, 40), (9000, 200), "MET 2 1 3 2 [4000, 4000, 4000]", work_len(64, 40));
+    for (one, other) in [(ands, larger), (joined(6, 6), joined(6, 7)), (before(8, 6), before(8, 7)), (before(9, 3), before(10, 5))] {
+        check_set(&numbered(&[&one, &other]), (64, 40), (9000, 200), "35: 0 1", 0);
+        check_set(&numbered(&[&[2], &one, &other]), (64, 40), (9000, 200), "35: 0 1 2", 0);
+    }
+    // 72 bytes are the most that a rule has
+    let longest = [&[8][..], &[7; 23], &[3, 9].repeat(24)].concat();
+    check_set(&numbered(&[&longest]), (64, 40), (9000, 200), "MET 2 1 3 2 [4000, 4200, 4000]", work_len(64, 40));
+    check_set(&numbered(&[&longest[..]; 8]), (64, 40), (9000, 200), "35: 0 1 2 3 4 5 6 7", 0);
+}
+
+#[test]
+fn words_of_refused_sets() {
+    let told = |rules: &[&[u8]], nodes: usize| Areas::new(nodes, 300).decide_set(&numbered(rules)).unwrap_err().to_string();
+    assert!(told(&[&[1], &[9, 5, 0]], 256).starts_with("the rule at position 1: refused 8 at byte 2, for the fixpoint at byte 0: no next"));
+    assert!(told(&[&[1]], 0).starts_with("refused 11: N is not 1 to 1,024"));
+    assert!(told(&[&[1], &[3, 0]], 1).starts_with("refused 35 for the rules at 0 1: as one rule"));
 }
