@@ -2,10 +2,12 @@
 
 mod building;
 mod safety;
+mod set;
 mod sheet;
 
 pub use building::{Buildings, Changed};
 pub use safety::{safety, Safeties};
+pub use set::{proved_set, set, Sets};
 pub use sheet::{lookup, proved_lookup, Faults, Lookups};
 
 use crate::least::{self, Course};
@@ -276,6 +278,16 @@ impl Areas {
         let side = Side { work: vec![0; work_len(n, m) + 64], course: vec![0; course_len(n, m) + 64] };
         Areas { ours: side.clone(), theirs: side }
     }
+
+    /// A work area and a course buffer of these lengths for each, which hold patterns.
+    fn filled(&mut self, work: usize, course: usize) -> [(&mut [u8], &mut [u16]); 2] {
+        [&mut self.ours, &mut self.theirs].map(|side| {
+            let (work, course) = (&mut side.work[..work], &mut side.course[..course]);
+            work.fill(WORK_PATTERN);
+            course.fill(COURSE_PATTERN);
+            (work, course)
+        })
+    }
 }
 
 /// What areas hold before they are lent.
@@ -311,10 +323,12 @@ fn lent(random: &mut Random, rule: &[u8]) -> Lent {
     let n = room(random, MOST_NODES);
     let near = if random.one_in(3) { near_effort(random, rule) } else { None };
     let m = near.unwrap_or_else(|| room(random, MOST_PROFILES));
-    let short = |random: &mut Random, need: usize, more: usize| {
-        if random.one_in(30) { need.saturating_sub(1) } else { need + random.below(more) }
-    };
     Lent { n, m, work: short(random, work_len(n, m), 40), course: short(random, course_len(n, m), 4) }
+}
+
+/// As long as it must be or somewhat longer, now and then one too short.
+fn short(random: &mut Random, need: usize, more: usize) -> usize {
+    if random.one_in(30) { need.saturating_sub(1) } else { need + random.below(more) }
 }
 
 /// As much room or more, and areas to suit.

@@ -1,5 +1,7 @@
-//! Random rules and sheets, whole and damaged, and random courses, for comparing and timing. The same seed gives the same ones.
+//! Random rules, sets of rules and sheets, whole and damaged, and random courses, for comparing and timing. The same seed gives the same
+//! ones.
 
+mod sets;
 mod sheets;
 
 pub use sheets::Sheets;

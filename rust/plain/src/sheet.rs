@@ -104,6 +104,11 @@ pub fn first_fault(sheet: &[u8]) -> Option<Fault> {
     faults(sheet).into_iter().min_by_key(|fault| fault.place)
 }
 
+/// The rules of the records that lack no bytes.
+pub fn rules(sheet: &[u8]) -> Vec<&[u8]> {
+    pieces(sheet).iter().filter_map(|piece| piece.rule).collect()
+}
+
 /// Whether a whole record has the number.
 pub fn has(sheet: &[u8], number: u16) -> bool {
     pieces(sheet).iter().any(|piece| piece.number == Some(number) && piece.rule.is_some())
@@ -140,7 +145,18 @@ pub fn by_pass<'a>(dealer: &'a [u8], factory: &'a [u8], number: u16) -> Lookup<'
 
 /// The place of the first fault; or where the rule with the number begins and its bytes, if the sheet has it.
 fn pass(sheet: &[u8], number: u16) -> Result<Option<(usize, &[u8])>, usize> {
-    let (mut at, mut before, mut found) = (0, None, None);
+    let mut found = None;
+    each_record(sheet, |own, start, rule| {
+        if own == number {
+            found = Some((start, rule));
+        }
+    })?;
+    Ok(found)
+}
+
+/// Visits each record up to the first fault, whose place is told: its number, where its rule begins, and the rule.
+pub(crate) fn each_record<'a>(sheet: &'a [u8], mut visit: impl FnMut(u16, usize, &'a [u8])) -> Result<(), usize> {
+    let (mut at, mut before) = (0, None);
     while at < sheet.len() {
         if sheet[at] != MARK {
             return Err(at);
@@ -152,10 +168,8 @@ fn pass(sheet: &[u8], number: u16) -> Result<Option<(usize, &[u8])>, usize> {
         }
         let start = at + 4;
         let Some(rule) = sheet.get(at + 3).and_then(|&size| sheet.get(start..start + size as usize)) else { return Err(sheet.len()) };
-        if own == number {
-            found = Some((start, rule));
-        }
+        visit(own, start, rule);
         (at, before) = (start + rule.len(), Some(own));
     }
-    Ok(found)
+    Ok(())
 }

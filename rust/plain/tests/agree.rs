@@ -1,6 +1,7 @@
 //! The proved library and the independent implementation agree.
 
-use yuktrob_plain::compared::{self, Areas, Buildings, Courses, Decisions, Input, Lookups, Rooms, Safeties, Signals, Truths, Unguarded};
+use yuktrob_plain::compared::{self, Areas, Input};
+use yuktrob_plain::compared::{Buildings, Courses, Decisions, Lookups, Rooms, Safeties, Sets, Signals, Truths, Unguarded};
 use yuktrob_plain::random::Random;
 
 /// Courses are kept this short, so that the test takes seconds; `compare` draws longer ones.
@@ -45,6 +46,15 @@ fn on_some_thousands_of_lookups() {
         assert_eq!(compared::lookup(&mut random, &mut lookups), Ok(()));
     }
     check_lookups(&lookups);
+}
+
+#[test]
+fn on_some_thousands_of_sets() {
+    let (mut random, mut areas, mut sets) = (Random::new(42), Areas::new(), Sets::default());
+    for _ in 0..20_000 {
+        assert_eq!(compared::set(&mut random, &mut areas, &mut sets), Ok(()));
+    }
+    check_sets(&sets);
 }
 
 /// Each count is above the number behind it.
@@ -171,5 +181,43 @@ fn check_lookups(lookups: &Lookups) {
         (faults.cut_by_one, 300, "records of which 254 bytes of 255 are there"),
         (faults.at_first, 2000, "faults at the first byte"),
         (faults.far, 20, "faults behind place 65,535"),
+    ]);
+}
+
+fn check_sets(sets: &Sets) {
+    let ([one, two, more], [refused_11, refused_12, refused_13]) = (sets.clash, sets.refused);
+    let ([by_3, by_4, by_14, by_15], [later_14, later_15]) = (sets.whole, sets.later);
+    check_counts(&[
+        (sets.met, 2500, "sets that are MET"),
+        (sets.not, 2500, "sets that are NOT"),
+        (sets.alone, 250, "sets of one rule"),
+        (sets.eight, 300, "sets of eight rules"),
+        (one, 400, "clashes of one rule"),
+        (two, 800, "clashes of two"),
+        (more, 800, "clashes of more"),
+        (sets.clash_of_all, 700, "clashes of all rules"),
+        (sets.clash_behind, 600, "clashes without the first rule"),
+        (sets.by_first, 700, "sets with another clash if the first were left out first"),
+        (sets.tried, 2000, "clashes held beside every subset"),
+        (sets.damaged, 1000, "damaged sheets"),
+        (sets.damaged_before_others, 200, "damaged sheets with too many rules or with one that is none"),
+        (sets.none, 200, "sheets without rules"),
+        (sets.many, 500, "sheets with more than eight"),
+        (sets.unread, 1500, "sets with a rule that is none"),
+        (sets.unguarded, 200, "sets with a rule refused with 8"),
+        (sets.unread_behind, 800, "sets with such a rule behind the first"),
+        (sets.unread_again, 700, "sets with several such rules"),
+        (sets.unread_before_room, 100, "sets with such a rule where 11, 12 or 13 would refuse as well"),
+        (refused_11, 500, "sets refused with 11"),
+        (refused_12, 250, "sets refused with 12"),
+        (refused_13, 250, "sets refused with 13"),
+        (by_3, 300, "sets refused with 35 through 3"),
+        (by_4, 700, "sets refused with 35 through 4"),
+        (by_14, 900, "sets refused with 35 through 14"),
+        (by_15, 300, "sets refused with 35 through 15"),
+        (later_14, 900, "subsets refused with 35 through 14"),
+        (later_15, 200, "subsets refused with 35 through 15"),
+        (sets.later_behind, 600, "subsets refused with 35 where some rule was left out for good"),
+        (sets.again, 1000, "verdicts asked for again with more room"),
     ]);
 }

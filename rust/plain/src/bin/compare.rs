@@ -1,13 +1,14 @@
 //! Runs the proved library and the independent implementation on the same random inputs, and reports every difference.
 //!
-//! - `compare [INPUTS [SEED [LONGEST]]]`: readings, truths, decisions, decisions of safety rules and lookups in turn, where no course that
-//!   both work out is longer than LONGEST places, 60 at least and 8,192 at most.
+//! - `compare [INPUTS [SEED [LONGEST]]]`: readings, truths, decisions, decisions of safety rules, lookups and decisions of sets in turn,
+//!   where no course that both work out is longer than LONGEST places, 60 at least and 8,192 at most.
 //! - `compare safety [INPUTS [SEED]]`: decisions of safety rules alone.
 //! - `compare sheet [INPUTS [SEED]]`: lookups alone.
+//! - `compare set [INPUTS [SEED]]`: decisions of sets alone.
 
 use std::time::Instant;
 use yuktrob_plain::compared::{self, Areas, Input, LONG};
-use yuktrob_plain::compared::{Buildings, Changed, Courses, Decisions, Faults, Lookups, Rooms, Safeties, Signals, Truths, Unguarded};
+use yuktrob_plain::compared::{Buildings, Changed, Courses, Decisions, Faults, Lookups, Rooms, Safeties, Sets, Signals, Truths, Unguarded};
 use yuktrob_plain::random::Random;
 
 fn main() {
@@ -15,6 +16,7 @@ fn main() {
     let alone: Option<fn(u64, u64) -> u64> = match words.first().map(String::as_str) {
         Some("safety") => Some(safety),
         Some("sheet") => Some(sheet),
+        Some("set") => Some(set),
         _ => None,
     };
     words.drain(..alone.is_some() as usize);
@@ -34,23 +36,33 @@ fn reported(result: Result<(), String>) -> u64 {
     1
 }
 
-/// How many of so many decisions of safety rules differ.
+/// How many of so many inputs of one kind differ, each drawn and compared by a call.
+fn differing(inputs: u64, kind: &str, mut compare: impl FnMut() -> Result<(), String>) -> u64 {
+    let start = Instant::now();
+    let differences = (0..inputs).map(|_| reported(compare())).sum();
+    println!("compared: {inputs} {kind} in {:.1} s", start.elapsed().as_secs_f64());
+    differences
+}
+
 fn safety(inputs: u64, seed: u64) -> u64 {
     let (mut random, mut areas, mut safeties) = (Random::new(seed), Areas::new(), Safeties::default());
-    let start = Instant::now();
-    let differences = (0..inputs).map(|_| reported(compared::safety(&mut random, &mut areas, &mut safeties))).sum();
-    println!("compared: {inputs} decisions of safety rules in {:.1} s", start.elapsed().as_secs_f64());
+    let compare = || compared::safety(&mut random, &mut areas, &mut safeties);
+    let differences = differing(inputs, "decisions of safety rules", compare);
     report_safeties(&safeties);
     differences
 }
 
-/// How many of so many lookups differ.
 fn sheet(inputs: u64, seed: u64) -> u64 {
     let (mut random, mut lookups) = (Random::new(seed), Lookups::default());
-    let start = Instant::now();
-    let differences = (0..inputs).map(|_| reported(compared::lookup(&mut random, &mut lookups))).sum();
-    println!("compared: {inputs} lookups in {:.1} s", start.elapsed().as_secs_f64());
+    let differences = differing(inputs, "lookups", || compared::lookup(&mut random, &mut lookups));
     report_lookups(&lookups);
+    differences
+}
+
+fn set(inputs: u64, seed: u64) -> u64 {
+    let (mut random, mut areas, mut sets) = (Random::new(seed), Areas::new(), Sets::default());
+    let differences = differing(inputs, "decisions of sets", || compared::set(&mut random, &mut areas, &mut sets));
+    report_sets(&sets);
     differences
 }
 
@@ -59,13 +71,14 @@ fn all(inputs: u64, seed: u64, longest: usize) -> u64 {
     let mut random = Random::new(seed);
     let (mut unguarded, mut signals) = (Unguarded::default(), Signals::default());
     let (mut areas, mut truths, mut decisions) = (Areas::new(), Truths::default(), Decisions::default());
-    let (mut safeties, mut lookups) = (Safeties::default(), Lookups::default());
+    let (mut safeties, mut lookups, mut sets) = (Safeties::default(), Lookups::default(), Sets::default());
     let mut differences = 0u64;
     let start = Instant::now();
     for i in 0..inputs {
-        differences += reported(match i % 5 {
+        differences += reported(match i % 6 {
             3 => compared::safety(&mut random, &mut areas, &mut safeties),
             4 => compared::lookup(&mut random, &mut lookups),
+            5 => compared::set(&mut random, &mut areas, &mut sets),
             share => {
                 let input = Input::new(&mut random);
                 let rule = &input.rule;
@@ -80,8 +93,8 @@ fn all(inputs: u64, seed: u64, longest: usize) -> u64 {
         });
     }
     let seconds = start.elapsed().as_secs_f64();
-    let [readings, decided, safely, found] = [4, 2, 1, 0].map(|more| (inputs + more) / 5);
-    let (all, rest) = (truths.all, format!("{safely} of safety rules, {found} lookups in {seconds:.1} s"));
+    let [readings, decided, safely, found, at_once] = [5, 3, 2, 1, 0].map(|more| (inputs + more) / 6);
+    let (all, rest) = (truths.all, format!("{safely} of safety rules, {found} lookups, {at_once} sets in {seconds:.1} s"));
     println!("compared: {readings} readings, {all} truths, {decided} decisions, {rest}");
     println!("truths of rules with alternating fixpoints: {}, of these on {LONG} places or more: {}", truths.alternating, truths.long);
     let Unguarded { all, between } = unguarded;
@@ -91,6 +104,7 @@ fn all(inputs: u64, seed: u64, longest: usize) -> u64 {
     report_decisions(&decisions);
     report_safeties(&safeties);
     report_lookups(&lookups);
+    report_sets(&sets);
     differences
 }
 
@@ -171,4 +185,23 @@ fn report_lookups(lookups: &Lookups) {
     println!("of these numbers where the record lacks bytes too: {unrisen_cut}");
     println!("for a record of which one byte is there: {one}, two: {two}, three: {three}, more: {more}");
     println!("of these with 254 bytes of 255: {cut_by_one}; at the first byte: {at_first}, behind place 65,535: {far}");
+}
+
+fn report_sets(sets: &Sets) {
+    let Sets { met, not, alone, eight, tried, by_first, again, .. } = sets;
+    println!("sets: {met} MET, {not} NOT, of these of one rule: {alone}, of eight: {eight}; asked for again with more room: {again}");
+    let Sets { clash: [one, two, more], clash_of_all, clash_behind, .. } = sets;
+    println!("one rule clashes with itself: {one}, two clash: {two}, more: {more}");
+    println!("of these all rules of the set: {clash_of_all}, not the first and not all: {clash_behind}");
+    println!("held beside every subset: {tried}; with another clash if the first were left out first: {by_first}");
+    let Sets { damaged, damaged_before_others, none, many, refused: [refused_11, refused_12, refused_13], .. } = sets;
+    println!("refused with 30: {damaged}, of these with more than eight rules or with one that is none: {damaged_before_others}");
+    println!("refused with 34 for no rules: {none}, for too many: {many}");
+    let Sets { unread, unguarded, unread_behind, unread_again, unread_before_room, .. } = sets;
+    println!("refused by reading: {unread}, of these with 8: {unguarded}, not at the first rule: {unread_behind}");
+    println!("of these where a later rule is refused too: {unread_again}, where 11, 12 or 13 would refuse too: {unread_before_room}");
+    println!("refused with 11: {refused_11}, with 12: {refused_12}, with 13: {refused_13}");
+    let Sets { whole: [by_3, by_4, by_14, by_15], later: [later_14, later_15], later_behind, .. } = sets;
+    println!("refused with 35 at the whole set through 3: {by_3}, 4: {by_4}, 14: {by_14}, 15: {by_15}");
+    println!("at a subset through 14: {later_14}, 15: {later_15}, of these where some rule was left out for good: {later_behind}");
 }

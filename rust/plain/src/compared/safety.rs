@@ -1,7 +1,7 @@
 //! The decision of safety rules through both implementations: what they answer, what both areas hold afterwards; and, of the proved one,
 //! that it is what the proved general decision says with room for profiles.
 
-use super::{each_signal, ours, placeless, theirs, Areas, Courses, Input, Refused, COURSE_PATTERN, WORK_PATTERN};
+use super::{each_signal, ours, placeless, theirs, Areas, Courses, Input, Refused};
 use crate::random::{greatest_alone, Random};
 use crate::reading::{self, Command};
 use crate::safety::{decide_safety, SafetyVerdict};
@@ -133,13 +133,8 @@ pub fn safety(random: &mut Random, areas: &mut Areas, safeties: &mut Safeties) -
 }
 
 /// The answer of both, in areas that hold the same before and must hold the same afterwards.
-fn decided(rule: &[u8], lent: Lent, Areas { ours, theirs }: &mut Areas) -> Result<Told, String> {
-    for side in [&mut *ours, &mut *theirs] {
-        side.work[..lent.work].fill(WORK_PATTERN);
-        side.course[..lent.course].fill(COURSE_PATTERN);
-    }
-    let (work, other_work) = (&mut ours.work[..lent.work], &mut theirs.work[..lent.work]);
-    let (course, other_course) = (&mut ours.course[..lent.course], &mut theirs.course[..lent.course]);
+fn decided(rule: &[u8], lent: Lent, areas: &mut Areas) -> Result<Told, String> {
+    let [(work, course), (other_work, other_course)] = areas.filled(lent.work, lent.course);
     let ours = our_told(yuktrob::decide_safety(rule, lent.n, work, course));
     let theirs = their_told(decide_safety(rule, lent.n, other_work, other_course));
     let (same_work, same_course) = (work == other_work, course == other_course);

@@ -19,13 +19,13 @@ const ALIKE: [u8; 4] = [0x20, 0x00, 0x01, 0xff];
 
 /// A sheet, with each record's number and place.
 #[derive(Default)]
-struct Drawn {
-    bytes: Vec<u8>,
+pub(super) struct Drawn {
+    pub(super) bytes: Vec<u8>,
     records: Vec<(u16, usize)>,
 }
 
 impl Drawn {
-    fn push(&mut self, number: u16, rule: &[u8]) {
+    pub(super) fn push(&mut self, number: u16, rule: &[u8]) {
         self.records.push((number, self.bytes.len()));
         self.bytes.extend(record(number, rule));
     }
@@ -52,7 +52,7 @@ impl Random {
     }
 
     /// A sheet of few records, or now and then of so many that places need more than two bytes.
-    fn sheet(&mut self) -> Drawn {
+    pub(super) fn sheet(&mut self) -> Drawn {
         let mut sheet = Drawn::default();
         if self.one_in(100) {
             let first = [0, 200, 65536 - 300][self.below(3)];
@@ -75,7 +75,7 @@ impl Random {
     }
 
     /// One of few numbers, so that two sheets have some in common, one at an edge, or any.
-    fn rule_number(&mut self) -> u16 {
+    pub(super) fn rule_number(&mut self) -> u16 {
         match self.below(6) {
             0 => EDGES[self.below(EDGES.len())],
             1 => self.below(0x10000) as u16,
@@ -90,7 +90,7 @@ impl Random {
     }
 
     /// Something is wrong afterwards, nearly always.
-    fn damage(&mut self, sheet: &mut Drawn) {
+    pub(super) fn damage(&mut self, sheet: &mut Drawn) {
         let size = 1 + self.below(6);
         let more = self.rule_bytes(size);
         let Some(last) = sheet.records.len().checked_sub(1) else { return sheet.bytes.extend(more) };
