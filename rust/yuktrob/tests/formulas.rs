@@ -1,8 +1,8 @@
 //! Every line of the ```rules blocks of docs/FORMULAS.md, run; its words for each refusal, held beside the crate's; and a rule that is
 //! searched with more and more room.
 
-use yuktrob::{build, course_len, decide, decide_safety, lookup, nodes_len, search, truth, work_len};
-use yuktrob::{Found, NotFound, Refusal, Rule, SafetyVerdict, Sheet, Verdict, MOST_NODES, PREVIOUS_SCALE};
+use yuktrob::{build, course_len, decide, decide_safety, decide_set, lookup, nodes_len, search, truth, work_len};
+use yuktrob::{Areas, Found, NotFound, Refusal, Rule, SafetyVerdict, SetRefusal, SetVerdict, Sheet, Verdict, MOST_NODES, PREVIOUS_SCALE};
 
 fn document() -> String {
     std::fs::read_to_string(concat!(env!("CARGO_MANIFEST_DIR"), "/../../docs/FORMULAS.md")).expect("docs/FORMULAS.md")
@@ -137,10 +137,15 @@ fn decided_safely(rule: &[u8], nodes: usize, lent: With) -> String {
     }
 }
 
-/// The lookup of a rule in two sheets, of which a dash has no records.
-fn looked_up([dealer, factory]: [&str; 2], number: u16) -> String {
+/// A sheet, of which a dash has no records.
+fn records(text: &str) -> Vec<u8> {
+    if text == "-" { Vec::new() } else { bytes(text) }
+}
+
+/// The lookup of a rule in two sheets.
+fn looked_up(sheets: [&str; 2], number: u16) -> String {
     let name = |sheet| if sheet == Sheet::Dealer { "dealer" } else { "factory" };
-    let [dealer, factory] = [dealer, factory].map(|text| if text == "-" { Vec::new() } else { bytes(text) });
+    let [dealer, factory] = sheets.map(records);
     match lookup(&dealer, &factory, number) {
         Ok(Found { sheet, start, rule }) => {
             let digits: String = rule.iter().map(|byte| format!("{byte:02x}")).collect();
@@ -151,15 +156,31 @@ fn looked_up([dealer, factory]: [&str; 2], number: u16) -> String {
     }
 }
 
+/// All rules of a sheet, with room `N M`, in areas that it asks for.
+fn decided_at_once(sheet: &[u8], room: &str) -> String {
+    let [n, m] = room.split(' ').map(|number| number.parse().expect("a room")).collect::<Vec<usize>>()[..] else { panic!("{room}") };
+    match Areas::new(n, m).decide_set(sheet) {
+        Ok(SetVerdict::Met { lead_len, loop_len, nodes, profiles, course }) => {
+            format!("MET {lead_len} {loop_len} {nodes} {profiles} {}", hex(course))
+        }
+        Ok(SetVerdict::Not { nodes, profiles, clash }) => format!("NOT {nodes} {profiles} {clash}"),
+        Err(SetRefusal::Damaged { place }) => format!("REFUSED 30 at {place}"),
+        Err(SetRefusal::Unread { position, refusal }) => format!("{} of {position}", refused(refusal)),
+        Err(SetRefusal::Undecided { tried }) => format!("REFUSED 35 {tried}"),
+        Err(why) => format!("REFUSED {}", why.number()),
+    }
+}
+
 /// What a line comes to: `RULE on COURSE`, `RULE built`, `RULE searched`, `RULE searched over RULE`, or a rule alone, which is decided. All
 /// but the first may be followed by ` with ` and numbers. Or, as the test runner has them, `safety | RULE | N`, and perhaps
-/// ` | lent WORK COURSE`; and `sheet | DEALER | FACTORY | NUMBER`.
+/// ` | lent WORK COURSE`; `sheet | DEALER | FACTORY | NUMBER`; and `set | SHEET | N M`.
 fn found(input: &str) -> String {
     match input.split(" | ").collect::<Vec<_>>()[..] {
         ["safety", rule, nodes, ref lent @ ..] => {
             return decided_safely(&bytes(rule), nodes.parse().expect("a room for nodes"), With(lent.first().unwrap_or(&"")));
         }
         ["sheet", dealer, factory, number] => return looked_up([dealer, factory], number.parse().expect("a rule's number")),
+        ["set", sheet, room] => return decided_at_once(&records(sheet), room),
         _ => {}
     }
     let (input, with) = input.split_once(" with ").unwrap_or((input, ""));
@@ -177,7 +198,7 @@ fn found(input: &str) -> String {
 #[test]
 fn every_line_of_the_document() {
     let mut inside = false;
-    let (mut lines, mut sheets) = (0, 0);
+    let (mut lines, mut sheets, mut sets) = (0, 0, 0);
     for line in document().lines() {
         match line {
             "```rules" => inside = true,
@@ -187,11 +208,12 @@ fn every_line_of_the_document() {
                 assert_eq!(found(input), expected, "{input}");
                 lines += 1;
                 sheets += input.starts_with("sheet | ") as u32;
+                sets += input.starts_with("set | ") as u32;
             }
             _ => {}
         }
     }
-    assert!(lines >= 30 && sheets >= 10, "only {lines} lines were found, {sheets} of them with sheets");
+    assert!(lines >= 30 && sheets >= 10 && sets >= 10, "only {lines} lines were found, {sheets} with two sheets, {sets} with a set");
 }
 
 /// The trainers' use: nodes that are built once are searched with more and more room, lent or with their rule.
@@ -239,6 +261,16 @@ fn not_found(number: u8) -> Option<NotFound> {
     }
 }
 
+/// The same for the refusals of a set alone: 34, and 35 for one rule, with room for one node.
+fn undecided(number: u8) -> Option<SetRefusal> {
+    let sheet: &[u8] = match number {
+        34 => &[],
+        35 => &[0x20, 7, 0, 1, 1],
+        _ => return None,
+    };
+    decide_set(sheet, 1, 1, &mut [0; work_len(1, 1)], &mut [0; course_len(1, 1)]).err()
+}
+
 #[test]
 fn every_refusal_has_the_words_of_the_document() {
     let document = document();
@@ -247,11 +279,16 @@ fn every_refusal_has_the_words_of_the_document() {
         Some((number.parse::<u8>().ok()?, words.to_string()))
     };
     let rows: Vec<(u8, String)> = document.lines().skip_while(|line| *line != "## Refusals").filter_map(row).collect();
-    assert_eq!(rows.len(), 22);
+    assert_eq!(rows.len(), 24);
     for (number, words) in rows {
         if let Some(why) = not_found(number) {
             let place = if number == 30 { " at byte 5 of the dealer's sheet" } else { "" };
             assert_eq!((why.number(), why.to_string()), (number, format!("refused {number}{place}: {words}")));
+            continue;
+        }
+        if let Some(why) = undecided(number) {
+            let rules = if number == 35 { " for the rules at 0" } else { "" };
+            assert_eq!((why.number(), why.to_string()), (number, format!("refused {number}{rules}: {words}")));
             continue;
         }
         let why = refusal(number);
