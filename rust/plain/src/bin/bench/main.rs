@@ -5,6 +5,7 @@
 //! - `bench building`: the tables of building and search.
 //! - `bench safety [COUNT SEED]`: the tables of safety rules; or which of so many random ones take longest.
 //! - `bench sheets`: the tables of lookups.
+//! - `bench sets [COUNT SEED]`: the tables of sets; or which of so many random ones take longest.
 //! - `bench alternating [SHORT LONG]`: the table of truth with alternating fixpoints, at these numbers of places.
 //! - `bench search COUNT SEED [PLACES]`: which of so many random rules with fixpoints that cross, most of which alternate, take the proved
 //!   library longest, and on which course.
@@ -19,6 +20,7 @@ mod decisions;
 mod early;
 mod readings;
 mod safety;
+mod sets;
 mod shapes;
 mod sheets;
 mod timing;
@@ -37,6 +39,7 @@ fn all() {
     decisions::tables();
     safety::tables();
     sheets::tables();
+    sets::tables();
     truths::tables();
     alternating::table(1024, 8192);
 }
@@ -51,8 +54,10 @@ fn main() {
         Some("safety") if words.len() > 1 => safety::search(number(1, 1000), number(2, 1) as u64),
         Some("safety") => safety::tables(),
         Some("sheets") => sheets::tables(),
+        Some("sets") if words.len() > 1 => sets::search(number(1, 1000), number(2, 1) as u64),
+        Some("sets") => sets::tables(),
         Some("alternating") => alternating::table(number(1, 1024), number(2, 8192)),
         Some("search") => alternating::search(number(1, 3000), number(2, 1) as u64, number(3, 1024)),
-        Some(other) => panic!("{other}: not known; early, building, safety, sheets, alternating or search, or nothing"),
+        Some(other) => panic!("{other}: not known; early, building, safety, sheets, sets, alternating or search, or nothing"),
     }
 }

@@ -43,7 +43,7 @@ fn looking_up((dealer, factory, number): Asked, times: usize) -> (Duration, Dura
 }
 
 /// The nanoseconds of one of so many lookups in both, and the ratio, as three columns.
-fn nanos((ours, theirs): (Duration, Duration), times: usize) -> String {
+pub fn nanos((ours, theirs): (Duration, Duration), times: usize) -> String {
     format!("{} | {} | {}", per(ours, times), per(theirs, times), ratio(ours, theirs))
 }
 
