@@ -1,7 +1,7 @@
 -- Where the formulas stand, by going through the records: the places noted with the records to come are what the whole catalogue comes to
 -- (`Collecting`). Noted one after another, up to eight, they are the places of the formulas (`Holds`), so that what is found by them are
 -- the formulas' bytes (`holds-held`); and the count is that of the records, or nine (`counted`). Assumes nothing.
-use mathlib.Core.Path.{_≡_, refl, sym, ap, subst, _∙_}
+use mathlib.Core.Path.{_≡_, refl, sym, ap, subst, subst⁻¹, _∙_}
 use mathlib.Core.Bool.{Bool, true, false, cond}
 use mathlib.Core.List.{List, [], _∷_, _++_, append-assoc, append-nil}
 use Prim.Native.Nat.{ℕ, _+_, _≤_, _<_}
@@ -18,7 +18,7 @@ use Rattle.catalogue.specs.declared.Due.the-variants.{End, Fault, Whole}
 use Rattle.catalogue.proofs.RecordsLaws.{records-end, records-fault, records-whole}
 use Rattle.catalogue.proofs.RunLaws.{Whole-run, whole-run}
 use Rattle.joint.specs.Joint.{max-formulas, bytes-of, formulas}
-use Rattle.joint.specs.Inner.{no-places, noted, noted-all, Collection, collected-on, collected, Collects, held-at, held, Placed}
+use Rattle.joint.specs.Inner.{no-places, slot, noted-at, noted, noted-all, Collection, collected-on, collected, handed, Collects, held-at, held, Placed}
 use Rattle.joint.specs.declared.Places.{Places}
 use Rattle.joint.specs.declared.Collected.{Collected}
 use Rattle.joint.specs.declared.Ending.{Ending}
@@ -33,54 +33,52 @@ collected-behind p r (Records.whole rs) = refl
 pub record Collecting (bytes : List ℕ) (at least : ℕ) (p : Places) : Type 0 where
   pub is : collected-on p (records-from bytes at least) ≡ collected (records bytes)
 
-abbrev handed : Ending → Places → Collected
-handed e p = record { ending = e; places = p }
+abbrev pub given : Ending → Places → Collected
+given e p = handed e (p .starts) (p .sizes) (p .count)
 
 module _ (bytes : List ℕ) where
   pub collect-none : Collecting bytes 0 0 no-places
   collect-none = record { is = refl }
 
-  pub collect-end : {at least : ℕ} {p : Places} → Collecting bytes at least p → record-at bytes at least ≡ End
-      → Collects (collected (records bytes)) (handed ending.Whole p)
-  collect-end {at} {least} {p} c e =
-      subst (λ (x : Collection). Collects x (handed ending.Whole p))
-      (sym (ap (collected-on p) (records-end bytes at least e)) ∙ c .is) (refl, refl)
+  pub collect-end : {at least : ℕ} {p : Places} {c : Collected} → Collecting bytes at least p → record-at bytes at least ≡ End
+      → c ≡ given ending.Whole p → Collects (collected (records bytes)) c
+  collect-end {at} {least} {p} {c} h e q =
+      subst⁻¹ (Collects (collected (records bytes))) q
+      (subst (λ (x : Collection). Collects x (given ending.Whole p))
+      (sym (ap (collected-on p) (records-end bytes at least e)) ∙ h .is) (refl, refl))
 
-  pub collect-fault : {at least place : ℕ} {p : Places} → Collecting bytes at least p → record-at bytes at least ≡ Fault place
-      → Collects (collected (records bytes)) (handed (ending.Broken place) p)
-  collect-fault {at} {least} {place} {p} c e =
-      subst (λ (x : Collection). Collects x (handed (ending.Broken place) p))
-      (sym (ap (collected-on p) (records-fault bytes at least e)) ∙ c .is) refl
+  pub collect-fault : {at least place : ℕ} {p : Places} {c : Collected} → Collecting bytes at least p
+      → record-at bytes at least ≡ Fault place → c ≡ given (ending.Broken place) p → Collects (collected (records bytes)) c
+  collect-fault {at} {least} {place} {p} {c} h e q =
+      subst⁻¹ (Collects (collected (records bytes))) q
+      (subst (λ (x : Collection). Collects x (given (ending.Broken place) p))
+      (sym (ap (collected-on p) (records-fault bytes at least e)) ∙ h .is) refl)
 
-  pub collect-on : {at least : ℕ} {p q : Places} {r : Record} → Collecting bytes at least p → record-at bytes at least ≡ Whole r
-      → q ≡ noted p r → Collecting bytes (r .start + r .size) (r .number + 1) q
-  collect-on {at} {least} {p} {r = r} c e k = record {
+  pub collect-on : {at least k : ℕ} (p : Places) {r : Record} → Collecting bytes at least p → record-at bytes at least ≡ Whole r
+      → k ≡ slot (p .count) → Collecting bytes (r .start + r .size) (r .number + 1) (noted-at p r k)
+  collect-on {at} {least} p {r} h e q = record {
     is =
         let rest = records-from bytes (r .start + r .size) (r .number + 1) in
-        ap (λ q. collected-on q rest) k ∙ sym (collected-behind p r rest)
-        ∙ sym (ap (collected-on p) (records-whole bytes at least e)) ∙ c .is;
+        ap (λ (k : ℕ). collected-on (noted-at p r k) rest) q ∙ sym (collected-behind p r rest)
+        ∙ sym (ap (collected-on p) (records-whole bytes at least e)) ∙ h .is;
   }
 
 -- ---- one place more
-abbrev with-place : Places → Record → Places
-with-place p r =
-    record { starts = set (p .starts) (p .count) (r .start); sizes = set (p .sizes) (p .count) (r .size); count = p .count + 1 }
+pub slot-room : (n : ℕ) → n < max-formulas → n ≡ slot n
+slot-room n h = sym (ap (λ (b : Bool). cond b n max-formulas) (lt-ltb n max-formulas h))
 
-abbrev with-none : Places → Places
-with-none p = record { starts = p .starts; sizes = p .sizes; count = 9 }
+pub slot-full : (n : ℕ) → max-formulas ≤ n → max-formulas ≡ slot n
+slot-full n h = sym (ap (λ (b : Bool). cond b n max-formulas) (le-ltb n max-formulas h))
 
-pub noted-room : (p : Places) (r : Record) → p .count < max-formulas → with-place p r ≡ noted p r
-noted-room p r h = sym (ap (λ (b : Bool). cond b (with-place p r) (with-none p)) (lt-ltb (p .count) max-formulas h))
-
-pub noted-full : (p : Places) (r : Record) → max-formulas ≤ p .count → with-none p ≡ noted p r
-noted-full p r h = sym (ap (λ (b : Bool). cond b (with-place p r) (with-none p)) (le-ltb (p .count) max-formulas h))
+noted-room : (p : Places) (r : Record) → p .count < max-formulas → noted-at p r (p .count) ≡ noted p r
+noted-room p r h = ap (noted-at p r) (slot-room (p .count) h)
 
 -- ---- how many
 count-one : (p : Places) (r : Record) → p .count < max-formulas → noted p r .count ≡ p .count + 1
-count-one p r h = sym (ap (λ (q : Places). q .count) (noted-room p r h))
+count-one p r h = omega (arith, slot-room (p .count) h)
 
 count-nine : (p : Places) (r : Record) → max-formulas ≤ p .count → noted p r .count ≡ 9
-count-nine p r h = sym (ap (λ (q : Places). q .count) (noted-full p r h))
+count-nine p r h = omega (arith, slot-full (p .count) h)
 
 -- nine stays nine
 nine-all : (p : Places) (rs : List Record) → p .count ≡ 9 → noted-all p rs .count ≡ 9
@@ -112,8 +110,8 @@ counted p (r ∷ rs) h = by (ltb (p .count) max-formulas) refl (counted (noted p
 -- ---- which
 -- The places are those of formulas with these bytes.
 pub record Holds (catalogue : List ℕ) (p : Places) (fs : List (List ℕ)) : Type 0 where
-  pub starts-long : length (p .starts) ≡ max-formulas
-  pub sizes-long : length (p .sizes) ≡ max-formulas
+  pub starts-long : length (p .starts) ≡ 9
+  pub sizes-long : length (p .sizes) ≡ 9
   pub count-is : p .count ≡ length fs
   pub held-are : (i : ℕ) → i < length fs → held-at catalogue p i ≡ getD fs i []
   pub within : (i : ℕ) → i < length fs → getD (p .starts) i 0 + getD (p .sizes) i 0 ≤ length catalogue
@@ -135,7 +133,7 @@ last-at fs b d = getD-append-seam fs b [] d
 module _ (catalogue : List ℕ) (p : Places) (r : Record) (fs : List (List ℕ)) (h : Holds catalogue p fs) (few : length fs < max-formulas)
     (fits : r .start + r .size ≤ length catalogue) where
   abbrev q : Places
-  q = with-place p r
+  q = noted-at p r (p .count)
 
   abbrev gs : List (List ℕ)
   gs = fs ++ (bytes-of catalogue r ∷ [])

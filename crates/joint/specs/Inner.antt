@@ -16,6 +16,7 @@ use Rattle.conjunction.specs.Conjunction.{conjoined, Accepted}
 use Rattle.joint.specs.Joint.{Subset, max-formulas, chosen, Attempt, Shrunk}
 use Rattle.joint.specs.declared.Places.{Places}
 use Rattle.joint.specs.declared.Collected.{Collected}
+use Rattle.joint.specs.declared.Ending.{Ending}
 use Rattle.joint.specs.declared.Ending.the-variants as ending
 use Rattle.joint.specs.declared.Checked as code-checked
 use Rattle.joint.specs.declared.Checked.the-variants.{Read, Not}
@@ -31,14 +32,19 @@ use Rattle.joint.specs.declared.Shrunk.the-variants as shrunk
 -- ---- where the formulas stand
 -- no places yet
 abbrev pub no-places : Places
-no-places = record { starts = replicate {A = ℕ} 8 0; sizes = replicate {A = ℕ} 8 0; count = 0 }
+no-places = record { starts = replicate {A = ℕ} 9 0; sizes = replicate {A = ℕ} 9 0; count = 0 }
 
--- one more: there is room for eight, and a count of nine stands for any above
+-- where the next place is noted: behind the others, but not behind the ninth
+abbrev pub slot : (count : ℕ) → ℕ
+slot count = cond (ltb count max-formulas) count max-formulas
+
+-- a place noted there: a count of nine stands for any above eight
+abbrev pub noted-at : Places → Record → (k : ℕ) → Places
+noted-at p r k = record { starts = set (p .starts) k (r .start); sizes = set (p .sizes) k (r .size); count = k + 1 }
+
+-- one more
 abbrev pub noted : Places → Record → Places
-noted p r =
-    cond (ltb (p .count) max-formulas)
-    (record { starts = set (p .starts) (p .count) (r .start); sizes = set (p .sizes) (p .count) (r .size); count = p .count + 1 })
-    (record { starts = p .starts; sizes = p .sizes; count = 9 })
+noted p r = noted-at p r (slot (p .count))
 
 abbrev pub noted-all : Places → List Record → Places
 noted-all p [] = p
@@ -57,7 +63,11 @@ collected-on p (Records.whole rs) = Collection.whole (noted-all p rs)
 abbrev pub collected : Records → Collection
 collected rs = collected-on no-places rs
 
--- what the code hands back of it; the places count where nothing is broken
+-- what the code hands back
+abbrev pub handed : Ending → (starts sizes : List ℕ) (count : ℕ) → Collected
+handed e starts sizes count = record { ending = e; places = record { starts = starts; sizes = sizes; count = count } }
+
+-- of what going through comes to; the places count where nothing is broken
 abbrev pub Collects : Collection → Collected → Type 0
 Collects (Collection.broken place) c = c .ending ≡ ending.Broken place
 Collects (Collection.whole p) c = (c .ending ≡ ending.Whole) × (c .places ≡ p)

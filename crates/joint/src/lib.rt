@@ -1,7 +1,6 @@
 // Whether one lasso meets all formulas of a catalogue (MEANING 10; document 02: a whole handover file), by their conjunction. Where none
 // does, an unsatisfiable core: some of the formulas, which no lasso meets, and without any one of them some lasso does.
 use catalogue::Due;
-use catalogue::Record;
 use construction::Construction;
 use decision::Verdict;
 use formula::Outcome;
@@ -17,7 +16,7 @@ ghost use Rattle.decision.specs.Contract.{Decided};
 ghost use Rattle.decision.specs.Lends.{Lends};
 ghost use Rattle.joint.specs.Joint.{chosen, everything, without, attempted, shrink, concluded};
 ghost use Rattle.joint.specs.Contract.{Leaves, Jointly, number-of, fault-told};
-ghost use Rattle.joint.specs.Inner.{noted, collected, Collects, Collected-from, held-at, held, Stands, Placed, checked, Readable};
+ghost use Rattle.joint.specs.Inner.{slot, handed, collected, Collects, Collected-from, held-at, held, Stands, Placed, checked, Readable};
 ghost use Rattle.joint.specs.Inner.{joined, joined-if, Put-bytes, Grown, Room, Conjoins};
 ghost use Rattle.joint.specs.Inner.{Clear, attempt-told, attempt-said, shrunk-told, core-said};
 
@@ -47,10 +46,11 @@ pub enum Joint {
 // What question 34 grants at most.
 pub const MAX_FORMULAS: usize = 8;
 
-// Where the formulas of a catalogue stand in it. A count above eight says that there are more.
+// Where the formulas of a catalogue stand in it. A count of nine says that there are more than eight; the ninth place is then that of the
+// last of them.
 struct Places {
-    starts: [usize; 8],
-    sizes: [usize; 8],
+    starts: [usize; 9],
+    sizes: [usize; 9],
     count: usize,
 }
 
@@ -96,26 +96,26 @@ const CONJUNCTION: usize = 776;
 // As many letters as question 13 can ask for.
 const LETTERS: usize = 5120;
 
-// The places with one more, of which there is room for eight.
-fn with_record(p: Places, r: Record) -> Places
-    ensures { λ q. ⌜ q ≡ noted p r ⌝ }
+// Where the next place is noted: behind the others, but not behind the ninth.
+fn slot(count: usize) -> usize
+    ensures { λ r. ⌜ (r ≡ slot count) × (r ≤ 8) ⌝ }
 {
-    let mut starts = p.starts;
-    let mut sizes = p.sizes;
-    let count = p.count;
     if count < MAX_FORMULAS {
-        starts[count] = r.start;
-        sizes[count] = r.size;
-        return Places {
+        return count;
+    }
+    MAX_FORMULAS
+}
+
+fn ended(ending: Ending, starts: [usize; 9], sizes: [usize; 9], count: usize) -> Collected
+    ensures { λ r. ⌜ r ≡ handed ending starts sizes count ⌝ }
+{
+    Collected {
+        ending: ending,
+        places: Places {
             starts: starts,
             sizes: sizes,
-            count: count + 1,
-        };
-    }
-    Places {
-        starts: starts,
-        sizes: sizes,
-        count: MAX_FORMULAS + 1,
+            count: count,
+        },
     }
 }
 
@@ -125,27 +125,18 @@ fn collect(catalogue: &[u8]) -> Collected
 {
     let mut at = 0usize;
     let mut least = 0usize;
-    let mut found = Places {
-        starts: [0usize; 8],
-        sizes: [0usize; 8],
-        count: 0,
-    };
+    let mut starts = [0usize; 9];
+    let mut sizes = [0usize; 9];
+    let mut count = 0usize;
     loop {
         match catalogue::next_record(catalogue, at, least) {
-            Due::End => {
-                return Collected {
-                    ending: Ending::Whole,
-                    places: found,
-                };
-            }
-            Due::Fault(place) => {
-                return Collected {
-                    ending: Ending::Broken(place),
-                    places: found,
-                };
-            }
+            Due::End => return ended(Ending::Whole, starts, sizes, count),
+            Due::Fault(place) => return ended(Ending::Broken(place), starts, sizes, count),
             Due::Whole(r) => {
-                found = with_record(found, r);
+                let k = slot(count);
+                starts[k] = r.start;
+                sizes[k] = r.size;
+                count = k + 1;
                 at = r.start + r.size;
                 least = r.number + 1;
             }

@@ -12,10 +12,10 @@ use Rattle.joint.proofs.collect.Statement.{statement}
 use Rattle.joint.proofs.collect.Tie as tie
 
 abbrev Inv-loop : tie.InvT-loop
-Inv-loop catalogue at₀ least₀ found₀ at least found = Collecting catalogue at least found
+Inv-loop catalogue at₀ least₀ starts₀ sizes₀ count₀ at least starts sizes count = Collecting catalogue at least (record { starts = starts; sizes = sizes; count = count })
 
 abbrev μ-loop : tie.MeasureT-loop
-μ-loop catalogue at₀ least₀ found₀ at least found = length catalogue - at
+μ-loop catalogue at₀ least₀ starts₀ sizes₀ count₀ at least starts sizes count = length catalogue - at
 
 loop-holds : tie.Need-loop-holds Inv-loop μ-loop
 loop-holds c = collect-none (c .before .args .catalogue .now)
@@ -26,26 +26,48 @@ next-record-requires c κs = search needs
 enum-told : tie.Need-enum-told Inv-loop μ-loop
 enum-told c = c .match .keys1
 
+ended-requires : tie.Need-ended-requires Inv-loop μ-loop
+ended-requires c κs = search needs
+
 returns : tie.Need-returns Inv-loop μ-loop
 returns c =
-    let next = c .before .before in
+    let next = c .before .before .before in
     let loop = next .before in
-    collect-end (c .before .before .before .before .before .args .catalogue .now) (loop .loop .inv) (sym (next .next-record .ensures .0) ∙ c .enum-told .given .1)
+    collect-end (c .before .before .before .before .before .before .args .catalogue .now) (loop .loop .inv) (sym (next .next-record .ensures .0) ∙ c .before .enum-told .given .1) (c .ended .ensures)
 
 enum-known-place : tie.Need-enum-known-place Inv-loop μ-loop
 enum-known-place c = c .match .keys2
 
+ended-requires-2 : tie.Need-ended-requires-2 Inv-loop μ-loop
+ended-requires-2 c κs = search needs
+
 returns-2 : tie.Need-returns-2 Inv-loop μ-loop
 returns-2 c =
-    let next = c .before .before .before in
+    let next = c .before .before .before .before in
     let loop = next .before in
-    collect-fault (c .before .before .before .before .before .before .args .catalogue .now) (loop .loop .inv) (sym (next .next-record .ensures .0) ∙ c .before .place .given .1)
+    collect-fault (c .before .before .before .before .before .before .before .args .catalogue .now) (loop .loop .inv) (sym (next .next-record .ensures .0) ∙ c .before .before .place .given .1)
+    (c .ended2 .ensures)
 
 enum-known-r : tie.Need-enum-known-r Inv-loop μ-loop
 enum-known-r c = c .match .keys3
 
-with-record-requires : tie.Need-with-record-requires Inv-loop μ-loop
-with-record-requires c κs = search needs
+slot-requires : tie.Need-slot-requires Inv-loop μ-loop
+slot-requires c κs = search needs
+
+mul-starts : tie.Need-mul-starts Inv-loop μ-loop
+mul-starts c = search (needs, c .slot .ensures .1)
+
+array-write-starts : tie.Need-array-write-starts Inv-loop μ-loop
+array-write-starts c = search (needs, c .slot .ensures .1)
+
+mul-sizes : tie.Need-mul-sizes Inv-loop μ-loop
+mul-sizes c = search (needs, c .slot .ensures .1)
+
+array-write-sizes : tie.Need-array-write-sizes Inv-loop μ-loop
+array-write-sizes c = search (needs, c .slot .ensures .1)
+
+add-count : tie.Need-add-count Inv-loop μ-loop
+add-count c = search (needs, c .slot .ensures .1)
 
 add-at : tie.Need-add-at Inv-loop μ-loop
 add-at c =
@@ -68,8 +90,10 @@ loop-less c =
 
 loop-again : tie.Need-loop-again Inv-loop μ-loop
 loop-again c =
+    let loop = c .before .before .before .before .before .before .before .loop in
     let is = sym (c .before .before .before .before .before .before .next-record .ensures .0) ∙ c .before .before .before .before .r .given .1 in
-    collect-on (c .before .before .before .before .before .before .before .before .before .args .catalogue .now) (c .before .before .before .before .before .before .before .loop .inv) is (c .before .before .with-record .ensures)
+    collect-on (c .before .before .before .before .before .before .before .before .before .args .catalogue .now) (record { starts = loop .starts; sizes = loop .sizes; count = loop .count }) (loop .inv) is
+    (c .before .before .slot .ensures .0)
 
 pub collect-spec : {M : Type 1} → statement M
 collect-spec =
@@ -80,11 +104,18 @@ collect-spec =
     loop-holds
     next-record-requires
     enum-told
+    ended-requires
     returns
     enum-known-place
+    ended-requires-2
     returns-2
     enum-known-r
-    with-record-requires
+    slot-requires
+    mul-starts
+    array-write-starts
+    mul-sizes
+    array-write-sizes
+    add-count
     add-at
     add-least
     loop-less
