@@ -2,25 +2,23 @@
 -- definition gives for the catalogue. Assumes nothing.
 use mathlib.Core.Path.{_≡_, refl, sym, ap, subst, _∙_}
 use mathlib.Core.Bool.{Bool, true, false, _&&_}
-use mathlib.Core.List.{List, []}
+use mathlib.Core.List.{List}
 use Prim.Native.Nat.{ℕ, _+_, _≤_, _<_}
 use native.Mathlib.Omega.{arith}
 use lib.Dec.{leb}
 use lib.ListN.{length, length-map}
-use borrow.Author.Tests.{le-leb, lt-leb, leb-true, leb-false}
+use borrow.Author.Tests.{lt-leb}
 use Rattle.base.specs.Ask.{ask}
 use Rattle.formula.specs.declared.Refusal.{Refusal}
 use Rattle.construction.specs.Construction.{between}
 use Rattle.decision.specs.Verdict.{Verdict, within-capacity, workspace-size, witness-size, ask-room}
-use Rattle.decision.specs.Lends.{Lends}
 use Rattle.decision.specs.Inner.{Granted-or}
 use Rattle.decision.proofs.Answer.{past-13}
 use Rattle.decision.proofs.SettleLaws.{asked-of}
 use Rattle.catalogue.specs.Records.{Records, records}
-use Rattle.catalogue.specs.declared.Record.{Record}
 use Rattle.joint.specs.Joint.{Joint, max-formulas, concluded, ask-read, asked, bytes-of, formulas, of-records, joint}
 use Rattle.joint.specs.Contract.{Leaves}
-use Rattle.joint.specs.Inner.{no-places, noted-all, collected, Collects, Collected-from, held, Placed, checked, Readable}
+use Rattle.joint.specs.Inner.{no-places, collected, Collects, Collected-from, held, Placed, checked, Readable}
 use Rattle.joint.specs.declared.Places.{Places}
 use Rattle.joint.specs.declared.Collected.{Collected}
 use Rattle.joint.specs.declared.Ending.the-variants as ending
@@ -55,7 +53,8 @@ joint-of after (Verdict.unsatisfiable K P) = after
 abbrev pub granted : Verdict
 granted = Verdict.unsatisfiable 0 0
 
-pub room-joint : (N M w b : ℕ) (after : Joint) → ask-room Joint.refused N M w b after ≡ joint-of after (ask-room Verdict.refused N M w b granted)
+pub room-joint : (N M w b : ℕ) (after : Joint)
+    → ask-room Joint.refused N M w b after ≡ joint-of after (ask-room Verdict.refused N M w b granted)
 room-joint N M w b after = sym (room-made (joint-of after) Verdict.refused N M w b granted)
 
 module _ {N M w b c : ℕ} (g : Granted-or N M w b c) (after : Joint) where
@@ -167,5 +166,6 @@ module _ (N M w b : ℕ) (catalogue : List ℕ) (c : Collected) (h : Collects (c
       by (Records.whole rs) r q = record { passed = rs; whole = r; is = q .1 }
 
 -- what is left after an outcome, by another name
-pub joint-leaves : {N M : ℕ} {o v : Joint} {w w′ b b′ : List ℕ} {r : code.Joint} → v ≡ o → Leaves N M o w w′ b b′ r → Leaves N M v w w′ b b′ r
+pub joint-leaves : {N M : ℕ} {o v : Joint} {w w′ b b′ : List ℕ} {r : code.Joint} → v ≡ o → Leaves N M o w w′ b b′ r
+    → Leaves N M v w w′ b b′ r
 joint-leaves {N} {M} {w = w} {w′} {b} {b′} {r} e h = subst (λ (x : Joint). Leaves N M x w w′ b b′ r) (sym e) h

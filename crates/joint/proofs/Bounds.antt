@@ -1,30 +1,30 @@
 -- How large the numbers of an answer are: those of MET and NOT are the decision's, a refused formula is at one of eight positions and its
 -- refusal is early, and a subset has eight bits. Assumes nothing.
-use mathlib.Core.Path.{_≡_, refl, sym, ap, subst, subst⁻¹, _∙_}
+use mathlib.Core.Path.{_≡_, refl, subst, subst⁻¹, _∙_}
 use mathlib.Core.List.{List, []}
-use Prim.Native.Nat.{ℕ, suc, _<_, _≤_}
+use Prim.Native.Nat.{ℕ, _<_, _≤_}
 use native.Mathlib.Omega.{arith}
 use lib.ListN.{length, getD}
 use Rattle.base.specs.Bits.{word}
 use Rattle.formula.specs.Refusal.{code-of, Places-within}
 use Rattle.formula.proofs.Fuel.{parse-stopped}
 use Rattle.formula.proofs.Early.{parse-early}
-use Rattle.decision.specs.Verdict.{Verdict, verdict}
+use Rattle.decision.specs.Verdict.{Verdict}
 use Rattle.decision.specs.Contract as decision
 use Rattle.decision.specs.Lends.{Lends}
 use Rattle.decision.proofs.Bounds.{Answer-sized, verdict-bounded}
 use Rattle.decision.proofs.Bounds as decision-bounds
 use Rattle.conjunction.specs.Conjunction.{conjoined}
 use Rattle.joint.specs.Joint.{Subset, max-formulas, everything, chosen, decided, Attempt, attempted, Shrunk, shrink, Joint, with-core}
-use Rattle.joint.specs.Joint.{settled, joint}
+use Rattle.joint.specs.Joint.{settled}
 use Rattle.joint.specs.Contract.{says, Jointly}
 use Rattle.joint.specs.declared.Joint as code
 use Rattle.joint.specs.declared.Joint.the-variants.{Damaged, Miscounted, Unread, Refused, Untried, Satisfiable, Unsatisfiable}
-use Rattle.joint.proofs.SubsetLaws.{everything-length, Within}
+use Rattle.joint.proofs.SubsetLaws.{everything-length, Within, within-length}
 use Rattle.joint.proofs.WordingLaws.{eight-bits}
 use Rattle.joint.proofs.ShrinkLaws.{lends-decided}
 use Rattle.joint.proofs.ShrinkMeaning.{shrink-stuck, shrink-within}
-use Rattle.joint.proofs.Cases.{Has-formulas, Cases, joint-cases}
+use Rattle.joint.proofs.Cases.{Cases, joint-cases}
 
 abbrev pub Bounded : (N M : ℕ) → code.Joint → Type 0
 Bounded N M (Damaged place) = Unit {0}
@@ -36,11 +36,6 @@ Bounded N M (Satisfiable stem cycle K c) = Answer-sized N M stem cycle K c
 Bounded N M (Unsatisfiable K P core) = Answer-sized N M 0 0 K P × (core < 256)
 
 -- a subset of all positions has eight bits
-within-length : {s t : Subset} → Within s t → length s ≡ length t
-within-length Within.none = refl
-within-length (Within.both w) = ap suc (within-length w)
-within-length (Within.fewer w) = ap suc (within-length w)
-
 small : {n : ℕ} {s : Subset} → n ≤ max-formulas → Within s (everything n) → word s < 256
 small {n} {s} few w = eight-bits s (within-length w ∙ everything-length n few)
 

@@ -15,7 +15,6 @@ use Rattle.conjunction.specs.Conjunction.{Accepted}
 use Rattle.joint.specs.Joint.{Joint, read-on, ask-read}
 use Rattle.joint.specs.Inner.{held-at, held, check-on, checked}
 use Rattle.joint.specs.declared.Places.{Places}
-use Rattle.joint.specs.declared.Checked.{Checked}
 use Rattle.joint.specs.declared.Checked.the-variants.{Read, Not}
 
 module _ (catalogue : List ℕ) (p : Places) where

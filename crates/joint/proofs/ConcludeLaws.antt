@@ -1,9 +1,10 @@
--- The outcome of some formulas that reading accepts, by what the code's decisions answer. The verdict on the conjunction of all settles it,
--- but where it is NOT: then leaving out goes on, over a workspace that is cleared. A subset of an accepted conjunction is accepted, so where
--- leaving out is stuck, 14 or 15 refused, and the workspace is as the decision leaves it then (`stuck-clears`). Assumes nothing.
+-- The outcome of some formulas that reading accepts, by what the code's decisions answer. The verdict on the conjunction of all settles
+-- it, but where it is NOT: then leaving out goes on, over a workspace that is cleared. A part of an accepted conjunction is accepted
+-- (`stuck-part`), so where leaving out is stuck, 14 or 15 refused, and the workspace is as the decision leaves it then (`unmet-leaves`).
+-- Assumes nothing.
 use mathlib.Core.Path.{_≡_, refl, sym, ap, subst, _∙_}
 use mathlib.Core.List.{List, [], _∷_}
-use Prim.Native.Nat.{ℕ, _+_, _≤_}
+use Prim.Native.Nat.{ℕ}
 use native.Mathlib.Omega.{arith}
 use lib.ListN.{length}
 use Rattle.base.specs.Bits.{word}
@@ -92,7 +93,9 @@ module _ (N M : ℕ) (bs : List (List ℕ)) {fs : List Formula} (accepted : Acce
       record {
         answered = refl;
         buffered = refl;
-        worked = sym (ap (λ (v : Verdict). decision.cleared N M v w) (sym (r .verdict-is)) ∙ read-clears N M (conjoined (chosen t bs)) (r .reads) w);
+        worked =
+            sym (read-clears N M (conjoined (chosen t bs)) (r .reads) w)
+            ∙ ap (λ (v : Verdict). decision.cleared N M v w) (r .verdict-is);
       }
   unmet-leaves K P (Shrunk.core s) e = record { answered = refl; buffered = refl; worked = refl }
 

@@ -31,7 +31,8 @@ set-before out at b z l =
 
 drop-before : (bytes : List ℕ) (i : ℕ) → 0 < i → i ≤ length bytes → getD bytes (i - 1) 0 ∷ drop i bytes ≡ drop (i - 1) bytes
 drop-before bytes i z l =
-    sym (drop-cons bytes (i - 1) 0 (omega arith) ∙ ap (λ (k : ℕ). getD bytes (i - 1) 0 ∷ drop k bytes) {x = suc (i - 1)} {y = i} (omega arith))
+    sym (drop-cons bytes (i - 1) 0 (omega arith)
+    ∙ ap (λ (k : ℕ). getD bytes (i - 1) 0 ∷ drop k bytes) {x = suc (i - 1)} {y = i} (omega arith))
 
 -- ---- bytes before bytes
 pub record Putting (bytes : List ℕ) (end : ℕ) (out₀ : List ℕ) (out : List ℕ) (at i : ℕ) : Type 0 where

@@ -1,8 +1,9 @@
 -- The examples of MEANING 10.6, as statements that the definitions compute. Assumes nothing.
 use mathlib.Core.Path.{_≡_, refl}
 use mathlib.Core.Bool.{true, false}
-use mathlib.Core.List.{List, [], _∷_, map}
+use mathlib.Core.List.{List, [], _∷_, _++_, map}
 use Prim.Native.Nat.{ℕ, _+_}
+use lib.ListN.{replicate}
 use Rattle.formula.specs.Refusal.{at-byte, unguarded}
 use Rattle.formula.specs.Table.{table}
 use Rattle.formula.specs.Reading.{parse}
@@ -28,6 +29,10 @@ entries h (b ∷ bs) = record { low = 7; high = h; formula = b } ∷ entries (h 
 abbrev sheet : List (List ℕ) → List ℕ
 sheet bs = written (entries 0 bs)
 
+-- F s0
+abbrev sooner-or-later : List ℕ
+sooner-or-later = 0x09 ∷ 0x06 ∷ 0x03 ∷ 0x00 ∷ 0x08 ∷ 0x05 ∷ 0x00 ∷ []
+
 abbrev pub examples : List Example
 examples =
     is (sheet ((0x03 ∷ 0x00 ∷ []) ∷ (0x03 ∷ 0x01 ∷ []) ∷ [])) 8 8
@@ -42,13 +47,13 @@ examples =
     (Joint.unsatisfiable 1 0 (true ∷ false ∷ false ∷ false ∷ false ∷ false ∷ false ∷ false ∷ []))
     ∷ is (sheet ((0x01 ∷ []) ∷ (0x02 ∷ []) ∷ [])) 8 8
     (Joint.unsatisfiable 1 0 (false ∷ true ∷ false ∷ false ∷ false ∷ false ∷ false ∷ false ∷ []))
-    ∷ is (sheet ((0x09 ∷ 0x06 ∷ 0x03 ∷ 0x00 ∷ 0x08 ∷ 0x05 ∷ 0x00 ∷ []) ∷ (0x0A ∷ 0x07 ∷ 0x04 ∷ 0x00 ∷ 0x08 ∷ 0x05 ∷ 0x00 ∷ []) ∷ [])) 8 8
+    ∷ is (sheet (sooner-or-later ∷ (0x0A ∷ 0x07 ∷ 0x04 ∷ 0x00 ∷ 0x08 ∷ 0x05 ∷ 0x00 ∷ []) ∷ [])) 8 8
     (Joint.unsatisfiable 2 1 (true ∷ true ∷ false ∷ false ∷ false ∷ false ∷ false ∷ false ∷ []))
-    ∷ is (sheet ((0x01 ∷ []) ∷ (0x01 ∷ []) ∷ (0x01 ∷ []) ∷ (0x01 ∷ []) ∷ (0x01 ∷ []) ∷ (0x01 ∷ []) ∷ (0x01 ∷ []) ∷ (0x01 ∷ []) ∷ [])) 8 8
+    ∷ is (sheet (replicate 8 (0x01 ∷ []))) 8 8
     (Joint.satisfiable 1 1 2 1 (0x4000 ∷ 0x4000 ∷ []))
     ∷ is (sheet ([])) 8 8
     Joint.miscounted
-    ∷ is (sheet ((0x01 ∷ []) ∷ (0x01 ∷ []) ∷ (0x01 ∷ []) ∷ (0x01 ∷ []) ∷ (0x01 ∷ []) ∷ (0x01 ∷ []) ∷ (0x01 ∷ []) ∷ (0x01 ∷ []) ∷ (0x01 ∷ []) ∷ [])) 8 8
+    ∷ is (sheet (replicate 9 (0x01 ∷ []))) 8 8
     Joint.miscounted
     ∷ is (sheet ((0x01 ∷ []) ∷ [] ∷ (0x05 ∷ []) ∷ [])) 8 8
     (Joint.unread 1 (at-byte 1 0))
@@ -58,13 +63,14 @@ examples =
     (Joint.unread 1 (unguarded 0 2))
     ∷ is (sheet ((0x02 ∷ []) ∷ [])) 0 8
     (Joint.refused 11)
-    ∷ is (sheet ((0x08 ∷ 0x08 ∷ 0x08 ∷ 0x08 ∷ 0x08 ∷ 0x08 ∷ 0x08 ∷ 0x08 ∷ 0x08 ∷ 0x08 ∷ 0x08 ∷ 0x08 ∷ 0x01 ∷ []) ∷ (0x08 ∷ 0x03 ∷ 0x00 ∷ []) ∷ [])) 8 8
+    ∷ is (sheet ((replicate 12 0x08 ++ (0x01 ∷ [])) ∷ (0x08 ∷ 0x03 ∷ 0x00 ∷ []) ∷ [])) 8 8
     (Joint.untried (true ∷ true ∷ false ∷ false ∷ false ∷ false ∷ false ∷ false ∷ []) (Verdict.unread (at-byte 4 14)))
     ∷ is (sheet ((0x03 ∷ 0x00 ∷ []) ∷ [])) 1 4
     (Joint.untried (true ∷ false ∷ false ∷ false ∷ false ∷ false ∷ false ∷ false ∷ []) (Verdict.refused 14))
     ∷ is (sheet ((0x03 ∷ 0x00 ∷ []) ∷ (0x08 ∷ 0x03 ∷ 0x00 ∷ []) ∷ (0x04 ∷ 0x00 ∷ []) ∷ [])) 1 4
     (Joint.untried (true ∷ true ∷ false ∷ false ∷ false ∷ false ∷ false ∷ false ∷ []) (Verdict.refused 14))
-    ∷ is (sheet ((0x09 ∷ 0x06 ∷ 0x03 ∷ 0x00 ∷ 0x08 ∷ 0x05 ∷ 0x00 ∷ []) ∷ (0x0A ∷ 0x07 ∷ 0x03 ∷ 0x01 ∷ 0x08 ∷ 0x05 ∷ 0x00 ∷ []) ∷ (0x04 ∷ 0x00 ∷ []) ∷ (0x03 ∷ 0x00 ∷ []) ∷ [])) 8 1
+    ∷ is (sheet (sooner-or-later ∷ (0x0A ∷ 0x07 ∷ 0x03 ∷ 0x01 ∷ 0x08 ∷ 0x05 ∷ 0x00 ∷ []) ∷ (0x04 ∷ 0x00 ∷ []) ∷ (0x03 ∷ 0x00 ∷ []) ∷ []))
+    8 1
     (Joint.untried (true ∷ true ∷ true ∷ false ∷ false ∷ false ∷ false ∷ false ∷ []) (Verdict.refused 15))
     ∷ is (0x20 ∷ 0x07 ∷ 0x00 ∷ 0x01 ∷ 0x01 ∷ 0x21 ∷ []) 8 8 (Joint.damaged 5)
     ∷ []

@@ -6,9 +6,11 @@ pub mod SubsetLaws
 pub mod WordingLaws
 pub mod ShrinkLaws
 pub mod ShrinkMeaning
+pub mod ShrinkLeast
 pub mod ConcludeLaws
 pub mod AskedLaws
 pub mod Cases
 pub mod Meaning
 pub mod Bounds
+pub mod MoreRoom
 pub mod Examples

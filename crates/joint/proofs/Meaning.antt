@@ -1,22 +1,23 @@
 -- What the outcomes say of the formulas (MEANING 10.5). MET: the lasso is over the alphabet and meets each. NOT: no such lasso meets all;
 -- none meets all of the core; and without any one position of the core some lasso meets the rest. The last is so since that rest is a part
--- of a subset that was tried, when this position was, and met: whoever meets all meets a part. 35: the subset's conjunction was refused, by 3
--- or 4 only as that of the whole set, else by 14 or 15. Assumes nothing.
+-- of a subset that was tried, when this position was, and met: whoever meets all meets a part. Of all subsets that no lasso meets the core
+-- has the least word (ShrinkLeast). 35: the subset's conjunction was refused, by 3 or 4 only as that of the whole set, else by 14 or 15.
+-- Assumes nothing.
 use mathlib.Core.Path.{_≡_, refl, sym, ap, subst, subst⁻¹, _∙_}
 use mathlib.Core.Logic.{_⊎_, inl, inr}
-use mathlib.Core.Bool.{Bool, true, false}
+use mathlib.Core.Bool.{true, false}
 use mathlib.Core.List.{List, [], _∷_, _++_}
 use mathlib.Core.Option.{Option, none, some}
 use Prim.Native.Nat.{ℕ, zero, suc, _-_, _≤_, _<_}
 use native.Mathlib.Omega.{arith}
 use lib.ListN.{length, getD, replicate}
+use Rattle.base.specs.Bits.{word}
 use Rattle.base.specs.Search.{Item}
 use Rattle.base.proofs.AskLaws.{every-outcome}
 use Rattle.formula.specs.Formula.{Formula}
 use Rattle.formula.specs.Table.{Table, table}
-use Rattle.formula.specs.Refusal.{at-byte, code-of}
+use Rattle.formula.specs.Refusal.{at-byte}
 use Rattle.formula.specs.Reading.{Reading, parse}
-use Rattle.formula.specs.declared.Refusal.{Refusal}
 use Rattle.formula.proofs.Reread.{Reread}
 use Rattle.lasso.specs.Lasso.{Lasso, over-alphabet, meets}
 use Rattle.tableau.specs.Saturation as tableau
@@ -30,16 +31,18 @@ use Rattle.decision.specs.Inner.{found-in, needed}
 use Rattle.decision.proofs.VerdictLaws.{decide-asked}
 use Rattle.decision.proofs.Answer.{lasso, Says, verdict-says}
 use Rattle.conjunction.specs.Conjunction.{conjoined, conjunction, Accepted, Meets-each, Part}
-use Rattle.conjunction.proofs.PartLaws.{part-accepted, accepted-one, part-meets}
+use Rattle.conjunction.proofs.PartLaws.{part-meets}
 use Rattle.conjunction.proofs.MeetLaws.{conjunction-exactly}
 use Rattle.conjunction.proofs.ReadLaws.{conjunction-read, conjunction-accepted}
-use Rattle.joint.specs.Joint.{Subset, chosen, max-formulas, everything, without, decided, Attempt, attempt-of, attempted, Shrunk, shrink}
+use Rattle.joint.specs.Joint.{Subset, chosen, max-formulas, everything, without, decided, Attempt}
+use Rattle.joint.specs.Joint.{attempt-of, attempted, Shrunk, shrink}
 use Rattle.joint.specs.Joint.{Joint, with-core, settled, joint}
 use Rattle.joint.proofs.SubsetLaws.{everything-chosen, Within, within-self, without-both, within-at, within-part}
 use Rattle.joint.proofs.ShrinkLaws.{lends-decided}
 use Rattle.joint.proofs.ShrinkMeaning.{Needed, shrink-stuck, shrink-within, shrink-keeps, shrink-needs}
-use Rattle.joint.proofs.ConcludeLaws.{unsat-read, Refusing, Refused-part, stuck-part}
-use Rattle.joint.proofs.Cases.{Has-formulas, First-refused, Cases, joint-cases}
+use Rattle.joint.proofs.ShrinkLeast.{core-least}
+use Rattle.joint.proofs.ConcludeLaws.{unsat-read, Refusing, stuck-part}
+use Rattle.joint.proofs.Cases.{Has-formulas, Cases, joint-cases}
 
 -- ---- the formulas that a subset takes
 chosen-accepted : (s : Subset) {bs : List (List ℕ)} {fs : List Formula} → Accepted bs fs → Accepted (chosen s bs) (chosen s fs)
@@ -120,7 +123,8 @@ pub record Met-all (catalogue : List ℕ) (stem cycle K n : ℕ) (letters : List
   pub conjunction-met : Met (conjoined bytes) stem cycle K n letters
   pub meets-each : Meets-each (lasso letters stem) formulas
 
--- NOT: K and P are the conjunction's. The core is a minimal unsatisfiable subset.
+-- NOT: K and P are the conjunction's. The core is a minimal unsatisfiable subset, and of all subsets that no lasso meets the one with the
+-- least word.
 pub record Clash (catalogue : List ℕ) (K P : ℕ) (core : Subset) : Type 0 where
   pub bytes : List (List ℕ)
   pub formulas : List Formula
@@ -131,6 +135,7 @@ pub record Clash (catalogue : List ℕ) (K P : ℕ) (core : Subset) : Type 0 whe
   pub core-within : Within core (everything (length bytes))
   pub core-unmet : Met-by-none (chosen core formulas)
   pub core-needed : (i : ℕ) → getD core i false ≡ true → Met-by-some (chosen (without core i) formulas)
+  pub core-first : (u : Subset) → Within u (everything (length bytes)) → Met-by-none (chosen u formulas) → word core ≤ word u
 
 -- why the conjunction of a subset could not be decided: it is too large to read, and then it is that of all; or room is lacking
 pub data Reason (N M : ℕ) (bs : List (List ℕ)) (t : Subset) : Verdict → Type 0 where
@@ -209,7 +214,8 @@ accepted-count Accepted.none = refl
 accepted-count (Accepted.more e a) = ap suc (accepted-count a)
 
 -- of no more positions than there are formulas
-everything-below : (n : ℕ) (s : Subset) (i : ℕ) → getD (replicate n true ++ s) i false ≡ true → ((j : ℕ) → getD s j false ≡ true → ⊥) → i < n
+everything-below : (n : ℕ) (s : Subset) (i : ℕ) → getD (replicate n true ++ s) i false ≡ true
+    → ((j : ℕ) → getD s j false ≡ true → ⊥) → i < n
 everything-below zero s i e none-left = absurd (none-left i e)
 everything-below (suc n) s zero e none-left = omega arith
 everything-below (suc n) s (suc i) e none-left = omega (arith, everything-below n s i e none-left)
@@ -268,12 +274,18 @@ module _ (N M w b : ℕ) (catalogue : List ℕ) {bs : List (List ℕ)} {fs : Lis
             (λ u r. attempt-unmet N M w b l (chosen-accepted u a) r) n (everything n)
             (subst⁻¹ Met-by-none all-formulas none) q;
         core-needed = λ i t. needed i (shrink-needs try n (everything n) q i (taken-below n i (within-at i within t)) t);
+        core-first = core-least try (λ (u : Subset). Met-by-none (chosen u fs)) part-good n q;
       }
     where
       needed : (i : ℕ) → Needed try s i → Met-by-some (chosen (without s i) fs)
       needed i r =
           part-met (within-part (without-both i (r .within)) fs)
           (attempt-met N M w b l (chosen-accepted (without (r .larger) i) a) (r .met))
+
+      part-good : (u v : Subset) → try v ≡ Attempt.met → Within u v → Met-by-none (chosen u fs) → ⊥
+      part-good u v e p unmet =
+          let m = part-met (within-part p fs) (attempt-met N M w b l (chosen-accepted v a) e) in
+          unmet (m .course) (m .such) (m .meets-each)
 
   whole-refused : (why : Verdict) → Refusing why → decided N M (conjoined bs) ≡ why → Untried N M catalogue (everything n) why
   whole-refused why r e = record {

@@ -18,7 +18,8 @@ use Rattle.catalogue.specs.declared.Due.the-variants.{End, Fault, Whole}
 use Rattle.catalogue.proofs.RecordsLaws.{records-end, records-fault, records-whole}
 use Rattle.catalogue.proofs.RunLaws.{Whole-run, whole-run}
 use Rattle.joint.specs.Joint.{max-formulas, bytes-of, formulas}
-use Rattle.joint.specs.Inner.{no-places, slot, noted-at, noted, noted-all, Collection, collected-on, collected, handed, Collects, held-at, held, Placed}
+use Rattle.joint.specs.Inner.{no-places, slot, noted-at, noted, noted-all, Collection, collected-on, collected}
+use Rattle.joint.specs.Inner.{handed, Collects, held-at, held, Placed}
 use Rattle.joint.specs.declared.Places.{Places}
 use Rattle.joint.specs.declared.Collected.{Collected}
 use Rattle.joint.specs.declared.Ending.{Ending}

@@ -4,10 +4,10 @@
 use mathlib.Core.Path.{_≡_, refl, sym, ap, subst, _∙_}
 use mathlib.Core.Bool.{Bool, true, false, cond}
 use mathlib.Core.List.{List, [], _∷_, _++_}
-use Prim.Native.Nat.{ℕ, zero, suc, _+_, _-_, _≤_, _<_}
+use Prim.Native.Nat.{ℕ, suc, _+_, _-_, _≤_, _<_}
 use native.Mathlib.Omega.{arith}
 use lib.Dec.{leb}
-use lib.ListN.{length, drop, replicate, length-replicate}
+use lib.ListN.{length, drop, replicate, length-append, length-drop, length-replicate}
 use lib.Seq.{drop-at}
 use Rattle.base.specs.Bits.{word}
 use Rattle.formula.specs.Formula.{Formula}
@@ -21,11 +21,10 @@ use Rattle.decision.proofs.Answer.{past-13}
 use Rattle.decision.proofs.SettleLaws.{asked-of}
 use Rattle.decision.proofs.VerdictLaws.{questions}
 use Rattle.conjunction.specs.Conjunction.{conjoined}
-use Rattle.joint.specs.Joint.{Subset, chosen, everything, without, decided, Attempt, attempt-of, attempted, Shrunk, gone-on, shrink}
+use Rattle.joint.specs.Joint.{Subset, everything, without, decided, Attempt, attempt-of, attempted, gone-on, shrink}
 use Rattle.joint.specs.Inner.{Clear, attempt-told, attempt-said, shrunk-told}
 use Rattle.joint.specs.declared.Attempt as code-attempt
 use Rattle.joint.specs.declared.Attempt.the-variants as attempt
-use Rattle.joint.specs.declared.Shrunk as code-shrunk
 use Rattle.joint.specs.declared.Shrunk.the-variants as shrunk
 
 -- ---- the decision of some formulas
@@ -52,6 +51,16 @@ lends-own l =
       workspace-fits = l .workspace-fits;
       buffer-fits = omega (arith, l .capacity .few-nodes, l .capacity .few-profiles);
     }
+
+pub zeroed-length : {N M b : ℕ} (w : List ℕ) → Lends N M (length w) b → length (zeroed N M w) ≡ length w
+zeroed-length {N} {M} w l =
+    omega (
+      arith,
+      l .workspace-fits,
+      length-append (replicate (workspace-size N M) 0) (drop (workspace-size N M) w),
+      length-replicate {A = ℕ} (workspace-size N M) 0,
+      length-drop (workspace-size N M) w,
+    )
 
 pub zeroed-clear : (N M : ℕ) (w : List ℕ) → Clear N M (zeroed N M w)
 zeroed-clear N M w =

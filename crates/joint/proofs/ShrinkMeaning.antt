@@ -4,7 +4,7 @@
 -- out. Assumes nothing.
 use mathlib.Core.Path.{_≡_, refl, sym, ap, subst, _∙_}
 use mathlib.Core.Bool.{Bool, true, false}
-use mathlib.Core.List.{List, [], _∷_}
+use mathlib.Core.List.{[], _∷_}
 use Prim.Native.Nat.{ℕ, zero, suc, _<_}
 use native.Mathlib.Omega.{arith}
 use lib.Dec.{eqb}
@@ -14,20 +14,20 @@ use Rattle.decision.specs.Verdict.{Verdict}
 use Rattle.joint.specs.Joint.{Subset, without, Attempt, Shrunk, gone-on, shrink}
 use Rattle.joint.proofs.SubsetLaws.{Within, within-self, within-on, without-within, within-at}
 
-core-same : {s t : Subset} → Shrunk.core s ≡ Shrunk.core t → s ≡ t
+pub core-same : {s t : Subset} → Shrunk.core s ≡ Shrunk.core t → s ≡ t
 core-same e = cc
 
 core-not-stuck : {s t : Subset} {why : Verdict} → Shrunk.core s ≡ Shrunk.stuck t why → ⊥
 core-not-stuck e = let z : _≡_ {A = ℕ} 0 1 = cc in omega arith
 
-stuck-not-core : {s t : Subset} {why : Verdict} → Shrunk.stuck s why ≡ Shrunk.core t → ⊥
+pub stuck-not-core : {s t : Subset} {why : Verdict} → Shrunk.stuck s why ≡ Shrunk.core t → ⊥
 stuck-not-core e = core-not-stuck (sym e)
 
 true-not-false : true ≡ false → ⊥
 true-not-false e = let z : _≡_ {A = ℕ} 0 1 = cc in omega arith
 
 -- a position that is left out is not there
-left-out : (s : Subset) (i : ℕ) → getD (without s i) i false ≡ false
+pub left-out : (s : Subset) (i : ℕ) → getD (without s i) i false ≡ false
 left-out [] i = refl
 left-out (b ∷ s) zero = refl
 left-out (b ∷ s) (suc i) = left-out s i

@@ -38,7 +38,8 @@ replicate-more (suc n) a l = ap (λ (r : List _). a ∷ r) (replicate-more n a l
 
 pub everything-more : (i : ℕ) → i < max-formulas → set (everything i) i true ≡ everything (i + 1)
 everything-more i l =
-    ap (λ (m : ℕ). set (replicate i true ++ replicate m false) i true) {x = max-formulas - i} {y = suc (max-formulas - (i + 1))} (omega arith)
+    ap (λ (m : ℕ). set (replicate i true ++ replicate m false) i true) {x = max-formulas - i} {y = suc (max-formulas - (i + 1))}
+    (omega arith)
     ∙ set-at (replicate i true) false (replicate (max-formulas - (i + 1)) false) true i (length-replicate {A = Bool} i true)
     ∙ replicate-more i true (replicate (max-formulas - (i + 1)) false)
     ∙ ap (λ (m : ℕ). replicate m true ++ replicate (max-formulas - (i + 1)) false) {x = suc i} {y = i + 1} (omega arith)
@@ -59,6 +60,11 @@ within-on Within.none Within.none = Within.none
 within-on (Within.both a) (Within.both b) = Within.both (within-on a b)
 within-on (Within.both a) (Within.fewer b) = Within.fewer (within-on a b)
 within-on (Within.fewer a) (Within.both b) = Within.fewer (within-on a b)
+
+pub within-length : {s t : Subset} → Within s t → length s ≡ length t
+within-length Within.none = refl
+within-length (Within.both w) = ap suc (within-length w)
+within-length (Within.fewer w) = ap suc (within-length w)
 
 -- one left out
 pub without-within : (s : Subset) (i : ℕ) → Within (without s i) s

@@ -13,7 +13,7 @@ use Rattle.catalogue.specs.Records.{Records, records}
 use Rattle.catalogue.specs.declared.Record.{Record}
 use Rattle.decision.specs.Contract.{zeroed}
 use Rattle.conjunction.specs.Conjunction.{conjoined, Accepted}
-use Rattle.joint.specs.Joint.{Subset, max-formulas, chosen, Attempt, Shrunk}
+use Rattle.joint.specs.Joint.{max-formulas, Attempt, Shrunk}
 use Rattle.joint.specs.declared.Places.{Places}
 use Rattle.joint.specs.declared.Collected.{Collected}
 use Rattle.joint.specs.declared.Ending.{Ending}

@@ -16,7 +16,8 @@ ghost use Rattle.decision.specs.Contract.{Decided};
 ghost use Rattle.decision.specs.Lends.{Lends};
 ghost use Rattle.joint.specs.Joint.{chosen, everything, without, attempted, shrink, concluded};
 ghost use Rattle.joint.specs.Contract.{Leaves, Jointly, number-of, fault-told};
-ghost use Rattle.joint.specs.Inner.{slot, handed, collected, Collects, Collected-from, held-at, held, Stands, Placed, checked, Readable};
+ghost use Rattle.joint.specs.Inner.{slot, handed, collected, Collects, Collected-from, held-at, held};
+ghost use Rattle.joint.specs.Inner.{Stands, Placed, checked, Readable};
 ghost use Rattle.joint.specs.Inner.{joined, joined-if, Put-bytes, Grown, Room, Conjoins};
 ghost use Rattle.joint.specs.Inner.{Clear, attempt-told, attempt-said, shrunk-told, core-said};
 
@@ -396,7 +397,8 @@ fn shrink(
     requires { ⌜ Lends «node_capacity» «profile_capacity» (length (now workspace)) 5120 ⌝ }
     requires { ⌜ Clear «node_capacity» «profile_capacity» (now workspace) ⌝ }
     ensures told { λ r. ⌜ r ≡ shrunk-told (shrink
-        (λ s. attempted «node_capacity» «profile_capacity» (chosen s (held (now (catalogue .entry)) p))) (p .count) (everything (p .count))) ⌝ }
+        (λ s. attempted «node_capacity» «profile_capacity» (chosen s (held (now (catalogue .entry)) p))) (p .count)
+        (everything (p .count))) ⌝ }
     ensures kept { λ _. ⌜ now (workspace .exit) ≡ now (workspace .entry) ⌝ }
 {
     let mut letters = [0u16; LETTERS];

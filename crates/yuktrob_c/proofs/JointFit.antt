@@ -1,6 +1,5 @@
 -- The number of every answer on all formulas of a catalogue fits: the sizes are the decision's, a formula's refusal of reading takes 24
 -- bits (`refusal-small`), and its position three. Assumes nothing.
-use mathlib.Core.Path.{_≡_}
 use mathlib.Core.List.{List}
 use Prim.Native.Nat.{ℕ, _≤_, _<_}
 use native.Mathlib.Omega.{arith}

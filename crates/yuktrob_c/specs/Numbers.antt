@@ -1,5 +1,5 @@
--- The number that stands for each answer: its lowest byte is the number of a refusal (MEANING 1.4, 2.5, 5.2, 5.11, 5.12, 5.14, 9.3, 10.2), or 0,
--- and what the answer carries stands above it. include/yuktrob.h says the same in C. Assumes nothing.
+-- The number that stands for each answer: its lowest byte is the number of a refusal (MEANING 1.4, 2.5, 5.2, 5.11, 5.12, 5.14, 9.3, 10.2),
+-- or 0, and what the answer carries stands above it. include/yuktrob.h says the same in C. Assumes nothing.
 use mathlib.Core.Bool.{cond}
 use mathlib.Core.List.{List}
 use mathlib.Core.Option.{Option, none, some}

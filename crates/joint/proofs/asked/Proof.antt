@@ -3,7 +3,8 @@ use mathlib.Core.Path.{refl, sym, _∙_}
 use native.Mathlib.Omega.{arith}
 use lib.ListN.{length}
 use borrow.Author.Tests.{not-true, not-false}
-use Rattle.joint.proofs.AskedLaws.{joint-miscounted, range-placed, joint-unread, range-readable, joint-refused, joint-concluded, joint-leaves}
+use Rattle.joint.proofs.AskedLaws.{joint-miscounted, range-placed, joint-unread, range-readable}
+use Rattle.joint.proofs.AskedLaws.{joint-refused, joint-concluded, joint-leaves}
 use borrow.Author.Needs.{needs}
 use Rattle.joint.proofs.asked.Statement.{statement}
 use Rattle.joint.proofs.asked.Tie as tie
@@ -16,14 +17,17 @@ returns c =
     let start = c .before .before .before .before .before in
     let a = start .args in
     let range = sym (c .before .between .ensures) ∙ not-true (c .before .between .result) (c .if1 .taken) in
-    joint-leaves (joint-miscounted (a .node-capacity) (a .profile-capacity) (length (a .workspace .now)) (length (a .witness .now)) (a .catalogue .now) (start .pre) range) (record { answered = refl; buffered = refl; worked = refl })
+    joint-leaves
+    (joint-miscounted (a .node-capacity) (a .profile-capacity) (length (a .workspace .now)) (length (a .witness .now)) (a .catalogue .now)
+    (start .pre) range) (record { answered = refl; buffered = refl; worked = refl })
 
 first-unread-requires : tie.Need-first-unread-requires
 first-unread-requires c κs =
     let start = c .before .before .before .before .before in
     let a = start .args in
     let range = sym (c .before .between .ensures) ∙ not-false (c .before .between .result) (c .if1 .left) in
-    range-placed (a .node-capacity) (a .profile-capacity) (length (a .workspace .now)) (length (a .witness .now)) (a .catalogue .now) (start .pre) range
+    range-placed (a .node-capacity) (a .profile-capacity) (length (a .workspace .now)) (length (a .witness .now)) (a .catalogue .now)
+    (start .pre) range
 
 enum-known-position : tie.Need-enum-known-position
 enum-known-position c = c .match .keys1
@@ -36,27 +40,47 @@ ask-capacities-requires c κs = search needs
 
 returns-2 : tie.Need-returns-2
 returns-2 c =
-    let start = c .before .before .before .before .before .before .before .before .before .before in
+    let at-enum-told = c .before .before in
+    let at-first-unread = at-enum-told .before .before in
+    let at-else = at-first-unread .before in
+    let at-between = at-else .before in
+    let start = at-between .before .before .before .before in
     let a = start .args in
-    let range = sym (c .before .before .before .before .before .before .between .ensures) ∙ not-false (c .before .before .before .before .before .before .between .result) (c .before .before .before .before .before .if1 .left) in
-    let read = sym (c .before .before .before .before .first-unread .ensures) ∙ c .before .before .enum-told .given .1 in
-    joint-leaves (joint-refused (a .node-capacity) (a .profile-capacity) (length (a .workspace .now)) (length (a .witness .now)) (a .catalogue .now) (start .pre) range read (c .before .ask-capacities .ensures) (omega arith))
+    let range = sym (at-between .between .ensures) ∙ not-false (at-between .between .result) (at-else .if1 .left) in
+    let read = sym (at-first-unread .first-unread .ensures) ∙ at-enum-told .enum-told .given .1 in
+    joint-leaves
+    (joint-refused (a .node-capacity) (a .profile-capacity) (length (a .workspace .now)) (length (a .witness .now)) (a .catalogue .now)
+    (start .pre) range read (c .before .ask-capacities .ensures) (omega arith))
     (record { answered = refl; buffered = refl; worked = refl })
 
 concluded-requires : tie.Need-concluded-requires
 concluded-requires c κs =
-    let start = c .before .before .before .before .before .before .before .before .before .before .before .before in
+    let at-else = c .before .before in
+    let at-ask-capacities = at-else .before in
+    let at-enum-told = at-ask-capacities .before in
+    let at-first-unread = at-enum-told .before .before in
+    let at-else-before = at-first-unread .before in
+    let at-between = at-else-before .before in
+    let start = at-between .before .before .before .before in
     let a = start .args in
-    let range = sym (c .before .before .before .before .before .before .before .before .between .ensures) ∙ not-false (c .before .before .before .before .before .before .before .before .between .result) (c .before .before .before .before .before .before .before .if1 .left) in
-    let read = sym (c .before .before .before .before .before .before .first-unread .ensures) ∙ c .before .before .before .before .enum-told .given .1 in
-    (range-readable (a .node-capacity) (a .profile-capacity) (length (a .workspace .now)) (length (a .witness .now)) (a .catalogue .now) (start .pre) range read, c .before .before .before .ask-capacities .ensures .granted (c .before .before .if2 .left))
+    let range = sym (at-between .between .ensures) ∙ not-false (at-between .between .result) (at-else-before .if1 .left) in
+    let read = sym (at-first-unread .first-unread .ensures) ∙ at-enum-told .enum-told .given .1 in (
+      range-readable (a .node-capacity) (a .profile-capacity) (length (a .workspace .now)) (length (a .witness .now)) (a .catalogue .now)
+          (start .pre) range read,
+      at-ask-capacities .ask-capacities .ensures .granted (at-else .if2 .left),
+    )
 
 returns-3 : tie.Need-returns-3
 returns-3 c =
-    let start = c .before .before .before .before .before .before .before .before .before in
+    let at-first-unread = c .before .before .before in
+    let at-else = at-first-unread .before in
+    let at-between = at-else .before in
+    let start = at-between .before .before .before .before in
     let a = start .args in
-    let range = sym (c .before .before .before .before .before .between .ensures) ∙ not-false (c .before .before .before .before .before .between .result) (c .before .before .before .before .if1 .left) in
-    joint-leaves (joint-unread (a .node-capacity) (a .profile-capacity) (length (a .workspace .now)) (length (a .witness .now)) (a .catalogue .now) (start .pre) range (sym (c .before .before .before .first-unread .ensures) ∙ c .before .position .given .1))
+    let range = sym (at-between .between .ensures) ∙ not-false (at-between .between .result) (at-else .if1 .left) in
+    joint-leaves
+    (joint-unread (a .node-capacity) (a .profile-capacity) (length (a .workspace .now)) (length (a .witness .now)) (a .catalogue .now)
+    (start .pre) range (sym (at-first-unread .first-unread .ensures) ∙ c .before .position .given .1))
     (record { answered = refl; buffered = refl; worked = refl })
 
 same-length : tie.Need-same-length
@@ -67,11 +91,20 @@ same-length-2 c = search needs
 
 returns-4 : tie.Need-returns-4
 returns-4 c =
-    let start = c .before .before .before .before .before .before .before .before .before .before .before .before .before .before .before .before .before in
+    let at-concluded = c .before .before .before .before in
+    let at-else = at-concluded .before .before .before in
+    let at-ask-capacities = at-else .before in
+    let at-enum-told = at-ask-capacities .before in
+    let at-first-unread = at-enum-told .before .before in
+    let at-else-before = at-first-unread .before in
+    let at-between = at-else-before .before in
+    let start = at-between .before .before .before .before in
     let a = start .args in
-    let range = sym (c .before .before .before .before .before .before .before .before .before .before .before .before .before .between .ensures) ∙ not-false (c .before .before .before .before .before .before .before .before .before .before .before .before .before .between .result) (c .before .before .before .before .before .before .before .before .before .before .before .before .if1 .left) in
-    let read = sym (c .before .before .before .before .before .before .before .before .before .before .before .first-unread .ensures) ∙ c .before .before .before .before .before .before .before .before .before .enum-told .given .1 in
-    joint-leaves (joint-concluded (a .node-capacity) (a .profile-capacity) (length (a .workspace .now)) (length (a .witness .now)) (a .catalogue .now) (start .pre) range read (c .before .before .before .before .before .before .before .before .ask-capacities .ensures) (c .before .before .before .before .before .before .before .if2 .left)) (c .before .before .before .before .concluded .ensures)
+    let range = sym (at-between .between .ensures) ∙ not-false (at-between .between .result) (at-else-before .if1 .left) in
+    let read = sym (at-first-unread .first-unread .ensures) ∙ at-enum-told .enum-told .given .1 in
+    joint-leaves
+    (joint-concluded (a .node-capacity) (a .profile-capacity) (length (a .workspace .now)) (length (a .witness .now)) (a .catalogue .now)
+    (start .pre) range read (at-ask-capacities .ask-capacities .ensures) (at-else .if2 .left)) (at-concluded .concluded .ensures)
 
 pub asked-spec : {M : Type 1} → statement M
 asked-spec =

@@ -12,7 +12,8 @@ use Rattle.joint.proofs.collect.Statement.{statement}
 use Rattle.joint.proofs.collect.Tie as tie
 
 abbrev Inv-loop : tie.InvT-loop
-Inv-loop catalogue at₀ least₀ starts₀ sizes₀ count₀ at least starts sizes count = Collecting catalogue at least (record { starts = starts; sizes = sizes; count = count })
+Inv-loop catalogue at₀ least₀ starts₀ sizes₀ count₀ at least starts sizes count =
+    Collecting catalogue at least (record { starts = starts; sizes = sizes; count = count })
 
 abbrev μ-loop : tie.MeasureT-loop
 μ-loop catalogue at₀ least₀ starts₀ sizes₀ count₀ at least starts sizes count = length catalogue - at
@@ -32,8 +33,10 @@ ended-requires c κs = search needs
 returns : tie.Need-returns Inv-loop μ-loop
 returns c =
     let next = c .before .before .before in
+    let at-start = next .before .before .before in
     let loop = next .before in
-    collect-end (c .before .before .before .before .before .before .args .catalogue .now) (loop .loop .inv) (sym (next .next-record .ensures .0) ∙ c .before .enum-told .given .1) (c .ended .ensures)
+    collect-end (at-start .args .catalogue .now) (loop .loop .inv) (sym (next .next-record .ensures .0) ∙ c .before .enum-told .given .1)
+    (c .ended .ensures)
 
 enum-known-place : tie.Need-enum-known-place Inv-loop μ-loop
 enum-known-place c = c .match .keys2
@@ -43,9 +46,11 @@ ended-requires-2 c κs = search needs
 
 returns-2 : tie.Need-returns-2 Inv-loop μ-loop
 returns-2 c =
-    let next = c .before .before .before .before in
+    let at-place = c .before .before in
+    let next = at-place .before .before in
+    let at-start = next .before .before .before in
     let loop = next .before in
-    collect-fault (c .before .before .before .before .before .before .before .args .catalogue .now) (loop .loop .inv) (sym (next .next-record .ensures .0) ∙ c .before .before .place .given .1)
+    collect-fault (at-start .args .catalogue .now) (loop .loop .inv) (sym (next .next-record .ensures .0) ∙ at-place .place .given .1)
     (c .ended2 .ensures)
 
 enum-known-r : tie.Need-enum-known-r Inv-loop μ-loop
@@ -71,29 +76,44 @@ add-count c = search (needs, c .slot .ensures .1)
 
 add-at : tie.Need-add-at Inv-loop μ-loop
 add-at c =
-    let loop = c .before .before .before .before .before .before .loop in
-    let is = sym (c .before .before .before .before .before .next-record .ensures .0) ∙ c .before .before .before .r .given .1 in
-    let w = record-ahead (c .before .before .before .before .before .before .before .before .args .catalogue .now) (loop .at) (loop .least) is in
+    let at-r = c .before .before .before in
+    let at-next-record = at-r .before .before in
+    let at-loop = at-next-record .before in
+    let at-start = at-loop .before .before in
+    let loop = at-loop .loop in
+    let is = sym (at-next-record .next-record .ensures .0) ∙ at-r .r .given .1 in
+    let w = record-ahead (at-start .args .catalogue .now) (loop .at) (loop .least) is in
     search (needs, w)
 
 add-least : tie.Need-add-least Inv-loop μ-loop
 add-least c =
-    let s = subst Small (c .before .before .before .before .r .given .1) (c .before .before .before .before .before .before .next-record .ensures .1) in
+    let at-r = c .before .before .before .before in
+    let at-next-record = at-r .before .before in
+    let s = subst Small (at-r .r .given .1) (at-next-record .next-record .ensures .1) in
     omega (arith, s)
 
 loop-less : tie.Need-loop-less Inv-loop μ-loop
 loop-less c =
-    let loop = c .before .before .before .before .before .before .before .loop in
-    let is = sym (c .before .before .before .before .before .before .next-record .ensures .0) ∙ c .before .before .before .before .r .given .1 in
-    let w = record-ahead (c .before .before .before .before .before .before .before .before .before .args .catalogue .now) (loop .at) (loop .least) is in
+    let at-r = c .before .before .before .before in
+    let at-next-record = at-r .before .before in
+    let at-loop = at-next-record .before in
+    let at-start = at-loop .before .before in
+    let loop = at-loop .loop in
+    let is = sym (at-next-record .next-record .ensures .0) ∙ at-r .r .given .1 in
+    let w = record-ahead (at-start .args .catalogue .now) (loop .at) (loop .least) is in
     omega (arith, w .0, w .1)
 
 loop-again : tie.Need-loop-again Inv-loop μ-loop
 loop-again c =
-    let loop = c .before .before .before .before .before .before .before .loop in
-    let is = sym (c .before .before .before .before .before .before .next-record .ensures .0) ∙ c .before .before .before .before .r .given .1 in
-    collect-on (c .before .before .before .before .before .before .before .before .before .args .catalogue .now) (record { starts = loop .starts; sizes = loop .sizes; count = loop .count }) (loop .inv) is
-    (c .before .before .slot .ensures .0)
+    let at-slot = c .before .before in
+    let at-r = at-slot .before .before in
+    let at-next-record = at-r .before .before in
+    let at-loop = at-next-record .before in
+    let at-start = at-loop .before .before in
+    let loop = at-loop .loop in
+    let is = sym (at-next-record .next-record .ensures .0) ∙ at-r .r .given .1 in
+    collect-on (at-start .args .catalogue .now) (record { starts = loop .starts; sizes = loop .sizes; count = loop .count }) (loop .inv) is
+    (at-slot .slot .ensures .0)
 
 pub collect-spec : {M : Type 1} → statement M
 collect-spec =

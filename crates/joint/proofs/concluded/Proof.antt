@@ -1,19 +1,23 @@
 -- `joint::concluded`: the verdict on all settles the outcome, or leaving out does, over the cleared workspace.
-use mathlib.Core.Path.{refl, sym, subst}
+use mathlib.Core.Path.{refl, sym, ap, subst, _∙_}
 use lib.ListN.{length}
 use Rattle.joint.specs.Inner.{held, Clear}
 use Rattle.joint.proofs.CheckLaws.{held-length}
-use Rattle.joint.proofs.ShrinkLaws.{lends-same, lends-own, zeroed-clear}
+use Rattle.joint.proofs.ShrinkLaws.{lends-same, lends-own, zeroed-length, zeroed-clear}
 use Rattle.joint.proofs.ConcludeLaws.{conclude-unread, conclude-refused, conclude-met, unmet-workspace, conclude-unmet}
 use borrow.Author.Needs.{needs}
 use Rattle.joint.proofs.concluded.Statement.{statement}
 use Rattle.joint.proofs.concluded.Tie as tie
 
 everything-requires : tie.Need-everything-requires
-everything-requires c κs = c .before .before .before .pre .0 .placed .few
+everything-requires c κs =
+    let at-start = c .before .before .before in
+    at-start .pre .0 .placed .few
 
 decided-some-requires : tie.Need-decided-some-requires
-decided-some-requires c κs = (c .before .before .before .before .before .before .pre .0, search (needs, c .before .before .before .before .before .before .pre .1))
+decided-some-requires c κs =
+    let at-start = c .before .before .before .before .before .before in
+    (at-start .pre .0, search (needs, at-start .pre .1))
 
 enum-told : tie.Need-enum-told
 enum-told c = c .match .keys1
@@ -35,17 +39,22 @@ enum-known-v-2 c = c .match .keys4
 
 shrink-requires : tie.Need-shrink-requires
 shrink-requires c κs =
-    let start = c .before .before .before .before .before .before .before .before .before .before .before .before .before .before .before in
+    let at-v = c .before .before in
+    let at-decided-some = at-v .before .before .before .before .before .before in
+    let at-everything = at-decided-some .before .before .before in
+    let start = at-everything .before .before .before .before in
     let a = start .args in
     let bs = held (a .catalogue .now) (a .p) in
     let counts = sym (held-length (a .catalogue .now) (a .p)) in
-    let all = c .before .before .before .before .before .before .before .before .before .before .before .everything .ensures in
-    let d = c .before .before .before .before .before .before .before .before .decided-some .ensures in
-    let cleared = unmet-workspace (a .node-capacity) (a .profile-capacity) bs (start .pre .0 .accepted) (start .pre .1) counts all d (c .before .before .v2 .given .1) in (
+    let all = at-everything .everything .ensures in
+    let d = at-decided-some .decided-some .ensures in
+    let cleared = unmet-workspace (a .node-capacity) (a .profile-capacity) bs (start .pre .0 .accepted) (start .pre .1) counts all d
+    (at-v .v2 .given .1) in (
       start .pre .0,
       (
-        lends-same (search needs) refl (lends-own (start .pre .1)),
-        subst (Clear (a .node-capacity) (a .profile-capacity)) (sym cleared) (zeroed-clear (a .node-capacity) (a .profile-capacity) (a .workspace .now)),
+        lends-same (sym (zeroed-length (a .workspace .now) (start .pre .1)) ∙ ap length (sym cleared)) refl (lends-own (start .pre .1)),
+        subst (Clear (a .node-capacity) (a .profile-capacity)) (sym cleared)
+            (zeroed-clear (a .node-capacity) (a .profile-capacity) (a .workspace .now)),
       ),
     )
 
@@ -60,13 +69,16 @@ same-length-2 c = search needs
 
 returns : tie.Need-returns
 returns c =
-    let start = c .before .before .before .before .before .before .before .before .before .before .before .before .before .before in
+    let at-decided-some = c .before .before .before .before .before .before .before in
+    let at-everything = at-decided-some .before .before .before in
+    let start = at-everything .before .before .before .before in
     let a = start .args in
     let bs = held (a .catalogue .now) (a .p) in
     let counts = sym (held-length (a .catalogue .now) (a .p)) in
-    let all = c .before .before .before .before .before .before .before .before .before .before .everything .ensures in
-    let d = c .before .before .before .before .before .before .before .decided-some .ensures in
-    conclude-unread (a .node-capacity) (a .profile-capacity) bs (start .pre .0 .accepted) (start .pre .1) counts all d (c .before .enum-told .given .1) (c .word-of .ensures)
+    let all = at-everything .everything .ensures in
+    let d = at-decided-some .decided-some .ensures in
+    conclude-unread (a .node-capacity) (a .profile-capacity) bs (start .pre .0 .accepted) (start .pre .1) counts all d
+    (c .before .enum-told .given .1) (c .word-of .ensures)
 
 same-length-3 : tie.Need-same-length-3
 same-length-3 c = search needs
@@ -76,13 +88,16 @@ same-length-4 c = search needs
 
 returns-2 : tie.Need-returns-2
 returns-2 c =
-    let start = c .before .before .before .before .before .before .before .before .before .before .before .before .before .before in
+    let at-decided-some = c .before .before .before .before .before .before .before in
+    let at-everything = at-decided-some .before .before .before in
+    let start = at-everything .before .before .before .before in
     let a = start .args in
     let bs = held (a .catalogue .now) (a .p) in
     let counts = sym (held-length (a .catalogue .now) (a .p)) in
-    let all = c .before .before .before .before .before .before .before .before .before .before .everything .ensures in
-    let d = c .before .before .before .before .before .before .before .decided-some .ensures in
-    conclude-refused (a .node-capacity) (a .profile-capacity) bs (start .pre .0 .accepted) (start .pre .1) counts all d (c .before .enum-told2 .given .1) (c .word-of2 .ensures)
+    let all = at-everything .everything .ensures in
+    let d = at-decided-some .decided-some .ensures in
+    conclude-refused (a .node-capacity) (a .profile-capacity) bs (start .pre .0 .accepted) (start .pre .1) counts all d
+    (c .before .enum-told2 .given .1) (c .word-of2 .ensures)
 
 same-length-5 : tie.Need-same-length-5
 same-length-5 c = search needs
@@ -92,12 +107,14 @@ same-length-6 c = search needs
 
 returns-3 : tie.Need-returns-3
 returns-3 c =
-    let start = c .before .before .before .before .before .before .before .before .before .before .before .before .before .before in
+    let at-decided-some = c .before .before .before .before .before .before .before in
+    let at-everything = at-decided-some .before .before .before in
+    let start = at-everything .before .before .before .before in
     let a = start .args in
     let bs = held (a .catalogue .now) (a .p) in
     let counts = sym (held-length (a .catalogue .now) (a .p)) in
-    let all = c .before .before .before .before .before .before .before .before .before .before .everything .ensures in
-    let d = c .before .before .before .before .before .before .before .decided-some .ensures in
+    let all = at-everything .everything .ensures in
+    let d = at-decided-some .decided-some .ensures in
     conclude-met (a .node-capacity) (a .profile-capacity) bs (start .pre .0 .accepted) (start .pre .1) counts all d (c .before .v .given .1)
 
 same-length-7 : tie.Need-same-length-7
@@ -108,13 +125,18 @@ same-length-8 c = search needs
 
 returns-4 : tie.Need-returns-4
 returns-4 c =
-    let start = c .before .before .before .before .before .before .before .before .before .before .before .before .before .before .before .before .before .before .before in
+    let at-shrink = c .before .before .before in
+    let at-v = at-shrink .before .before .before in
+    let at-decided-some = at-v .before .before .before .before .before .before in
+    let at-everything = at-decided-some .before .before .before in
+    let start = at-everything .before .before .before .before in
     let a = start .args in
     let bs = held (a .catalogue .now) (a .p) in
     let counts = sym (held-length (a .catalogue .now) (a .p)) in
-    let all = c .before .before .before .before .before .before .before .before .before .before .before .before .before .before .before .everything .ensures in
-    let d = c .before .before .before .before .before .before .before .before .before .before .before .before .decided-some .ensures in
-    conclude-unmet (a .node-capacity) (a .profile-capacity) bs (start .pre .0 .accepted) (start .pre .1) counts all d (c .before .before .before .before .before .before .v2 .given .1) (c .before .before .before .shrink .ensures .1) (c .before .before .before .shrink .ensures .0) (c .with-core .ensures)
+    let all = at-everything .everything .ensures in
+    let d = at-decided-some .decided-some .ensures in
+    conclude-unmet (a .node-capacity) (a .profile-capacity) bs (start .pre .0 .accepted) (start .pre .1) counts all d (at-v .v2 .given .1)
+    (at-shrink .shrink .ensures .1) (at-shrink .shrink .ensures .0) (c .with-core .ensures)
 
 pub concluded-spec : {M : Type 1} → statement M
 concluded-spec =

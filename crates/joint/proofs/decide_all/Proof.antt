@@ -17,15 +17,21 @@ enum-told c = c .match .keys2
 
 asked-requires : tie.Need-asked-requires
 asked-requires c κs =
-    let start = c .before .before .before .before .before .before .before .before .before in
+    let at-enum-told = c .before .before in
+    let at-collect = at-enum-told .before .before .before in
+    let start = at-collect .before .before .before .before in
     let a = start .args in
-    collected-whole (a .node-capacity) (a .profile-capacity) (length (a .workspace .now)) (length (a .witness .now)) (a .catalogue .now) (c .before .before .before .before .before .collect .result) (c .before .before .before .before .before .collect .ensures) (c .before .before .enum-told .given .1)
+    collected-whole (a .node-capacity) (a .profile-capacity) (length (a .workspace .now)) (length (a .witness .now)) (a .catalogue .now)
+    (at-collect .collect .result) (at-collect .collect .ensures) (at-enum-told .enum-told .given .1)
 
 returns : tie.Need-returns
 returns c =
-    let start = c .before .before .before .before .before .before .before .before in
+    let at-collect = c .before .before .before .before in
+    let start = at-collect .before .before .before .before in
     let a = start .args in
-    joint-leaves (joint-damaged (a .node-capacity) (a .profile-capacity) (length (a .workspace .now)) (length (a .witness .now)) (a .catalogue .now) (c .before .before .before .before .collect .result) (c .before .before .before .before .collect .ensures) (c .before .ending .given .1))
+    joint-leaves
+    (joint-damaged (a .node-capacity) (a .profile-capacity) (length (a .workspace .now)) (length (a .witness .now)) (a .catalogue .now)
+    (at-collect .collect .result) (at-collect .collect .ensures) (c .before .ending .given .1))
     (record { answered = refl; buffered = refl; worked = refl })
 
 same-length : tie.Need-same-length
@@ -35,7 +41,9 @@ same-length-2 : tie.Need-same-length-2
 same-length-2 c = search needs
 
 returns-2 : tie.Need-returns-2
-returns-2 c = c .before .before .before .before .asked .ensures
+returns-2 c =
+    let at-asked = c .before .before .before .before in
+    at-asked .asked .ensures
 
 pub decide-all-spec : {M : Type 1} → statement M
 decide-all-spec =

@@ -23,7 +23,8 @@ workspace-size-requires c κs = search needs
 
 clear-requires : tie.Need-clear-requires
 clear-requires c κs =
-    let lends = c .before .before .before .before .before .before .before .before .before .before .before .before .pre in
+    let at-start = c .before .before .before .before .before .before .before .before .before .before .before .before in
+    let lends = at-start .pre in
     search (needs, lends .workspace-fits, c .before .workspace-size .ensures .in-range (lends .capacity))
 
 enum-known-count : tie.Need-enum-known-count
@@ -33,18 +34,27 @@ search-requires : tie.Need-search-requires
 search-requires c κs = search needs
 
 mul-clear : tie.Need-mul-clear
-mul-clear c = search (needs, c .before .before .before .before .before .before .before .before .before .before .before .before .before .before .before .before .before .before .pre .capacity .few-nodes)
+mul-clear c =
+    let at-match = c .before .before .before .before .before .before .before .before .before .before in
+    let at-start = at-match .before .before .before .before .before .before .before .before in
+    search (needs, at-start .pre .capacity .few-nodes)
 
 clear-requires-2 : tie.Need-clear-requires-2
-clear-requires-2 c κs = search (needs, c .before .before .before .before .before .before .before .before .before .before .before .before .before .before .before .before .before .before .pre .workspace-fits)
+clear-requires-2 c κs =
+    let at-match = c .before .before .before .before .before .before .before .before .before .before in
+    let at-start = at-match .before .before .before .before .before .before .before .before in
+    search (needs, at-start .pre .workspace-fits)
 
 same-length : tie.Need-same-length
 same-length c = search needs
 
 returns : tie.Need-returns
 returns c =
-    let a = c .before .before .before .before .before .before .before .before .before .before .args in
-    in-a-row (a .bytes .now) (a .node-capacity) (a .profile-capacity) (a .workspace .now) (a .witness .now) (c .before .before .before .before .before .before .before .before .before .before .pre) (c .before .before .before .before .before .build .ensures)
+    let at-build = c .before .before .before .before .before in
+    let at-start = at-build .before .before .before .before .before in
+    let a = at-start .args in
+    in-a-row (a .bytes .now) (a .node-capacity) (a .profile-capacity) (a .workspace .now) (a .witness .now) (at-start .pre)
+    (at-build .build .ensures)
     (c .before .why .given .1)
 
 same-length-2 : tie.Need-same-length-2
@@ -52,12 +62,19 @@ same-length-2 c = search needs
 
 returns-2 : tie.Need-returns-2
 returns-2 c =
-    let a = c .before .before .before .before .before .before .before .before .before .before .before .before .before .before .before .args in
-    let asked = c .before .before .before .before .workspace-size in
-    let clear = c .before .before .clear in
-    decided-with (clear .ensures ∙ ap (λ (n : ℕ). cleared 0 n (c .before .before .before .before .before .before .before .before .before .before .build .last .1 .1 .0)) (asked .ensures .in-range (c .before .before .before .before .before .before .before .before .before .before .before .before .before .before .before .pre .capacity)))
-    (in-a-row (a .bytes .now) (a .node-capacity) (a .profile-capacity) (a .workspace .now) (a .witness .now) (c .before .before .before .before .before .before .before .before .before .before .before .before .before .before .before .pre) (c .before .before .before .before .before .before .before .before .before .before .build .ensures)
-    (c .before .before .before .before .before .before .code .given .1))
+    let at-clear = c .before .before in
+    let at-workspace-size = at-clear .before .before in
+    let at-code = at-workspace-size .before .before in
+    let at-build = at-code .before .before .before .before in
+    let at-start = at-build .before .before .before .before .before in
+    let a = at-start .args in
+    let asked = at-workspace-size .workspace-size in
+    let clear = at-clear .clear in
+    decided-with
+    (clear .ensures ∙ ap (λ (n : ℕ). cleared 0 n (at-build .build .last .1 .1 .0)) (asked .ensures .in-range (at-start .pre .capacity)))
+    (in-a-row (a .bytes .now) (a .node-capacity) (a .profile-capacity) (a .workspace .now) (a .witness .now) (at-start .pre)
+    (at-build .build .ensures)
+    (at-code .code .given .1))
 
 same-length-3 : tie.Need-same-length-3
 same-length-3 c = search needs
@@ -67,10 +84,16 @@ same-length-4 c = search needs
 
 returns-3 : tie.Need-returns-3
 returns-3 c =
-    let a = c .before .before .before .before .before .before .before .before .before .before .before .before .before .before .before .before .before .before .before .before .before .args in
-    decided-with (c .before .before .clear2 .ensures)
-    (in-a-row (a .bytes .now) (a .node-capacity) (a .profile-capacity) (a .workspace .now) (a .witness .now) (c .before .before .before .before .before .before .before .before .before .before .before .before .before .before .before .before .before .before .before .before .before .pre) (c .before .before .before .before .before .before .before .before .before .before .before .before .before .before .before .before .build .ensures)
-    (c .before .before .before .before .before .before .before .before .before .before .before .before .count .given .1) _ _ _ (c .before .before .before .before .before .before .before .before .search .ensures))
+    let at-clear = c .before .before in
+    let at-search = at-clear .before .before .before .before .before .before in
+    let at-count = at-search .before .before .before .before in
+    let at-build = at-count .before .before .before .before in
+    let at-start = at-build .before .before .before .before .before in
+    let a = at-start .args in
+    decided-with (at-clear .clear2 .ensures)
+    (in-a-row (a .bytes .now) (a .node-capacity) (a .profile-capacity) (a .workspace .now) (a .witness .now) (at-start .pre)
+    (at-build .build .ensures)
+    (at-count .count .given .1) _ _ _ (at-search .search .ensures))
 
 pub decided-spec : {M : Type 1} → statement M
 decided-spec =

@@ -26,7 +26,9 @@ loop-holds : tie.Need-loop-holds Inv-loop μ-loop
 loop-holds c = record { is = refl; below = omega arith }
 
 array-write-has : tie.Need-array-write-has Inv-loop μ-loop
-array-write-has c = search (needs, everything-length (c .before .loop .i) (omega (arith, c .before .before .pre, c .loop-test)))
+array-write-has c =
+    let at-start = c .before .before in
+    search (needs, everything-length (c .before .loop .i) (omega (arith, at-start .pre, c .loop-test)))
 
 add-i : tie.Need-add-i Inv-loop μ-loop
 add-i c = search needs
@@ -36,14 +38,18 @@ loop-less c = search needs
 
 loop-again : tie.Need-loop-again Inv-loop μ-loop
 loop-again c =
+    let at-start = c .before .before in
     let i = c .before .loop .i in
     record {
-      is = ap (λ (s : List Bool). set s i true) (c .before .loop .inv .is) ∙ everything-more i (omega (arith, c .before .before .pre));
+      is = ap (λ (s : List Bool). set s i true) (c .before .loop .inv .is) ∙ everything-more i (omega (arith, at-start .pre));
       below = omega arith;
     }
 
 returns : tie.Need-returns Inv-loop μ-loop
-returns c = c .before .loop .inv .is ∙ ap everything {x = c .before .loop .i} {y = c .before .before .args .count} (omega (arith, c .before .loop .inv .below))
+returns c =
+    let at-start = c .before .before in
+    c .before .loop .inv .is ∙ ap everything {x = c .before .loop .i} {y = at-start .args .count}
+    (omega (arith, c .before .loop .inv .below))
 
 pub everything-spec : {M : Type 1} → statement M
 everything-spec =

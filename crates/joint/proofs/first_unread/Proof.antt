@@ -18,8 +18,10 @@ loop-holds c = check-none (c .before .args .catalogue .now) (c .before .args .p)
 
 formula-at-requires : tie.Need-formula-at-requires Inv-loop μ-loop
 formula-at-requires c κs =
-    let i = c .before .before .loop .i in
-    record { few = omega (arith, c .before .before .before .before .pre .few); within = c .before .before .before .before .pre .within i (omega arith) }
+    let at-loop = c .before .before in
+    let at-start = at-loop .before .before in
+    let i = at-loop .loop .i in
+    record { few = omega (arith, at-start .pre .few); within = at-start .pre .within i (omega arith) }
 
 read-requires : tie.Need-read-requires Inv-loop μ-loop
 read-requires c κs = search needs
@@ -29,9 +31,13 @@ enum-known-outcome c = search needs
 
 returns : tie.Need-returns Inv-loop μ-loop
 returns c =
-    let start = c .before .before .before .before .before .before .before .before .before in
-    check-refused (start .args .catalogue .now) (start .args .p) (c .before .before .before .before .before .before .before .loop .inv) (omega arith) (c .before .before .before .before .formula-at .ensures)
-    (reading-refused (c .before .before .before .before .formula-at .result .now) (c .before .before .before .read .result) (c .before .before .before .read .ensures .0) (c .before .outcome .given .1))
+    let at-read = c .before .before .before in
+    let at-formula-at = at-read .before in
+    let at-loop = at-formula-at .before .before .before in
+    let start = at-loop .before .before in
+    check-refused (start .args .catalogue .now) (start .args .p) (at-loop .loop .inv) (omega arith) (at-formula-at .formula-at .ensures)
+    (reading-refused (at-formula-at .formula-at .result .now) (at-read .read .result) (at-read .read .ensures .0)
+    (c .before .outcome .given .1))
 
 enum-told : tie.Need-enum-told Inv-loop μ-loop
 enum-told c = search needs
@@ -44,12 +50,19 @@ loop-less c = search needs
 
 loop-again : tie.Need-loop-again Inv-loop μ-loop
 loop-again c =
-    let start = c .before .before .before .before .before .before .before .before in
-    check-next (start .args .catalogue .now) (start .args .p) (c .before .before .before .before .before .before .loop .inv) (omega arith) (c .before .before .before .formula-at .ensures)
-    (reading-held (c .before .before .before .formula-at .result .now) (c .before .before .read .result) (c .before .before .read .ensures .0) (c .enum-told .given .1) .parsed)
+    let at-read = c .before .before in
+    let at-formula-at = at-read .before in
+    let at-loop = at-formula-at .before .before .before in
+    let start = at-loop .before .before in
+    check-next (start .args .catalogue .now) (start .args .p) (at-loop .loop .inv) (omega arith) (at-formula-at .formula-at .ensures)
+    (reading-held (at-formula-at .formula-at .result .now) (at-read .read .result) (at-read .read .ensures .0)
+    (c .enum-told .given .1) .parsed)
 
 returns-2 : tie.Need-returns-2 Inv-loop μ-loop
-returns-2 c = check-end (c .before .before .before .before .args .catalogue .now) (c .before .before .before .before .args .p) (c .before .before .loop .inv) (omega arith)
+returns-2 c =
+    let at-loop = c .before .before in
+    let at-start = at-loop .before .before in
+    check-end (at-start .args .catalogue .now) (at-start .args .p) (at-loop .loop .inv) (omega arith)
 
 pub first-unread-spec : {M : Type 1} → statement M
 first-unread-spec =

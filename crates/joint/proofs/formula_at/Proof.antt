@@ -33,7 +33,8 @@ part-result-end c = search needs
 
 returns : tie.Need-returns
 returns c =
-    let a = c .before .before .before .args in
+    let at-start = c .before .before .before in
+    let a = at-start .args in
     let start = getD (a .p .starts) (a .i) 0 in
     let size = getD (a .p .sizes) (a .i) 0 in
     ap (λ (n : ℕ). take n (drop start (a .catalogue .now))) {x = start + size - start} {y = size} (omega arith)

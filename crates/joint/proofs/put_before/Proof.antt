@@ -13,25 +13,38 @@ same-length c = search needs
 
 returns : tie.Need-returns
 returns c =
-    let put = c .before .before .before .put-bytes .ensures in
-    grown-first put (c .before .before .before .before .before .before .before .pre .0) (omega (arith, put .long))
+    let at-put-bytes = c .before .before .before in
+    let at-start = at-put-bytes .before .before .before .before in
+    let put = at-put-bytes .put-bytes .ensures in
+    grown-first put (at-start .pre .0) (omega (arith, put .long))
 
 sub-out : tie.Need-sub-out
-sub-out c = omega (arith, c .before .before .before .put-bytes .ensures .begins, c .before .before .before .before .before .before .before .pre .0, c .before .before .before .before .before .before .before .pre .1)
+sub-out c =
+    let at-put-bytes = c .before .before .before in
+    let at-start = at-put-bytes .before .before .before .before in
+    omega (arith, at-put-bytes .put-bytes .ensures .begins, at-start .pre .0, at-start .pre .1)
 
 slice-write-out : tie.Need-slice-write-out
-slice-write-out c = omega (arith, c .before .before .before .put-bytes .ensures .begins, c .before .before .before .put-bytes .ensures .long, c .before .before .before .before .before .before .before .pre .2)
+slice-write-out c =
+    let at-put-bytes = c .before .before .before in
+    let at-start = at-put-bytes .before .before .before .before in
+    omega (arith, at-put-bytes .put-bytes .ensures .begins, at-put-bytes .put-bytes .ensures .long, at-start .pre .2)
 
 sub-result : tie.Need-sub-result
-sub-result c = omega (arith, c .before .before .before .put-bytes .ensures .begins, c .before .before .before .before .before .before .before .pre .0, c .before .before .before .before .before .before .before .pre .1)
+sub-result c =
+    let at-put-bytes = c .before .before .before in
+    let at-start = at-put-bytes .before .before .before .before in
+    omega (arith, at-put-bytes .put-bytes .ensures .begins, at-start .pre .0, at-start .pre .1)
 
 same-length-2 : tie.Need-same-length-2
 same-length-2 c = search needs
 
 returns-2 : tie.Need-returns-2
 returns-2 c =
-    let put = c .before .before .before .put-bytes .ensures in
-    grown-more put (c .before .before .before .before .before .before .before .pre .0) (omega (arith, put .long, c .before .before .before .before .before .before .before .pre .2)) (c .before .before .before .before .before .before .before .pre .1)
+    let at-put-bytes = c .before .before .before in
+    let at-start = at-put-bytes .before .before .before .before in
+    let put = at-put-bytes .put-bytes .ensures in
+    grown-more put (at-start .pre .0) (omega (arith, put .long, at-start .pre .2)) (at-start .pre .1)
 
 pub put-before-spec : {M : Type 1} → statement M
 put-before-spec =

@@ -18,21 +18,29 @@ sub-i : tie.Need-sub-i Inv-loop μ-loop
 sub-i c = search needs
 
 sub-at : tie.Need-sub-at Inv-loop μ-loop
-sub-at c = omega (arith, c .before .loop .inv .begins, c .before .before .pre .0)
+sub-at c =
+    let at-start = c .before .before in
+    omega (arith, c .before .loop .inv .begins, at-start .pre .0)
 
 shared-slice-read-out : tie.Need-shared-slice-read-out Inv-loop μ-loop
-shared-slice-read-out c = omega (arith, c .before .before .loop .inv .below)
+shared-slice-read-out c =
+    let at-loop = c .before .before in
+    omega (arith, at-loop .loop .inv .below)
 
 slice-write-out : tie.Need-slice-write-out Inv-loop μ-loop
-slice-write-out c = omega (arith, c .before .before .loop .inv .begins, c .before .before .loop .inv .below, c .before .before .loop .inv .long, c .before .before .before .pre .0, c .before .before .before .pre .1)
+slice-write-out c =
+    let at-loop = c .before .before in
+    let at-start = at-loop .before in
+    omega (arith, at-loop .loop .inv .begins, at-loop .loop .inv .below, at-loop .loop .inv .long, at-start .pre .0, at-start .pre .1)
 
 loop-less : tie.Need-loop-less Inv-loop μ-loop
 loop-less c = search needs
 
 loop-again : tie.Need-loop-again Inv-loop μ-loop
 loop-again c =
-    let start = c .before .before .before in
-    putting-more (start .args .bytes .now) (start .args .end) (start .args .out .now) (c .before .before .loop .inv) (omega arith) (start .pre .0)
+    let at-loop = c .before .before in
+    let start = at-loop .before in
+    putting-more (start .args .bytes .now) (start .args .end) (start .args .out .now) (at-loop .loop .inv) (omega arith) (start .pre .0)
     (start .pre .1)
 
 same-length : tie.Need-same-length Inv-loop μ-loop

@@ -10,7 +10,9 @@ use Rattle.joint.proofs.put_formula.Statement.{statement}
 use Rattle.joint.proofs.put_formula.Tie as tie
 
 array-read-if1 : tie.Need-array-read-if1
-array-read-if1 c = search (needs, c .before .before .before .pre .0 .0 .placed .few)
+array-read-if1 c =
+    let at-start = c .before .before .before in
+    search (needs, at-start .pre .0 .0 .placed .few)
 
 formula-at-requires : tie.Need-formula-at-requires
 formula-at-requires c κs =
@@ -34,11 +36,16 @@ same-length : tie.Need-same-length
 same-length c = search needs
 
 returns : tie.Need-returns
-returns c = grown-taken (c .before .before .before .before .before .if1 .taken) (c .before .before .before .formula-at .ensures) (c .before .before .put-before .ensures)
+returns c =
+    let at-put-before = c .before .before in
+    let at-formula-at = at-put-before .before in
+    let at-then = at-formula-at .before .before in
+    grown-taken (at-then .if1 .taken) (at-formula-at .formula-at .ensures) (at-put-before .put-before .ensures)
 
 returns-2 : tie.Need-returns-2
 returns-2 c =
-    let a = c .before .before .before .before .args in
+    let at-start = c .before .before .before .before in
+    let a = at-start .args in
     grown-not (a .at) (held-at (a .catalogue .now) (a .p) (a .i)) (a .out .now) (c .if1 .left)
 
 pub put-formula-spec : {M : Type 1} → statement M

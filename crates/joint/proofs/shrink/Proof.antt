@@ -7,7 +7,8 @@ use lib.ListN.{length}
 use Rattle.joint.specs.Joint.{Subset, chosen, Attempt, attempted}
 use Rattle.joint.specs.Inner.{held, Clear}
 use Rattle.joint.specs.declared.Places.{Places}
-use Rattle.joint.proofs.ShrinkLaws.{lends-same, Shrinking, shrinking-none, shrinking-met, shrinking-unmet, shrinking-stuck, shrinking-core}
+use Rattle.joint.proofs.ShrinkLaws.{lends-same, Shrinking, shrinking-none, shrinking-met}
+use Rattle.joint.proofs.ShrinkLaws.{shrinking-unmet, shrinking-stuck, shrinking-core}
 use borrow.Author.Needs.{needs}
 use Rattle.joint.proofs.shrink.Statement.{statement}
 use Rattle.joint.proofs.shrink.Tie as tie
@@ -24,18 +25,24 @@ record Going (catalogue : List ℕ) (p : Places) (N M : ℕ) (workspace₀ works
     long : length letters ≡ 5120
 
 abbrev Inv-loop : tie.InvT-loop
-Inv-loop catalogue p node-capacity profile-capacity workspace₀ letters₀ s₀ i₀ workspace letters s i = Going catalogue p node-capacity profile-capacity workspace₀ workspace letters (s .has) i
+Inv-loop catalogue p node-capacity profile-capacity workspace₀ letters₀ s₀ i₀ workspace letters s i =
+    Going catalogue p node-capacity profile-capacity workspace₀ workspace letters (s .has) i
 
 abbrev μ-loop : tie.MeasureT-loop
 μ-loop catalogue p node-capacity profile-capacity workspace₀ letters₀ s₀ i₀ workspace letters s i = i
 
 everything-requires : tie.Need-everything-requires Inv-loop μ-loop
-everything-requires c κs = c .before .before .pre .0 .placed .few
+everything-requires c κs =
+    let at-start = c .before .before in
+    at-start .pre .0 .placed .few
 
 loop-holds : tie.Need-loop-holds Inv-loop μ-loop
 loop-holds c =
+    let at-start = c .before .before .before in
     record {
-      going = shrinking-none (try (c .before .before .before .args .catalogue .now) (c .before .before .before .args .p) (c .before .before .before .args .node-capacity) (c .before .before .before .args .profile-capacity)) (c .before .before .before .args .p .count)
+      going = shrinking-none
+          (try (at-start .args .catalogue .now) (at-start .args .p) (at-start .args .node-capacity) (at-start .args .profile-capacity))
+          (at-start .args .p .count)
           (c .everything .ensures);
       below = omega arith;
       same = refl;
@@ -46,18 +53,23 @@ sub-i : tie.Need-sub-i Inv-loop μ-loop
 sub-i c = search needs
 
 without-requires : tie.Need-without-requires Inv-loop μ-loop
-without-requires c κs = omega (arith, c .before .loop .inv .below, c .before .before .before .before .before .pre .0 .placed .few)
+without-requires c κs =
+    let at-start = c .before .before .before .before .before in
+    omega (arith, c .before .loop .inv .below, at-start .pre .0 .placed .few)
 
 slice-aggregate-attempted : tie.Need-slice-aggregate-attempted Inv-loop μ-loop
-slice-aggregate-attempted c = search (needs, c .before .before .before .before .loop .inv .long)
+slice-aggregate-attempted c =
+    let at-loop = c .before .before .before .before in
+    search (needs, at-loop .loop .inv .long)
 
 attempted-requires : tie.Need-attempted-requires Inv-loop μ-loop
 attempted-requires c κs =
-    let start = c .before .before .before .before .before .before .before .before in
-    let same = c .before .before .before .before .loop .inv .same in (
+    let at-loop = c .before .before .before .before in
+    let start = at-loop .before .before .before .before in
+    let same = at-loop .loop .inv .same in (
       start .pre .0,
       (
-        lends-same (ap length (sym same)) (sym (c .before .before .before .before .loop .inv .long)) (start .pre .1 .0),
+        lends-same (ap length (sym same)) (sym (at-loop .loop .inv .long)) (start .pre .1 .0),
         subst (Clear (start .args .node-capacity) (start .args .profile-capacity)) (sym same) (start .pre .1 .1),
       ),
     )
@@ -70,14 +82,18 @@ loop-less c = search needs
 
 loop-again : tie.Need-loop-again Inv-loop μ-loop
 loop-again c =
-    let start = c .before .before .before .before .before .before .before .before .before .before .before .before .before .before in
+    let at-attempted = c .before .before .before .before .before in
+    let at-without = at-attempted .before .before .before in
+    let at-loop = at-without .before .before in
+    let start = at-loop .before .before .before .before in
     let a = start .args in
-    let inv = c .before .before .before .before .before .before .before .before .before .before .loop .inv in
+    let inv = at-loop .loop .inv in
     record {
-      going = shrinking-met (try (a .catalogue .now) (a .p) (a .node-capacity) (a .profile-capacity)) (a .p .count) (inv .going) (omega arith)
-          (c .before .before .before .before .before .before .before .before .without .ensures) (c .before .before .before .before .before .attempted .ensures .0) (c .enum-told .given .1);
+      going = shrinking-met (try (a .catalogue .now) (a .p) (a .node-capacity) (a .profile-capacity)) (a .p .count) (inv .going)
+          (omega arith)
+          (at-without .without .ensures) (at-attempted .attempted .ensures .0) (c .enum-told .given .1);
       below = omega (arith, inv .below);
-      same = c .before .before .before .before .before .attempted .ensures .1 ∙ inv .same;
+      same = at-attempted .attempted .ensures .1 ∙ inv .same;
       long = search (needs, inv .long);
     }
 
@@ -89,14 +105,18 @@ loop-less-2 c = search needs
 
 loop-again-2 : tie.Need-loop-again-2 Inv-loop μ-loop
 loop-again-2 c =
-    let start = c .before .before .before .before .before .before .before .before .before .before .before .before .before .before in
+    let at-attempted = c .before .before .before .before .before in
+    let at-without = at-attempted .before .before .before in
+    let at-loop = at-without .before .before in
+    let start = at-loop .before .before .before .before in
     let a = start .args in
-    let inv = c .before .before .before .before .before .before .before .before .before .before .loop .inv in
+    let inv = at-loop .loop .inv in
     record {
-      going = shrinking-unmet (try (a .catalogue .now) (a .p) (a .node-capacity) (a .profile-capacity)) (a .p .count) (inv .going) (omega arith)
-          (c .before .before .before .before .before .before .before .before .without .ensures) (c .before .before .before .before .before .attempted .ensures .0) (c .enum-told2 .given .1);
+      going = shrinking-unmet (try (a .catalogue .now) (a .p) (a .node-capacity) (a .profile-capacity)) (a .p .count) (inv .going)
+          (omega arith)
+          (at-without .without .ensures) (at-attempted .attempted .ensures .0) (c .enum-told2 .given .1);
       below = omega (arith, inv .below);
-      same = c .before .before .before .before .before .attempted .ensures .1 ∙ inv .same;
+      same = at-attempted .attempted .ensures .1 ∙ inv .same;
       long = search (needs, inv .long);
     }
 
@@ -107,27 +127,37 @@ word-of-requires : tie.Need-word-of-requires Inv-loop μ-loop
 word-of-requires c κs = search needs
 
 same-length : tie.Need-same-length Inv-loop μ-loop
-same-length c = search (needs, ap length (c .before .before .before .before .before .before .before .before .before .before .before .loop .inv .same))
+same-length c =
+    let at-loop = c .before .before .before .before .before .before .before .before .before .before .before in
+    search (needs, ap length (at-loop .loop .inv .same))
 
 returns : tie.Need-returns Inv-loop μ-loop
 returns c =
-    let a = c .before .before .before .before .before .before .before .before .before .before .before .before .before .before .before .args in
-    let inv = c .before .before .before .before .before .before .before .before .before .before .before .loop .inv in (
+    let at-attempted = c .before .before .before .before .before .before in
+    let at-without = at-attempted .before .before .before in
+    let at-loop = at-without .before .before in
+    let at-start = at-loop .before .before .before .before in
+    let a = at-start .args in
+    let inv = at-loop .loop .inv in (
       shrinking-stuck (try (a .catalogue .now) (a .p) (a .node-capacity) (a .profile-capacity)) (a .p .count) (inv .going) (omega arith)
-          (c .before .before .before .before .before .before .before .before .before .without .ensures) (c .before .before .before .before .before .before .attempted .ensures .0) (c .before .enum-told3 .given .1) (c .word-of .ensures),
-      c .before .before .before .before .before .before .attempted .ensures .1 ∙ inv .same,
+          (at-without .without .ensures) (at-attempted .attempted .ensures .0) (c .before .enum-told3 .given .1) (c .word-of .ensures),
+      at-attempted .attempted .ensures .1 ∙ inv .same,
     )
 
 word-of-requires-2 : tie.Need-word-of-requires-2 Inv-loop μ-loop
 word-of-requires-2 c κs = search needs
 
 same-length-2 : tie.Need-same-length-2 Inv-loop μ-loop
-same-length-2 c = search (needs, ap length (c .before .before .loop .inv .same))
+same-length-2 c =
+    let at-loop = c .before .before in
+    search (needs, ap length (at-loop .loop .inv .same))
 
 returns-2 : tie.Need-returns-2 Inv-loop μ-loop
 returns-2 c =
-    let a = c .before .before .before .before .before .before .args in
-    let inv = c .before .before .loop .inv in (
+    let at-loop = c .before .before in
+    let at-start = at-loop .before .before .before .before in
+    let a = at-start .args in
+    let inv = at-loop .loop .inv in (
       shrinking-core (try (a .catalogue .now) (a .p) (a .node-capacity) (a .profile-capacity)) (a .p .count) (inv .going) (omega arith)
           (c .word-of2 .ensures),
       inv .same,

@@ -1,7 +1,6 @@
 -- `joint::slot`: behind the others, or the ninth.
 use native.Mathlib.Omega.{arith}
 use Rattle.joint.proofs.PlaceLaws.{slot-room, slot-full}
-use borrow.Author.Needs.{needs}
 use Rattle.joint.proofs.slot.Statement.{statement}
 use Rattle.joint.proofs.slot.Tie as tie
 

@@ -12,10 +12,14 @@ enum-known-found-2 : tie.Need-enum-known-found-2
 enum-known-found-2 c = search needs
 
 returns : tie.Need-returns
-returns c = sym (ap (core-said (c .before .before .before .args .nodes) (c .before .before .before .args .profiles)) (c .before .found .given .1))
+returns c =
+    let at-start = c .before .before .before in
+    sym (ap (core-said (at-start .args .nodes) (at-start .args .profiles)) (c .before .found .given .1))
 
 returns-2 : tie.Need-returns-2
-returns-2 c = sym (ap (core-said (c .before .before .before .args .nodes) (c .before .before .before .args .profiles)) (c .before .found2 .given .1))
+returns-2 c =
+    let at-start = c .before .before .before in
+    sym (ap (core-said (at-start .args .nodes) (at-start .args .profiles)) (c .before .found2 .given .1))
 
 pub with-core-spec : {M : Type 1} → statement M
 with-core-spec = tie.close (tie.spec enum-known-found enum-known-found-2 returns returns-2)

@@ -1,5 +1,4 @@
 -- `joint::word_of` goes from the highest position down, and each doubles what was there.
-use mathlib.Core.Path.{_∙_}
 use native.Mathlib.Omega.{arith}
 use Rattle.joint.proofs.WordingLaws.{Wording, wording-none, wording-more, wording-small, wording-all}
 use borrow.Author.Needs.{needs}
@@ -25,16 +24,22 @@ one-if-requires : tie.Need-one-if-requires Inv-loop μ-loop
 one-if-requires c κs = search needs
 
 mul-x : tie.Need-mul-x Inv-loop μ-loop
-mul-x c = search (needs, wording-small (c .before .before .loop .inv))
+mul-x c =
+    let at-loop = c .before .before in
+    search (needs, wording-small (at-loop .loop .inv))
 
 add-x : tie.Need-add-x Inv-loop μ-loop
-add-x c = search (needs, wording-small (c .before .before .loop .inv))
+add-x c =
+    let at-loop = c .before .before in
+    search (needs, wording-small (at-loop .loop .inv))
 
 loop-less : tie.Need-loop-less Inv-loop μ-loop
 loop-less c = search needs
 
 loop-again : tie.Need-loop-again Inv-loop μ-loop
-loop-again c = wording-more (c .before .before .loop .inv) (omega arith) (c .one-if .ensures .0)
+loop-again c =
+    let at-loop = c .before .before in
+    wording-more (at-loop .loop .inv) (omega arith) (c .one-if .ensures .0)
 
 cast-result : tie.Need-cast-result Inv-loop μ-loop
 cast-result c = search (needs, wording-small (c .before .loop .inv))

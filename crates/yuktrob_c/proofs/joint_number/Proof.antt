@@ -24,17 +24,23 @@ enum-known-j : tie.Need-enum-known-j
 enum-known-j c = search needs
 
 refusal-number-requires : tie.Need-refusal-number-requires
-refusal-number-requires c κs = subst JointFits (c .before .j .given .1) (c .before .before .before .pre) .2
+refusal-number-requires c κs =
+    let at-start = c .before .before .before in
+    subst JointFits (c .before .j .given .1) (at-start .pre) .2
 
 mul-result : tie.Need-mul-result
 mul-result c =
-    let fits = subst JointFits (c .before .before .j .given .1) (c .before .before .before .before .pre) in
+    let at-j = c .before .before in
+    let at-start = at-j .before .before in
+    let fits = subst JointFits (at-j .j .given .1) (at-start .pre) in
     search (needs, fits .0)
 
 add-result : tie.Need-add-result
 add-result c =
-    let fits = subst JointFits (c .before .before .j .given .1) (c .before .before .before .before .pre) in
-    search (needs, fits .0, refusal-small (c .before .before .j .given .0 .1 .0) (fits .1) (fits .2), c .refusal-number .ensures)
+    let at-j = c .before .before in
+    let at-start = at-j .before .before in
+    let fits = subst JointFits (at-j .j .given .1) (at-start .pre) in
+    search (needs, fits .0, refusal-small (at-j .j .given .0 .1 .0) (fits .1) (fits .2), c .refusal-number .ensures)
 
 enum-known-j-2 : tie.Need-enum-known-j-2
 enum-known-j-2 c = search needs
@@ -55,7 +61,9 @@ enum-known-j-4 : tie.Need-enum-known-j-4
 enum-known-j-4 c = search needs
 
 found-requires : tie.Need-found-requires
-found-requires c κs = (omega arith, subst JointFits (c .before .j4 .given .1) (c .before .before .before .pre))
+found-requires c κs =
+    let at-start = c .before .before .before in
+    (omega arith, subst JointFits (c .before .j4 .given .1) (at-start .pre))
 
 enum-known-j-5 : tie.Need-enum-known-j-5
 enum-known-j-5 c = search needs
@@ -65,8 +73,13 @@ wide-requires-2 c κs = search needs
 
 found-requires-2 : tie.Need-found-requires-2
 found-requires-2 c κs =
-    let given = c .before .before .j5 .given in
-    (omega arith, subst⁻¹ (λ (s : ℕ). Letters-16 s 0 (given .0 .0) (given .0 .1 .0)) (c .wide2 .ensures) (subst JointFits (given .1) (c .before .before .before .before .pre)))
+    let at-j = c .before .before in
+    let at-start = at-j .before .before in
+    let given = at-j .j5 .given in (
+      omega arith,
+      subst⁻¹ (λ (s : ℕ). Letters-16 s 0 (given .0 .0) (given .0 .1 .0)) (c .wide2 .ensures)
+          (subst JointFits (given .1) (at-start .pre)),
+    )
 
 returns : tie.Need-returns
 returns c = c .number .ensures ∙ sym (ap joint-number (c .before .enum-told .given .1))
@@ -75,20 +88,29 @@ returns-2 : tie.Need-returns-2
 returns-2 c = c .number2 .ensures ∙ sym (ap joint-number (c .before .enum-told2 .given .1))
 
 returns-3 : tie.Need-returns-3
-returns-3 c = ap (λ (n : ℕ). n + 16777216 * c .before .before .j .given .0 .0) (c .refusal-number .ensures) ∙ sym (ap joint-number (c .before .before .j .given .1))
+returns-3 c =
+    let at-j = c .before .before in
+    ap (λ (n : ℕ). n + 16777216 * at-j .j .given .0 .0) (c .refusal-number .ensures) ∙ sym (ap joint-number (at-j .j .given .1))
 
 returns-4 : tie.Need-returns-4
-returns-4 c = c .number3 .ensures ∙ sym (ap joint-number (c .before .before .j2 .given .1))
+returns-4 c =
+    let at-j = c .before .before in
+    c .number3 .ensures ∙ sym (ap joint-number (at-j .j2 .given .1))
 
 returns-5 : tie.Need-returns-5
-returns-5 c = c .number4 .ensures ∙ ap (number 35) (c .before .wide .ensures) ∙ sym (ap joint-number (c .before .before .before .j3 .given .1))
+returns-5 c =
+    let at-j = c .before .before .before in
+    c .number4 .ensures ∙ ap (number 35) (c .before .wide .ensures) ∙ sym (ap joint-number (at-j .j3 .given .1))
 
 returns-6 : tie.Need-returns-6
-returns-6 c = c .found .ensures ∙ sym (ap joint-number (c .before .before .j4 .given .1))
+returns-6 c =
+    let at-j = c .before .before in
+    c .found .ensures ∙ sym (ap joint-number (at-j .j4 .given .1))
 
 returns-7 : tie.Need-returns-7
 returns-7 c =
-    let given = c .before .before .before .j5 .given in
+    let at-j = c .before .before .before in
+    let given = at-j .j5 .given in
     c .found2 .ensures ∙ ap (λ (s : ℕ). number 0 (found 0 s 0 (given .0 .0) (given .0 .1 .0))) (c .before .wide2 .ensures)
     ∙ sym (ap joint-number (given .1))
 

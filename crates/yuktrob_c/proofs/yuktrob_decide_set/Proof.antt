@@ -1,5 +1,5 @@
--- `yuktrob_c::yuktrob_decide_set`: the answer becomes its number, the place of a fault goes into its word, and the areas are as they were left.
--- Assumes nothing.
+-- `yuktrob_c::yuktrob_decide_set`: the answer becomes its number, the place of a fault goes into its word, and the areas are as they were
+-- left. Assumes nothing.
 use mathlib.Core.Path.{ap, _∙_}
 use Rattle.joint.specs.Contract.{fault-told}
 use Rattle.yuktrob_c.specs.Numbers.{joint-number}
@@ -16,8 +16,10 @@ fault-of-requires c κs = search needs
 
 joint-number-requires : tie.Need-joint-number-requires
 joint-number-requires c κs =
-    let a = c .before .before .before .before .before .before .before .before .before .before .before .args in
-    jointly-fits (a .sheet .now) (a .nodes) (a .profiles) (c .before .before .before .before .before .decide-all .ensures)
+    let at-decide-all = c .before .before .before .before .before in
+    let at-start = at-decide-all .before .before .before .before .before .before in
+    let a = at-start .args in
+    jointly-fits (a .sheet .now) (a .nodes) (a .profiles) (at-decide-all .decide-all .ensures)
 
 same-length : tie.Need-same-length
 same-length c = search needs
@@ -27,7 +29,8 @@ same-length-2 c = search needs
 
 returns : tie.Need-returns
 returns c =
-    let j = c .before .before .before .before .before .before .decide-all .ensures in (
+    let at-decide-all = c .before .before .before .before .before .before in
+    let j = at-decide-all .decide-all .ensures in (
       c .joint-number .ensures ∙ ap joint-number (j .answered),
       (j .buffered, (j .worked, c .before .fault-of .ensures ∙ ap fault-told (j .answered))),
     )
