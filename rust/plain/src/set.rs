@@ -1,6 +1,8 @@
-//! Whether one course meets all rules of a sheet, by deciding conjunctions with the independent decision; which rules clash if none does,
-//! by leaving out one after another; and the same by trying every subset. Subsets are lists of positions, which rise.
+//! Whether one course meets all rules of a sheet, by deciding conjunctions with the independent decision, or with its pair, building and
+//! search; which rules clash if none does, by leaving out one after another; and the same by trying every subset. Subsets are lists of
+//! positions, which rise.
 
+use crate::building::{build, search, Building};
 use crate::decision::{decide, refused_room, Verdict};
 use crate::reading::{read, Unreadable};
 use crate::sheet::each_record;
@@ -37,8 +39,36 @@ pub enum SetVerdict {
     },
 }
 
-/// Whether one course meets all; both areas lent are left just as they are to be.
+/// Whether one course meets all; both areas lent are left just as they are to be. Each conjunction is decided at once, and the work area is
+/// cleared once.
 pub fn decide_set(sheet: &[u8], n: usize, m: usize, work: &mut [u8], course: &mut [u16]) -> SetVerdict {
+    asked(sheet, n, m, work.len(), course.len(), |set| {
+        let whole = set.decided(&set.all());
+        if !matches!(whole, Verdict::Unread(_)) {
+            work[..8 * n + 192 * m].fill(0);
+        }
+        if let Verdict::Met { course: found, .. } = &whole {
+            course[..found.len()].copy_from_slice(found);
+        }
+        set.told(whole, |positions| set.decided(positions))
+    })
+}
+
+/// The same, where the nodes of each conjunction are built in the work area and then searched, and the area is zero behind each.
+pub fn decide_set_by_pair(sheet: &[u8], n: usize, m: usize, work: &mut [u8], course: &mut [u16]) -> SetVerdict {
+    asked(sheet, n, m, work.len(), course.len(), |set| {
+        let whole = set.decided_by_pair(&set.all(), work, course);
+        // courses of subsets go nowhere
+        let mut unused = Vec::new();
+        set.told(whole, |positions| {
+            unused.resize(n + m, 0);
+            set.decided_by_pair(positions, work, &mut unused)
+        })
+    })
+}
+
+/// The questions before anything is decided, of areas that are so long, and then what the set comes to.
+fn asked(sheet: &[u8], n: usize, m: usize, work: usize, buffer: usize, told: impl FnOnce(Set) -> SetVerdict) -> SetVerdict {
     let rules = match some_rules(sheet) {
         Ok(rules) if (1..=MOST_RULES).contains(&rules.len()) => rules,
         Ok(_) => return SetVerdict::Miscounted,
@@ -48,26 +78,10 @@ pub fn decide_set(sheet: &[u8], n: usize, m: usize, work: &mut [u8], course: &mu
     if let Some(refused) = rules.iter().enumerate().find_map(unread) {
         return refused;
     }
-    if let Some(number) = refused_room(n, m, work.len(), course.len()) {
+    if let Some(number) = refused_room(n, m, work, buffer) {
         return SetVerdict::Refused(number);
     }
-    let set = Set { rules, n, m };
-    let all: Vec<usize> = (0..set.rules.len()).collect();
-    let whole = set.decided(&all);
-    if !matches!(whole, Verdict::Unread(_)) {
-        work[..8 * n + 192 * m].fill(0);
-    }
-    match whole {
-        Verdict::Unread(_) | Verdict::Refused(_) => SetVerdict::Undecided(all),
-        Verdict::Met { lead_len, loop_len, nodes, profiles, course: found } => {
-            course[..found.len()].copy_from_slice(&found);
-            SetVerdict::Met { lead_len, loop_len, nodes, profiles, course: found }
-        }
-        Verdict::Not { nodes, profiles } => match set.clash(all) {
-            Ok(clash) => SetVerdict::Not { nodes, profiles, clash },
-            Err(tried) => SetVerdict::Undecided(tried),
-        },
-    }
+    told(Set { rules, n, m })
 }
 
 /// The rules of a sheet, but of many no more than one too many; or the place of its first fault.
@@ -98,29 +112,54 @@ pub struct Set<'a> {
 }
 
 impl Set<'_> {
+    fn all(&self) -> Vec<usize> {
+        (0..self.rules.len()).collect()
+    }
+
+    fn conjunction(&self, positions: &[usize]) -> Vec<u8> {
+        conjunction(&positions.iter().map(|&position| self.rules[position]).collect::<Vec<_>>())
+    }
+
     /// The decision of those at the positions, in areas as long as it takes.
     pub fn decided(&self, positions: &[usize]) -> Verdict {
-        let rules: Vec<&[u8]> = positions.iter().map(|&position| self.rules[position]).collect();
-        decide(&conjunction(&rules), self.n, self.m, usize::MAX, usize::MAX)
+        decide(&self.conjunction(positions), self.n, self.m, usize::MAX, usize::MAX)
+    }
+
+    /// The same by the pair, in areas that are long enough and are left as the decision leaves them.
+    fn decided_by_pair(&self, positions: &[usize], work: &mut [u8], course: &mut [u16]) -> Verdict {
+        let (rule, n, m) = (self.conjunction(positions), self.n, self.m);
+        let (verdict, zeros) = match build(&rule, n, work) {
+            Building::Unread(why) => (Verdict::Unread(why), 0),
+            Building::Refused(number) => (Verdict::Refused(number), 8 * n + 192 * m),
+            Building::Built(count) => (search(&rule, count, n, m, work, course), 8 * n),
+        };
+        work[..zeros].fill(0);
+        verdict
+    }
+
+    /// What is answered if the decision of all came to this; subsets are decided as handed.
+    fn told(&self, whole: Verdict, decided: impl FnMut(&[usize]) -> Verdict) -> SetVerdict {
+        match whole {
+            Verdict::Unread(_) | Verdict::Refused(_) => SetVerdict::Undecided(self.all()),
+            Verdict::Met { lead_len, loop_len, nodes, profiles, course } => SetVerdict::Met { lead_len, loop_len, nodes, profiles, course },
+            Verdict::Not { nodes, profiles } => match self.clash(decided) {
+                Ok(clash) => SetVerdict::Not { nodes, profiles, clash },
+                Err(tried) => SetVerdict::Undecided(tried),
+            },
+        }
     }
 
     /// Whether some course meets those at the positions; every one meets none.
     pub fn can_be_met(&self, positions: &[usize]) -> Option<bool> {
-        if positions.is_empty() {
-            return Some(true);
-        }
-        match self.decided(positions) {
-            Verdict::Met { .. } => Some(true),
-            Verdict::Not { .. } => Some(false),
-            _ => None,
-        }
+        can_be_met(positions, |positions| self.decided(positions))
     }
 
     /// What is left of rules that cannot be met, or the first that is tried and not decided.
-    fn clash(&self, all: Vec<usize>) -> Result<Vec<usize>, Vec<usize>> {
+    fn clash(&self, mut decided: impl FnMut(&[usize]) -> Verdict) -> Result<Vec<usize>, Vec<usize>> {
+        let all = self.all();
         all.iter().rev().try_fold(all.clone(), |kept, &position| {
             let others = without(&kept, position);
-            match self.can_be_met(&others) {
+            match can_be_met(&others, &mut decided) {
                 Some(true) => Ok(kept),
                 Some(false) => Ok(others),
                 None => Err(others),
@@ -143,6 +182,18 @@ impl Set<'_> {
             }
         }
         None
+    }
+}
+
+/// Whether some course meets those at the positions, by how they are decided.
+fn can_be_met(positions: &[usize], decided: impl FnOnce(&[usize]) -> Verdict) -> Option<bool> {
+    if positions.is_empty() {
+        return Some(true);
+    }
+    match decided(positions) {
+        Verdict::Met { .. } => Some(true),
+        Verdict::Not { .. } => Some(false),
+        _ => None,
     }
 }
 

@@ -1,21 +1,21 @@
-//! Sets of rules that are decided at once: the vectors of request T-06 through the independent implementation and through the proved
-//! library; and, of the independent one, its refusals in order, what it leaves in its areas, and that what it tells to clash is what trying
-//! every subset finds.
+//! Sets of rules that are decided at once: the vectors of request T-06, refusals in order and what is left in the areas, through both ways of
+//! the independent implementation and through the proved library; that both ways come to the same; and that what is told to clash is what
+//! trying every subset finds.
 
 use yuktrob_plain::compared::proved_set;
 use yuktrob_plain::hex;
 use yuktrob_plain::random::Random;
-use yuktrob_plain::set::{conjunction, decide_set, without, Set, SetVerdict};
+use yuktrob_plain::set::{conjunction, decide_set, decide_set_by_pair, without, Set, SetVerdict};
 use yuktrob_plain::sheet::{record, rules};
 
 /// What areas hold beforehand.
 const WORK_BEFORE: u8 = 0xa5;
 const COURSE_BEFORE: u16 = 0x5a5a;
 
-/// Either implementation.
+/// Either implementation, the independent one in either way.
 type Decide = fn(&[u8], usize, usize, &mut [u8], &mut [u16]) -> SetVerdict;
 
-const BOTH: [Decide; 2] = [decide_set, proved_set];
+const ALL: [Decide; 3] = [decide_set, decide_set_by_pair, proved_set];
 
 /// Numbers, each behind a blank.
 fn listed(positions: &[usize]) -> String {
@@ -71,7 +71,7 @@ fn vectors() {
         let (n, m) = room.split_once(' ').expect("a room for nodes and one for profiles");
         let (n, m): (usize, usize) = (n.parse().expect("a number"), m.parse().expect("a number"));
         let asked = if n <= 1024 && m <= 4096 { (8 * n + 192 * m, n + m) } else { (0, 0) };
-        for decide in BOTH {
+        for decide in ALL {
             check(decide, &sheet, (n, m), asked, expected, zeros(&sheet, asked.0, expected));
             check(decide, &sheet, (n, m), (asked.0 + 40, asked.1 + 4), expected, zeros(&sheet, asked.0, expected));
         }
@@ -90,7 +90,7 @@ const PAIRS: [&[u8]; 4] = [&[3, 0], &[3, 1], &[4, 0], &[4, 1]];
 
 #[test]
 fn refusals_in_order() {
-    for decide in BOTH {
+    for decide in ALL {
         let check = |sheet: &[u8], room: (usize, usize), lent: (usize, usize), expected: &str, zeros: usize| {
             check(decide, sheet, room, lent, expected, zeros);
         };
@@ -137,7 +137,7 @@ fn a_conjunction_that_is_too_large() {
         (before(8, 4, &[1]), before(8, 8, &[1]), before(8, 9, &[1])),
         (before(10, 3, &[1]), before(9, 4, &[1]), before(9, 5, &[1])),
     ];
-    for decide in BOTH {
+    for decide in ALL {
         for (one, within, beyond) in &cases {
             check(decide, &sheet(&[one, beyond]), (64, 40), (9000, 200), "REFUSED 35 0 1", 0);
             check(decide, &sheet(&[beyond, one]), (64, 40), (9000, 200), "REFUSED 35 0 1", 0);
@@ -167,7 +167,7 @@ fn which_rules_clash() {
         // each two of the three can be met
         (&[&[6, 3, 0, 3, 1], &[4, 0], &[4, 1]], "NOT 1 0 0 1 2"),
     ];
-    for decide in BOTH {
+    for decide in ALL {
         for (rules, expected) in cases {
             check(decide, &sheet(rules), (64, 40), (8192, 104), expected, 8192);
         }
@@ -199,4 +199,26 @@ fn clashes_by_trying_every_subset() {
         }
     }
     assert!(clashes > 500 && several > 100, "{clashes} clashes, {several} of more than two rules");
+}
+
+/// Conjunctions decided at once, and by building and search: the answer and both areas, in areas that are now and then longer than is asked
+/// or too short.
+#[test]
+fn both_ways_agree() {
+    let mut random = Random::new(8);
+    let mut told = std::collections::HashMap::new();
+    for _ in 0..4000 {
+        let sheet = random.set();
+        let (n, m) = [(1024, 4096), (256, 300), (64, 40), (5, 8), (3, 2), (1, 4)][random.below(6)];
+        let (work, course) = (8 * n + 192 * m + random.below(6), n + m + random.below(6));
+        let lent = (vec![WORK_BEFORE; work - random.one_in(8) as usize], vec![COURSE_BEFORE; course - random.one_in(8) as usize]);
+        let [at_once, by_pair] = [decide_set, decide_set_by_pair].map(|decide| {
+            let (mut work, mut course) = lent.clone();
+            (decide(&sheet, n, m, &mut work, &mut course), work, course)
+        });
+        assert_eq!(at_once.0, by_pair.0, "{sheet:02x?} {n} {m}");
+        assert!(at_once == by_pair, "{sheet:02x?} {n} {m}: areas");
+        *told.entry(std::mem::discriminant(&at_once.0)).or_insert(0) += 1;
+    }
+    assert!(told.len() == 7 && told.values().all(|&times| times > 40), "{told:?}");
 }
