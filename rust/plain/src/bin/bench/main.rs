@@ -12,7 +12,7 @@
 //!
 //! Buffers are made once and not cleared between calls. The decision leaves its work area zero, as the defining paper asks, which is part of
 //! its time; the independent implementation has no use for that area, and clears one of the same size behind each decision. Building,
-//! search and the decision of safety rules leave in it what they are to in both.
+//! search, the decision of safety rules and that of a set leave in it what they are to in both.
 
 mod alternating;
 mod building;

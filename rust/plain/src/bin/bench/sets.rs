@@ -1,15 +1,16 @@
 //! Sets of rules that are decided at once: of one to eight rules, such that take long, such that are refused; and a search for sets that
-//! take long.
+//! take long. The proved library decides each conjunction by building and search, so ratios are to plain Rust that does so too; what it
+//! takes to decide each at once, and clear the area once, stands beside them.
 
 use crate::decisions::Areas;
 use crate::shapes::{always, each_or_absent_next, eventually, infinitely_often, until};
 use crate::sheets::nanos;
-use crate::timing::{beside, head, once, time};
+use crate::timing::{beside, head, micros, once, time};
 use std::hint::black_box;
 use std::time::Duration;
 use yuktrob::{course_len, work_len, SetRefusal, SetVerdict, MOST_NODES, MOST_PROFILES};
 use yuktrob_plain::random::Random;
-use yuktrob_plain::set::decide_set;
+use yuktrob_plain::set::{decide_set, decide_set_by_pair};
 use yuktrob_plain::sheet::record;
 
 pub fn tables() {
@@ -111,20 +112,39 @@ fn long() -> Vec<Named> {
     ]
 }
 
-/// The times of the proved library and of the independent implementation for so many decisions.
-fn deciding(areas: &mut Areas, sheet: &[u8], (n, m): Room, times: usize) -> (Duration, Duration) {
+/// What the proved library takes for so many decisions, and what the independent implementation takes in either way.
+struct Took {
+    ours: Duration,
+    by_pair: Duration,
+    at_once: Duration,
+}
+
+impl Took {
+    fn ratio(&self) -> f64 {
+        self.ours.as_secs_f64() / self.by_pair.as_secs_f64()
+    }
+
+    /// As four columns.
+    fn told(&self) -> String {
+        format!("{} | {}", beside(self.ours, self.by_pair), micros(self.at_once))
+    }
+}
+
+fn deciding(areas: &mut Areas, sheet: &[u8], (n, m): Room, times: usize) -> Took {
     let (work, course) = (&mut areas.work[..work_len(n, m)], &mut areas.course[..course_len(n, m)]);
     let ours = time(|| {
         for _ in 0..times {
             black_box(yuktrob::decide_set(black_box(sheet), n, m, work, course)).ok();
         }
     });
-    let theirs = time(|| {
-        for _ in 0..times {
-            black_box(decide_set(black_box(sheet), n, m, work, course));
-        }
+    let [by_pair, at_once] = [decide_set_by_pair, decide_set].map(|decide| {
+        time(|| {
+            for _ in 0..times {
+                black_box(decide(black_box(sheet), n, m, work, course));
+            }
+        })
     });
-    (ours, theirs)
+    Took { ours, by_pair, at_once }
 }
 
 /// What the proved library answers.
@@ -139,23 +159,23 @@ fn outcome(areas: &mut Areas, sheet: &[u8], (n, m): Room) -> String {
     }
 }
 
-const COLUMNS: [&str; 5] = ["input", "outcome", "proved, µs", "plain Rust, µs", "ratio"];
+const COLUMNS: [&str; 6] = ["input", "outcome", "proved, µs", "plain Rust by the pair, µs", "ratio", "plain Rust at once, µs"];
 
 fn table(areas: &mut Areas, title: &str, room: Room, rows: &[Named]) {
     head(title, &COLUMNS);
     for (name, sheet) in rows {
-        let (ours, theirs) = deciding(areas, sheet, room, 1);
-        println!("| {name} | {} | {} |", outcome(areas, sheet, room), beside(ours, theirs));
+        let took = deciding(areas, sheet, room, 1);
+        println!("| {name} | {} | {} |", outcome(areas, sheet, room), took.told());
     }
 }
 
 /// A refusal of few bytes, or at the first, is repeated, since one is too short to be timed.
 fn refusals(areas: &mut Areas) {
-    head("Sets that are refused, N = 256, M = 300", &["input", "outcome", "proved, ns", "plain Rust, ns", "ratio"]);
+    head("Sets that are refused, N = 256, M = 300", &["input", "outcome", "proved, ns", "plain Rust by the pair, ns", "ratio"]);
     for (name, sheet) in refused() {
         let times = if sheet.starts_with(&[0x20]) && sheet.len() > 1000 { 1 } else { 1000 };
-        let took = deciding(areas, &sheet, FEW, times);
-        println!("| {name} | {} | {} |", outcome(areas, &sheet, FEW), nanos(took, times));
+        let Took { ours, by_pair, .. } = deciding(areas, &sheet, FEW, times);
+        println!("| {name} | {} | {} |", outcome(areas, &sheet, FEW), nanos((ours, by_pair), times));
     }
 }
 
@@ -174,24 +194,19 @@ pub fn search(count: usize, seed: u64) {
         .collect();
     drawn.sort_by_key(|(took, _)| *took);
     let longest = drawn.into_iter().rev().take(50);
-    let mut timed: Vec<(Duration, Duration, Vec<u8>)> = longest
-        .map(|(_, sheet)| {
-            let (ours, theirs) = deciding(&mut areas, &sheet, MOST, 1);
-            (ours, theirs, sheet)
-        })
-        .collect();
-    timed.sort_by_key(|(ours, ..)| *ours);
+    let mut timed: Vec<(Took, Vec<u8>)> = longest.map(|(_, sheet)| (deciding(&mut areas, &sheet, MOST, 1), sheet)).collect();
+    timed.sort_by_key(|(took, _)| took.ours);
     report("longest", &mut areas, &timed);
-    timed.sort_by(|a, b| (a.0.as_secs_f64() * b.1.as_secs_f64()).total_cmp(&(b.0.as_secs_f64() * a.1.as_secs_f64())));
+    timed.sort_by(|(a, _), (b, _)| a.ratio().total_cmp(&b.ratio()));
     report("largest ratios", &mut areas, &timed);
 }
 
 /// The last few, in hex.
-fn report(title: &str, areas: &mut Areas, rows: &[(Duration, Duration, Vec<u8>)]) {
+fn report(title: &str, areas: &mut Areas, rows: &[(Took, Vec<u8>)]) {
     head(title, &COLUMNS);
-    for (ours, theirs, sheet) in rows.iter().rev().take(8) {
+    for (took, sheet) in rows.iter().rev().take(8) {
         let hex: String = sheet.iter().map(|byte| format!("{byte:02x}")).collect();
-        println!("| {hex} | {} | {} |", outcome(areas, sheet, MOST), beside(*ours, *theirs));
+        println!("| {hex} | {} | {} |", outcome(areas, sheet, MOST), took.told());
     }
 }
 
