@@ -6,12 +6,13 @@ use decision::Verdict;
 use formula::Outcome;
 use formula::Refusal;
 ghost use mathlib.Core.Path.{_≡_};
-ghost use mathlib.Core.Bool.{Bool, false};
+ghost use mathlib.Core.Bool.{true, false};
 ghost use Prim.Native.Nat.{_+_, _≤_, _<_};
 ghost use lib.ListN.{length, getD, drop};
 ghost use Rattle.base.specs.Bits.{word};
 ghost use Rattle.catalogue.specs.Records.{records};
 ghost use Rattle.conjunction.specs.Conjunction.{conjoined};
+ghost use Rattle.construction.specs.Construction.{between};
 ghost use Rattle.decision.specs.Contract.{Decided};
 ghost use Rattle.decision.specs.Lends.{Lends};
 ghost use Rattle.joint.specs.Joint.{chosen, everything, without, attempted, shrink, concluded};
@@ -486,7 +487,7 @@ fn concluded(
     }
 }
 
-// The questions behind that for damage, in their order.
+// The questions of reading and for room, in their order.
 fn asked(
     catalogue: &[u8],
     p: Places,
@@ -495,13 +496,10 @@ fn asked(
     workspace: &mut [u8],
     witness: &mut [u16],
 ) -> Joint
-    requires { ⌜ Collected-from (now catalogue) p ⌝ }
+    requires { ⌜ Collected-from (now catalogue) p × (between 1 8 (p .count) ≡ true) ⌝ }
     ensures { λ r. ⌜ Jointly (now (catalogue .entry)) «node_capacity» «profile_capacity» (now (workspace .entry)) (now (workspace .exit))
         (now (witness .entry)) (now (witness .exit)) r ⌝ }
 {
-    if !construction::between(1, MAX_FORMULAS, p.count) {
-        return Joint::Miscounted;
-    }
     match first_unread(catalogue, p) {
         Checked::Not { position, why } => Joint::Unread {
             position: position,
@@ -542,17 +540,21 @@ pub fn decide_all(
 {
     let c = collect(catalogue);
     let ending = c.ending;
-    let places = c.places;
     match ending {
         Ending::Broken(place) => Joint::Damaged(place),
-        Ending::Whole => asked(
-            catalogue,
-            places,
-            node_capacity,
-            profile_capacity,
-            workspace,
-            witness,
-        ),
+        Ending::Whole => {
+            if !construction::between(1, MAX_FORMULAS, c.places.count) {
+                return Joint::Miscounted;
+            }
+            asked(
+                catalogue,
+                c.places,
+                node_capacity,
+                profile_capacity,
+                workspace,
+                witness,
+            )
+        }
     }
 }
 

@@ -1,7 +1,8 @@
--- `joint::decide_all`: a fault settles the outcome, or the questions behind it do.
-use mathlib.Core.Path.{refl}
+-- `joint::decide_all`: a fault or the number of formulas settles the outcome, or the questions behind these do.
+use mathlib.Core.Path.{refl, sym, _∙_}
 use lib.ListN.{length}
-use Rattle.joint.proofs.AskedLaws.{joint-damaged, collected-whole, joint-leaves}
+use borrow.Author.Tests.{not-true, not-false}
+use Rattle.joint.proofs.AskedLaws.{joint-damaged, collected-whole, joint-miscounted, joint-leaves}
 use borrow.Author.Needs.{needs}
 use Rattle.joint.proofs.decide_all.Statement.{statement}
 use Rattle.joint.proofs.decide_all.Tie as tie
@@ -15,18 +16,41 @@ enum-known-ending c = c .match .keys1
 enum-told : tie.Need-enum-told
 enum-told c = c .match .keys2
 
-asked-requires : tie.Need-asked-requires
-asked-requires c κs =
-    let at-enum-told = c .before .before in
-    let at-collect = at-enum-told .before .before .before in
-    let start = at-collect .before .before .before .before in
-    let a = start .args in
-    collected-whole (a .node-capacity) (a .profile-capacity) (length (a .workspace .now)) (length (a .witness .now)) (a .catalogue .now)
-    (at-collect .collect .result) (at-collect .collect .ensures) (at-enum-told .enum-told .given .1)
+between-requires : tie.Need-between-requires
+between-requires c κs = search needs
 
 returns : tie.Need-returns
 returns c =
-    let at-collect = c .before .before .before .before in
+    let at-enum-told = c .before .before in
+    let at-collect = at-enum-told .before .before in
+    let start = at-collect .before .before .before .before in
+    let a = start .args in
+    let collect = at-collect .collect in
+    let from = collected-whole (a .node-capacity) (a .profile-capacity) (length (a .workspace .now)) (length (a .witness .now))
+    (a .catalogue .now) (collect .result) (collect .ensures) (at-enum-told .enum-told .given .1) in
+    let between = c .before .between in
+    joint-leaves
+    (joint-miscounted (a .node-capacity) (a .profile-capacity) (length (a .workspace .now)) (length (a .witness .now)) (a .catalogue .now)
+    from (sym (between .ensures) ∙ not-true (between .result) (c .if1 .taken)))
+    (record { answered = refl; buffered = refl; worked = refl })
+
+asked-requires : tie.Need-asked-requires
+asked-requires c κs =
+    let at-else = c .before .before in
+    let at-between = at-else .before in
+    let at-enum-told = at-between .before in
+    let at-collect = at-enum-told .before .before in
+    let start = at-collect .before .before .before .before in
+    let a = start .args in
+    let collect = at-collect .collect in
+    let from = collected-whole (a .node-capacity) (a .profile-capacity) (length (a .workspace .now)) (length (a .witness .now))
+    (a .catalogue .now) (collect .result) (collect .ensures) (at-enum-told .enum-told .given .1) in
+    let between = at-between .between in
+    (from, sym (between .ensures) ∙ not-false (between .result) (at-else .if1 .left))
+
+returns-2 : tie.Need-returns-2
+returns-2 c =
+    let at-collect = c .before .before .before in
     let start = at-collect .before .before .before .before in
     let a = start .args in
     joint-leaves
@@ -40,8 +64,8 @@ same-length c = search needs
 same-length-2 : tie.Need-same-length-2
 same-length-2 c = search needs
 
-returns-2 : tie.Need-returns-2
-returns-2 c =
+returns-3 : tie.Need-returns-3
+returns-3 c =
     let at-asked = c .before .before .before .before in
     at-asked .asked .ensures
 
@@ -52,8 +76,10 @@ decide-all-spec =
     collect-requires
     enum-known-ending
     enum-told
-    asked-requires
+    between-requires
     returns
+    asked-requires
+    returns-2
     same-length
     same-length-2
-    returns-2)
+    returns-3)
