@@ -1,7 +1,7 @@
 -- The questions before the decisions, as the code asks them over the places of the formulas: each answer settles the outcome that the
 -- definition gives for the catalogue. Assumes nothing.
 use mathlib.Core.Path.{_≡_, refl, sym, ap, subst, _∙_}
-use mathlib.Core.Bool.{Bool, true, false, _&&_}
+use mathlib.Core.Bool.{Bool, true, false, cond, _&&_}
 use mathlib.Core.List.{List}
 use Prim.Native.Nat.{ℕ, _+_, _≤_, _<_}
 use native.Mathlib.Omega.{arith}
@@ -18,9 +18,10 @@ use Rattle.decision.proofs.SettleLaws.{asked-of}
 use Rattle.catalogue.specs.Records.{Records, records}
 use Rattle.joint.specs.Joint.{Joint, max-formulas, concluded, ask-read, asked, bytes-of, formulas, of-records, joint}
 use Rattle.joint.specs.Contract.{Leaves}
-use Rattle.joint.specs.Inner.{no-places, collected, Collects, Collected-from, held, Placed, checked, Readable}
+use Rattle.joint.specs.Inner.{no-places, noted-all, collected, ending-of, Collects, Collected-from, held, Placed, checked, Readable}
 use Rattle.joint.specs.declared.Places.{Places}
 use Rattle.joint.specs.declared.Collected.{Collected}
+use Rattle.joint.specs.declared.Ending.{Ending}
 use Rattle.joint.specs.declared.Ending.the-variants as ending
 use Rattle.joint.specs.declared.Joint as code
 use Rattle.joint.specs.declared.Checked.the-variants.{Read, Not}
@@ -66,12 +67,6 @@ module _ {N M w b c : ℕ} (g : Granted-or N M w b c) (after : Joint) where
       room-joint N M w b after ∙ ap (joint-of after) (past-13 (asked-of N M w b granted) (g .granted e))
 
 -- ---- question 34
-broken-same : {p q : ℕ} → ending.Broken p ≡ ending.Broken q → p ≡ q
-broken-same e = cc
-
-whole-not-broken : {p : ℕ} → ending.Whole ≡ ending.Broken p → ⊥
-whole-not-broken e = let z : _≡_ {A = ℕ} 0 1 = cc in omega arith
-
 -- a count that was capped is out of range exactly where the number is
 same-range : {n count : ℕ} → Counted n count → between 1 max-formulas count ≡ between 1 max-formulas n
 same-range (Counted.few l e) = ap (between 1 max-formulas) e
@@ -109,7 +104,7 @@ module _ (N M w b : ℕ) (catalogue : List ℕ) {p : Places} (c : Collected-from
   in-question : between 1 max-formulas (length fs) ≡ between 1 max-formulas (p .count)
   in-question = ap (between 1 max-formulas) (length-map (c .passed) (bytes-of catalogue)) ∙ sym (same-range count-is)
 
-  pub joint-miscounted : between 1 max-formulas (p .count) ≡ false → joint N M w b catalogue ≡ Joint.miscounted
+  joint-miscounted : between 1 max-formulas (p .count) ≡ false → joint N M w b catalogue ≡ Joint.miscounted
   joint-miscounted e = joint-is ∙ ap (λ x. ask x Joint.miscounted after) (in-question ∙ e)
 
   module _ (e : between 1 max-formulas (p .count) ≡ true) where
@@ -149,6 +144,22 @@ module _ (N M w b : ℕ) (catalogue : List ℕ) {p : Places} (c : Collected-from
       joint-concluded g h = passed-reading ∙ room-granted g (concluded N M (held catalogue p)) h
 
 -- ---- question 30
+-- what the ending of a whole catalogue says of the number of formulas
+whole-of : (b : Bool) → cond b ending.Whole ending.Miscounted ≡ ending.Whole → b ≡ true
+whole-of true e = refl
+whole-of false e = absurd (let z : _≡_ {A = ℕ} 0 1 = cc in omega arith)
+
+miscounted-of : (b : Bool) → cond b ending.Whole ending.Miscounted ≡ ending.Miscounted → b ≡ false
+miscounted-of true e = absurd (let z : _≡_ {A = ℕ} 0 1 = cc in omega arith)
+miscounted-of false e = refl
+
+never-broken : (b : Bool) {place : ℕ} → cond b ending.Whole ending.Miscounted ≡ ending.Broken place → ⊥
+never-broken true e = let z : _≡_ {A = ℕ} 0 1 = cc in omega arith
+never-broken false e = let z : _≡_ {A = ℕ} 0 1 = cc in omega arith
+
+broken-same : {p q : ℕ} → ending.Broken p ≡ ending.Broken q → p ≡ q
+broken-same e = cc
+
 module _ (N M w b : ℕ) (catalogue : List ℕ) (c : Collected) (h : Collects (collected (records catalogue)) c) where
   pub joint-damaged : {place : ℕ} → c .ending ≡ ending.Broken place → joint N M w b catalogue ≡ Joint.damaged place
   unfolding joint
@@ -156,14 +167,29 @@ module _ (N M w b : ℕ) (catalogue : List ℕ) (c : Collected) (h : Collects (c
     where
       by : (rs : Records) → Collects (collected rs) c → rs ≡ Records.damaged place
       by (Records.damaged p) q = ap Records.damaged (broken-same (sym q ∙ e))
-      by (Records.whole rs) q = absurd (whole-not-broken (sym (q .0) ∙ e))
+      by (Records.whole rs) q = absurd (never-broken (between 1 max-formulas (noted-all no-places rs .count)) (sym (q .0) ∙ e))
 
-  pub collected-whole : c .ending ≡ ending.Whole → Collected-from catalogue (c .places)
-  collected-whole e = by (records catalogue) refl h
+  -- a catalogue that is whole, by its ending
+  ended-whole : {x : Ending} → c .ending ≡ x → ((place : ℕ) → x ≡ ending.Broken place → ⊥)
+      → Collected-from catalogue (c .places) × (c .ending ≡ ending-of (c .places .count))
+  ended-whole e other = by (records catalogue) refl h
     where
-      by : (rs : Records) → records catalogue ≡ rs → Collects (collected rs) c → Collected-from catalogue (c .places)
-      by (Records.damaged p) r q = absurd (whole-not-broken (sym e ∙ q))
-      by (Records.whole rs) r q = record { passed = rs; whole = r; is = q .1 }
+      by : (rs : Records) → records catalogue ≡ rs → Collects (collected rs) c
+          → Collected-from catalogue (c .places) × (c .ending ≡ ending-of (c .places .count))
+      by (Records.damaged p) r q = absurd (other p (sym e ∙ q))
+      by (Records.whole rs) r q =
+          (record { passed = rs; whole = r; is = q .1 }, q .0 ∙ sym (ap (λ (x : Places). ending-of (x .count)) (q .1)))
+
+  pub collected-whole : c .ending ≡ ending.Whole
+      → Collected-from catalogue (c .places) × (between 1 max-formulas (c .places .count) ≡ true)
+  collected-whole e =
+      let (from, is) = ended-whole e (λ p q. never-broken true q) in
+      (from, whole-of (between 1 max-formulas (c .places .count)) (sym is ∙ e))
+
+  pub collected-miscounted : c .ending ≡ ending.Miscounted → joint N M w b catalogue ≡ Joint.miscounted
+  collected-miscounted e =
+      let (from, is) = ended-whole e (λ p q. never-broken false q) in
+      joint-miscounted N M w b catalogue from (miscounted-of (between 1 max-formulas (c .places .count)) (sym is ∙ e))
 
 -- what is left after an outcome, by another name
 pub joint-leaves : {N M : ℕ} {o v : Joint} {w w′ b b′ : List ℕ} {r : code.Joint} → v ≡ o → Leaves N M o w w′ b b′ r

@@ -18,8 +18,8 @@ use Rattle.catalogue.specs.declared.Due.the-variants.{End, Fault, Whole}
 use Rattle.catalogue.proofs.RecordsLaws.{records-end, records-fault, records-whole}
 use Rattle.catalogue.proofs.RunLaws.{Whole-run, whole-run}
 use Rattle.joint.specs.Joint.{max-formulas, bytes-of, formulas}
-use Rattle.joint.specs.Inner.{no-places, slot, noted-at, noted, noted-all, Collection, collected-on, collected}
-use Rattle.joint.specs.Inner.{handed, Collects, held-at, held, Placed}
+use Rattle.joint.specs.Inner.{no-places, slot, noted-at, noted, noted-all, Collection, collected-on}
+use Rattle.joint.specs.Inner.{collected, handed, Collects, held-at, held, Placed, ending-of}
 use Rattle.joint.specs.declared.Places.{Places}
 use Rattle.joint.specs.declared.Collected.{Collected}
 use Rattle.joint.specs.declared.Ending.{Ending}
@@ -41,12 +41,12 @@ module _ (bytes : List ℕ) where
   pub collect-none : Collecting bytes 0 0 no-places
   collect-none = record { is = refl }
 
-  pub collect-end : {at least : ℕ} {p : Places} {c : Collected} → Collecting bytes at least p → record-at bytes at least ≡ End
-      → c ≡ given ending.Whole p → Collects (collected (records bytes)) c
-  collect-end {at} {least} {p} {c} h e q =
+  pub collect-end : {at least : ℕ} {p : Places} {e : Ending} {c : Collected} → Collecting bytes at least p
+      → record-at bytes at least ≡ End → c ≡ given e p → e ≡ ending-of (p .count) → Collects (collected (records bytes)) c
+  collect-end {at} {least} {p} {e} {c} h r q n =
       subst⁻¹ (Collects (collected (records bytes))) q
-      (subst (λ (x : Collection). Collects x (given ending.Whole p))
-      (sym (ap (collected-on p) (records-end bytes at least e)) ∙ h .is) (refl, refl))
+      (subst (λ (x : Collection). Collects x (given e p))
+      (sym (ap (collected-on p) (records-end bytes at least r)) ∙ h .is) (n, refl))
 
   pub collect-fault : {at least place : ℕ} {p : Places} {c : Collected} → Collecting bytes at least p
       → record-at bytes at least ≡ Fault place → c ≡ given (ending.Broken place) p → Collects (collected (records bytes)) c

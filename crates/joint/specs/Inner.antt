@@ -9,6 +9,7 @@ use Rattle.base.specs.Lists.{range}
 use Rattle.base.specs.Bits.{word}
 use Rattle.formula.specs.Formula.{Formula}
 use Rattle.formula.specs.Reading.{Opcode, byte-of, Reading, parse}
+use Rattle.construction.specs.Construction.{between}
 use Rattle.catalogue.specs.Records.{Records, records}
 use Rattle.catalogue.specs.declared.Record.{Record}
 use Rattle.decision.specs.Contract.{zeroed}
@@ -63,6 +64,10 @@ collected-on p (Records.whole rs) = Collection.whole (noted-all p rs)
 abbrev pub collected : Records → Collection
 collected rs = collected-on no-places rs
 
+-- how a whole catalogue with so many formulas ends: question 34
+abbrev pub ending-of : (count : ℕ) → Ending
+ending-of count = cond (between 1 max-formulas count) ending.Whole ending.Miscounted
+
 -- what the code hands back
 abbrev pub handed : Ending → (starts sizes : List ℕ) (count : ℕ) → Collected
 handed e starts sizes count = record { ending = e; places = record { starts = starts; sizes = sizes; count = count } }
@@ -70,7 +75,7 @@ handed e starts sizes count = record { ending = e; places = record { starts = st
 -- of what going through comes to; the places count where nothing is broken
 abbrev pub Collects : Collection → Collected → Type 0
 Collects (Collection.broken place) c = c .ending ≡ ending.Broken place
-Collects (Collection.whole p) c = (c .ending ≡ ending.Whole) × (c .places ≡ p)
+Collects (Collection.whole p) c = (c .ending ≡ ending-of (p .count)) × (c .places ≡ p)
 
 -- the places are those of a whole catalogue's records
 pub record Collected-from (catalogue : List ℕ) (p : Places) : Type 0 where

@@ -17,7 +17,7 @@ ghost use Rattle.decision.specs.Contract.{Decided};
 ghost use Rattle.decision.specs.Lends.{Lends};
 ghost use Rattle.joint.specs.Joint.{chosen, everything, without, attempted, shrink, concluded};
 ghost use Rattle.joint.specs.Contract.{Leaves, Jointly, number-of, fault-told};
-ghost use Rattle.joint.specs.Inner.{slot, handed, collected, Collects, Collected-from, held-at, held};
+ghost use Rattle.joint.specs.Inner.{slot, ending-of, handed, collected, Collects, Collected-from, held-at, held};
 ghost use Rattle.joint.specs.Inner.{Stands, Placed, checked, Readable};
 ghost use Rattle.joint.specs.Inner.{joined, joined-if, Put-bytes, Grown, Room, Conjoins};
 ghost use Rattle.joint.specs.Inner.{Clear, attempt-told, attempt-said, shrunk-told, core-said};
@@ -56,8 +56,10 @@ struct Places {
     count: usize,
 }
 
+// How a catalogue ends: with 1 to 8 formulas, with another number of them, or at a fault.
 enum Ending {
     Whole,
+    Miscounted,
     Broken(usize),
 }
 
@@ -108,6 +110,15 @@ fn slot(count: usize) -> usize
     MAX_FORMULAS
 }
 
+fn ending_of(count: usize) -> Ending
+    ensures { λ r. ⌜ r ≡ ending-of count ⌝ }
+{
+    if construction::between(1, MAX_FORMULAS, count) {
+        return Ending::Whole;
+    }
+    Ending::Miscounted
+}
+
 fn ended(ending: Ending, starts: [usize; 9], sizes: [usize; 9], count: usize) -> Collected
     ensures { λ r. ⌜ r ≡ handed ending starts sizes count ⌝ }
 {
@@ -132,7 +143,7 @@ fn collect(catalogue: &[u8]) -> Collected
     let mut count = 0usize;
     loop {
         match catalogue::next_record(catalogue, at, least) {
-            Due::End => return ended(Ending::Whole, starts, sizes, count),
+            Due::End => return ended(ending_of(count), starts, sizes, count),
             Due::Fault(place) => return ended(Ending::Broken(place), starts, sizes, count),
             Due::Whole(r) => {
                 let k = slot(count);
@@ -542,19 +553,15 @@ pub fn decide_all(
     let ending = c.ending;
     match ending {
         Ending::Broken(place) => Joint::Damaged(place),
-        Ending::Whole => {
-            if !construction::between(1, MAX_FORMULAS, c.places.count) {
-                return Joint::Miscounted;
-            }
-            asked(
-                catalogue,
-                c.places,
-                node_capacity,
-                profile_capacity,
-                workspace,
-                witness,
-            )
-        }
+        Ending::Miscounted => Joint::Miscounted,
+        Ending::Whole => asked(
+            catalogue,
+            c.places,
+            node_capacity,
+            profile_capacity,
+            workspace,
+            witness,
+        ),
     }
 }
 

@@ -27,16 +27,21 @@ next-record-requires c κs = search needs
 enum-told : tie.Need-enum-told Inv-loop μ-loop
 enum-told c = c .match .keys1
 
+ending-of-requires : tie.Need-ending-of-requires Inv-loop μ-loop
+ending-of-requires c κs = search needs
+
 ended-requires : tie.Need-ended-requires Inv-loop μ-loop
 ended-requires c κs = search needs
 
 returns : tie.Need-returns Inv-loop μ-loop
 returns c =
-    let next = c .before .before .before in
+    let at-enum-told = c .before .before in
+    let next = at-enum-told .before .before in
     let at-start = next .before .before .before in
     let loop = next .before in
-    collect-end (at-start .args .catalogue .now) (loop .loop .inv) (sym (next .next-record .ensures .0) ∙ c .before .enum-told .given .1)
-    (c .ended .ensures)
+    collect-end (at-start .args .catalogue .now) (loop .loop .inv)
+    (sym (next .next-record .ensures .0) ∙ at-enum-told .enum-told .given .1) (c .ended .ensures)
+    (c .before .ending-of .ensures)
 
 enum-known-place : tie.Need-enum-known-place Inv-loop μ-loop
 enum-known-place c = c .match .keys2
@@ -124,6 +129,7 @@ collect-spec =
     loop-holds
     next-record-requires
     enum-told
+    ending-of-requires
     ended-requires
     returns
     enum-known-place
