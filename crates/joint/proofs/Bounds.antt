@@ -20,7 +20,8 @@ use Rattle.joint.specs.Joint.{settled}
 use Rattle.joint.specs.Contract.{says, Jointly}
 use Rattle.joint.specs.declared.Joint as code
 use Rattle.joint.specs.declared.Joint.the-variants.{Damaged, Miscounted, Unread, Refused, Untried, Satisfiable, Unsatisfiable}
-use Rattle.joint.proofs.SubsetLaws.{everything-length, Within, within-length}
+use Rattle.joint.specs.Meaning.{Within}
+use Rattle.joint.proofs.SubsetLaws.{everything-length, within-length}
 use Rattle.joint.proofs.WordingLaws.{eight-bits}
 use Rattle.joint.proofs.ShrinkLaws.{lends-decided}
 use Rattle.joint.proofs.ShrinkMeaning.{shrink-stuck, shrink-within}
@@ -62,7 +63,7 @@ module _ (N M w b : ℕ) (bs : List (List ℕ)) (few : length bs ≤ max-formula
 
 cases-bounded : {N M w b : ℕ} {catalogue : List ℕ} {o : Joint} → Cases N M w b catalogue o → Bounded N M (says o)
 cases-bounded (Cases.damaged e) = tt
-cases-bounded (Cases.miscounted e c) = tt
+cases-bounded (Cases.miscounted m) = tt
 cases-bounded (Cases.unread {bs} {i} {why} h f) = (
   omega (arith, f .there, h .few),
   parse-stopped (getD bs i []) (f .refuses) .known,

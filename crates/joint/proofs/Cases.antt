@@ -20,33 +20,18 @@ use Rattle.decision.specs.Lends.{Lends}
 use Rattle.decision.proofs.VerdictLaws.{From11}
 use Rattle.decision.proofs.SettleLaws.{asked-of}
 use Rattle.catalogue.specs.Records.{Records, records}
-use Rattle.catalogue.specs.declared.Record.{Record}
 use Rattle.conjunction.specs.Conjunction.{Accepted}
 use Rattle.joint.specs.Joint.{Joint, max-formulas, concluded, ask-read, bytes-of, formulas, of-records, joint}
+use Rattle.joint.specs.Meaning.{Miscounted, Has-formulas, First-refused}
 use Rattle.joint.specs.Inner.{check-on, checked}
 use Rattle.joint.specs.declared.Checked.{Checked}
 use Rattle.joint.specs.declared.Checked.the-variants.{Read, Not}
 use Rattle.joint.proofs.CheckLaws.{checked-all, read-yes, read-no}
 use Rattle.joint.proofs.AskedLaws.{joint-of, granted, room-joint}
 
--- A catalogue of 1 to 8 formulas: their bytes.
-pub record Has-formulas (catalogue : List ℕ) (bs : List (List ℕ)) : Type 0 where
-  pub records-are : List Record
-  pub whole : records catalogue ≡ Records.whole records-are
-  pub bytes-are : bs ≡ formulas catalogue records-are
-  pub some : 1 ≤ length bs
-  pub few : length bs ≤ max-formulas
-
--- The first that reading refuses, at position i.
-pub record First-refused (bs : List (List ℕ)) (i : ℕ) (why : Refusal) : Type 0 where
-  pub there : i < length bs
-  pub refuses : parse (getD bs i []) ≡ Reading.refused why
-  pub earlier : (j : ℕ) → j < i → (f : Formula) × (parse (getD bs j []) ≡ Reading.accepted f)
-
 pub data Cases (N M w b : ℕ) (catalogue : List ℕ) : Joint → Type 0 where
   damaged : {place : ℕ} → records catalogue ≡ Records.damaged place → Cases N M w b catalogue (Joint.damaged place)
-  miscounted : {rs : List Record} → records catalogue ≡ Records.whole rs → (length rs ≡ 0) ⊎ (max-formulas < length rs)
-      → Cases N M w b catalogue Joint.miscounted
+  miscounted : Miscounted catalogue → Cases N M w b catalogue Joint.miscounted
   unread : {bs : List (List ℕ)} {i : ℕ} {why : Refusal} → Has-formulas catalogue bs → First-refused bs i why
       → Cases N M w b catalogue (Joint.unread i why)
   refused : {bs : List (List ℕ)} {fs : List Formula} {code : ℕ} → Has-formulas catalogue bs → Accepted bs fs → 11 ≤ code → code ≤ 13
@@ -159,5 +144,8 @@ module _ (N M w b : ℕ) (catalogue : List ℕ) where
           (ask x Joint.miscounted (ask-read 0 bs (ask-room Joint.refused N M w b (concluded N M bs)))))
           (λ t. let (some, few) = in-range (length bs) t in
           read-cases (record { records-are = rs; whole = e; bytes-are = refl; some = some; few = few }))
-          (λ n. Cases.miscounted e
-          (subst (λ (n : ℕ). (n ≡ 0) ⊎ (max-formulas < n)) same (out-of-range (length bs) n)))
+          (λ n. Cases.miscounted (record {
+            records-are = rs;
+            whole = e;
+            wrong = subst (λ (n : ℕ). (n ≡ 0) ⊎ (max-formulas < n)) same (out-of-range (length bs) n);
+          }))

@@ -11,15 +11,13 @@ use mathlib.Core.Option.{Option, none, some}
 use Prim.Native.Nat.{ℕ, zero, suc, _-_, _≤_, _<_}
 use native.Mathlib.Omega.{arith}
 use lib.ListN.{length, getD, replicate}
-use Rattle.base.specs.Bits.{word}
 use Rattle.base.specs.Search.{Item}
 use Rattle.base.proofs.AskLaws.{every-outcome}
 use Rattle.formula.specs.Formula.{Formula}
 use Rattle.formula.specs.Table.{Table, table}
-use Rattle.formula.specs.Refusal.{at-byte}
 use Rattle.formula.specs.Reading.{Reading, parse}
 use Rattle.formula.proofs.Reread.{Reread}
-use Rattle.lasso.specs.Lasso.{Lasso, over-alphabet, meets}
+use Rattle.lasso.specs.Lasso.{over-alphabet, meets}
 use Rattle.tableau.specs.Saturation as tableau
 use Rattle.tableau.specs.Transition.{Transition}
 use Rattle.tableau.specs.Nodes.{nodes}
@@ -37,12 +35,13 @@ use Rattle.conjunction.proofs.ReadLaws.{conjunction-read, conjunction-accepted}
 use Rattle.joint.specs.Joint.{Subset, chosen, max-formulas, everything, without, decided, Attempt}
 use Rattle.joint.specs.Joint.{attempt-of, attempted, Shrunk, shrink}
 use Rattle.joint.specs.Joint.{Joint, with-core, settled, joint}
-use Rattle.joint.proofs.SubsetLaws.{everything-chosen, Within, within-self, without-both, within-at, within-part}
+use Rattle.joint.specs.Meaning.{Has-formulas, Within, Met-by-some, Met-by-none, Clash, Reason, Untried, Tells}
+use Rattle.joint.proofs.SubsetLaws.{everything-chosen, within-self, without-both, within-at, within-part}
 use Rattle.joint.proofs.ShrinkLaws.{lends-decided}
 use Rattle.joint.proofs.ShrinkMeaning.{Needed, shrink-stuck, shrink-within, shrink-keeps, shrink-needs}
 use Rattle.joint.proofs.ShrinkLeast.{core-least}
 use Rattle.joint.proofs.ConcludeLaws.{unsat-read, Refusing, stuck-part}
-use Rattle.joint.proofs.Cases.{Has-formulas, Cases, joint-cases}
+use Rattle.joint.proofs.Cases.{Cases, joint-cases}
 
 -- ---- the formulas that a subset takes
 chosen-accepted : (s : Subset) {bs : List (List ℕ)} {fs : List Formula} → Accepted bs fs → Accepted (chosen s bs) (chosen s fs)
@@ -50,15 +49,6 @@ chosen-accepted [] a = Accepted.none
 chosen-accepted (b ∷ s) Accepted.none = Accepted.none
 chosen-accepted (true ∷ s) (Accepted.more e a) = Accepted.more e (chosen-accepted s a)
 chosen-accepted (false ∷ s) (Accepted.more e a) = chosen-accepted s a
-
--- some lasso meets all, and none does
-pub record Met-by-some (fs : List Formula) : Type 0 where
-  pub course : Lasso
-  pub such : over-alphabet course ≡ true
-  pub meets-each : Meets-each course fs
-
-abbrev pub Met-by-none : List Formula → Type 0
-Met-by-none fs = (c : Lasso) → over-alphabet c ≡ true → Meets-each c fs → ⊥
 
 part-met : {gs fs : List Formula} → Part gs fs → Met-by-some fs → Met-by-some gs
 part-met p m = record { course = m .course; such = m .such; meets-each = part-meets p (m .meets-each) }
@@ -112,55 +102,6 @@ module _ (N M w b : ℕ) (l : Lends N M w b) where
       by (Verdict.refused code) q e = absurd (let z : _≡_ {A = ℕ} 0 1 = cc in omega arith)
       by (Verdict.satisfiable stem cycle K n letters) q e = absurd (let z : _≡_ {A = ℕ} 0 1 = cc in omega arith)
       by (Verdict.unsatisfiable K P) q e = unmet-each (Accepted.more r a) (decided-says (conjoined (c ∷ cs)) q)
-
--- ---- what the outcomes say
--- MET: what the decision says of the conjunction, and that the lasso meets each formula.
-pub record Met-all (catalogue : List ℕ) (stem cycle K n : ℕ) (letters : List ℕ) : Type 0 where
-  pub bytes : List (List ℕ)
-  pub formulas : List Formula
-  pub in-catalogue : Has-formulas catalogue bytes
-  pub accepted : Accepted bytes formulas
-  pub conjunction-met : Met (conjoined bytes) stem cycle K n letters
-  pub meets-each : Meets-each (lasso letters stem) formulas
-
--- NOT: K and P are the conjunction's. The core is a minimal unsatisfiable subset, and of all subsets that no lasso meets the one with the
--- least word.
-pub record Clash (catalogue : List ℕ) (K P : ℕ) (core : Subset) : Type 0 where
-  pub bytes : List (List ℕ)
-  pub formulas : List Formula
-  pub in-catalogue : Has-formulas catalogue bytes
-  pub accepted : Accepted bytes formulas
-  pub conjunction-unmet : Unmet (conjoined bytes) K P
-  pub none-meets-all : Met-by-none formulas
-  pub core-within : Within core (everything (length bytes))
-  pub core-unmet : Met-by-none (chosen core formulas)
-  pub core-needed : (i : ℕ) → getD core i false ≡ true → Met-by-some (chosen (without core i) formulas)
-  pub core-first : (u : Subset) → Within u (everything (length bytes)) → Met-by-none (chosen u formulas) → word core ≤ word u
-
--- why the conjunction of a subset could not be decided: it is too large to read, and then it is that of all; or room is lacking
-pub data Reason (N M : ℕ) (bs : List (List ℕ)) (t : Subset) : Verdict → Type 0 where
-  too-large : (code place : ℕ) → (code ≡ 3) ⊎ (code ≡ 4) → t ≡ everything (length bs)
-      → parse (conjoined bs) ≡ Reading.refused (at-byte code place) → Reason N M bs t (Verdict.unread (at-byte code place))
-  no-room : (code : ℕ) → (code ≡ 14) ⊎ (code ≡ 15) → (f : Formula) → parse (conjoined (chosen t bs)) ≡ Reading.accepted f
-      → decide N M (table f) ≡ Verdict.refused code → Reason N M bs t (Verdict.refused code)
-
--- 35
-pub record Untried (N M : ℕ) (catalogue : List ℕ) (t : Subset) (why : Verdict) : Type 0 where
-  pub bytes : List (List ℕ)
-  pub formulas : List Formula
-  pub in-catalogue : Has-formulas catalogue bytes
-  pub accepted : Accepted bytes formulas
-  pub within : Within t (everything (length bytes))
-  pub reason : Reason N M bytes t why
-
-abbrev pub Tells : (N M w b : ℕ) (catalogue : List ℕ) → Joint → Type 0
-Tells N M w b catalogue (Joint.damaged place) = Cases N M w b catalogue (Joint.damaged place)
-Tells N M w b catalogue Joint.miscounted = Cases N M w b catalogue Joint.miscounted
-Tells N M w b catalogue (Joint.unread i why) = Cases N M w b catalogue (Joint.unread i why)
-Tells N M w b catalogue (Joint.refused code) = Cases N M w b catalogue (Joint.refused code)
-Tells N M w b catalogue (Joint.untried t why) = Untried N M catalogue t why
-Tells N M w b catalogue (Joint.satisfiable stem cycle K n letters) = Met-all catalogue stem cycle K n letters
-Tells N M w b catalogue (Joint.unsatisfiable K P core) = Clash catalogue K P core
 
 -- ---- why
 -- behind reading a verdict is no refusal of reading, and a refusal is 14 or 15
@@ -298,7 +239,7 @@ module _ (N M w b : ℕ) (catalogue : List ℕ) {bs : List (List ℕ)} {fs : Lis
   }
 
   shrunk-tells : {K P : ℕ} → decided N M (conjoined bs) ≡ Verdict.unsatisfiable K P → (x : Shrunk) → shrink try n (everything n) ≡ x
-      → Tells N M w b catalogue (with-core K P x)
+      → Tells N M catalogue (with-core K P x)
   shrunk-tells e (Shrunk.stuck t why) q =
       let stuck = shrink-stuck try n (everything n) q in
       let r = stuck-part N M bs a (unsat-read N M (conjoined bs) e .1) stuck in
@@ -312,7 +253,7 @@ module _ (N M w b : ℕ) (catalogue : List ℕ) {bs : List (List ℕ)} {fs : Lis
       }
   shrunk-tells e (Shrunk.core s) q = core-clash e q
 
-  settled-tells : (v : Verdict) → decided N M (conjoined bs) ≡ v → Tells N M w b catalogue (settled N M bs v)
+  settled-tells : (v : Verdict) → decided N M (conjoined bs) ≡ v → Tells N M catalogue (settled N M bs v)
   settled-tells (Verdict.unread why) e = whole-refused (Verdict.unread why) tt e
   settled-tells (Verdict.refused code) e = whole-refused (Verdict.refused code) tt e
   settled-tells (Verdict.satisfiable stem cycle K m letters) e =
@@ -328,12 +269,13 @@ module _ (N M w b : ℕ) (catalogue : List ℕ) {bs : List (List ℕ)} {fs : Lis
   settled-tells (Verdict.unsatisfiable K P) e = shrunk-tells e (shrink try n (everything n)) refl
 
 -- Theorem: every outcome says what is so.
-pub joint-tells : (N M w b : ℕ) (catalogue : List ℕ) → Tells N M w b catalogue (joint N M w b catalogue)
+pub joint-tells : (N M w b : ℕ) (catalogue : List ℕ) → Tells N M catalogue (joint N M w b catalogue)
 joint-tells N M w b catalogue = by (joint-cases N M w b catalogue)
   where
-    by : {o : Joint} → Cases N M w b catalogue o → Tells N M w b catalogue o
-    by (Cases.damaged e) = Cases.damaged e
-    by (Cases.miscounted e c) = Cases.miscounted e c
-    by (Cases.unread h f) = Cases.unread h f
-    by (Cases.refused h a x y) = Cases.refused h a x y
+    by : {o : Joint} → Cases N M w b catalogue o → Tells N M catalogue o
+    by (Cases.damaged e) = e
+    by (Cases.miscounted m) = m
+    by (Cases.unread {bs = bs} h f) = (bs, h, f)
+    by (Cases.refused {bs = bs} {fs} h a x y) =
+        record { bytes = bs; formulas = fs; in-catalogue = h; accepted = a; from-11 = x; to-13 = y }
     by (Cases.settled bs h a l) = settled-tells N M w b catalogue h a l (decided N M (conjoined bs)) refl

@@ -21,11 +21,12 @@ use Rattle.joint.specs.Joint.{Subset, chosen, max-formulas, everything, 
 use Rattle.joint.specs.Joint.{gone-on, shrink, Joint, with-core, settled, concluded, ask-read, asked, formulas, of-records, joint}
 use Rattle.joint.specs.Inner.{check-on, checked}
 use Rattle.joint.specs.declared.Checked.the-variants.{Read}
+use Rattle.joint.specs.Meaning.{Has-formulas}
 use Rattle.joint.proofs.CheckLaws.{read-yes}
 use Rattle.joint.proofs.ShrinkLaws.{lends-decided}
 use Rattle.joint.proofs.ShrinkMeaning.{stuck-not-core}
 use Rattle.joint.proofs.AskedLaws.{joint-of, granted, room-joint}
-use Rattle.joint.proofs.Cases.{Has-formulas, Cases, joint-cases}
+use Rattle.joint.proofs.Cases.{Cases, joint-cases}
 
 -- MET or NOT
 abbrev pub Answers : Joint → Type 0
@@ -133,7 +134,7 @@ more-room-jointly N M w b N′ M′ w′ b′ catalogue n m l h = by (joint-case
   where
     by : {o : Joint} → Cases N M w b catalogue o → Answers o → joint N′ M′ w′ b′ catalogue ≡ o
     by (Cases.damaged e) h = absurd h
-    by (Cases.miscounted e c) h = absurd h
+    by (Cases.miscounted m) h = absurd h
     by (Cases.unread x f) h = absurd h
     by (Cases.refused x a y z) h = absurd h
     by (Cases.settled bs x a less) h =

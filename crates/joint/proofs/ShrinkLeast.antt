@@ -11,7 +11,8 @@ use lib.ListN.{length, getD, drop, replicate, length-set, length-drop}
 use lib.Seq.{drop-cons, drop-set-lt}
 use Rattle.base.specs.Bits.{word}
 use Rattle.joint.specs.Joint.{Subset, max-formulas, everything, without, Attempt, Shrunk, gone-on, shrink}
-use Rattle.joint.proofs.SubsetLaws.{Within, within-self, within-length}
+use Rattle.joint.specs.Meaning.{Within}
+use Rattle.joint.proofs.SubsetLaws.{within-self, within-length}
 use Rattle.joint.proofs.ShrinkMeaning.{core-same, stuck-not-core, left-out}
 
 -- ---- words

@@ -12,7 +12,8 @@ use lib.ListN.{getD}
 use borrow.Author.Tests.{eqb-true, eqb-false}
 use Rattle.decision.specs.Verdict.{Verdict}
 use Rattle.joint.specs.Joint.{Subset, without, Attempt, Shrunk, gone-on, shrink}
-use Rattle.joint.proofs.SubsetLaws.{Within, within-self, within-on, without-within, within-at}
+use Rattle.joint.specs.Meaning.{Within}
+use Rattle.joint.proofs.SubsetLaws.{within-self, within-on, without-within, within-at}
 
 pub core-same : {s t : Subset} → Shrunk.core s ≡ Shrunk.core t → s ≡ t
 core-same e = cc

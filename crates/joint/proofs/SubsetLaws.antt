@@ -9,6 +9,7 @@ use lib.ListN.{length, getD, set, replicate, length-append, length-replicate}
 use lib.Seq.{set-at}
 use Rattle.conjunction.specs.Conjunction.{Part}
 use Rattle.joint.specs.Joint.{Subset, chosen, max-formulas, everything, without}
+use Rattle.joint.specs.Meaning.{Within}
 
 -- ---- all of them
 pub everything-length : (n : ℕ) → n ≤ max-formulas → length (everything n) ≡ max-formulas
@@ -45,12 +46,6 @@ everything-more i l =
     ∙ ap (λ (m : ℕ). replicate m true ++ replicate (max-formulas - (i + 1)) false) {x = suc i} {y = i + 1} (omega arith)
 
 -- ---- larger and smaller
--- each position of the first is one of the second
-pub data Within : Subset → Subset → Type 0 where
-  none : Within [] []
-  both : {b : Bool} {s t : Subset} → Within s t → Within (b ∷ s) (b ∷ t)
-  fewer : {s t : Subset} → Within s t → Within (false ∷ s) (true ∷ t)
-
 pub within-self : (s : Subset) → Within s s
 within-self [] = Within.none
 within-self (b ∷ s) = Within.both (within-self s)

@@ -1,5 +1,5 @@
 -- Whether one lasso meets all formulas of a catalogue, and if none does, which of them clash: MEANING 10. What the outcomes mean is in
--- proofs/Meaning.antt and proofs/Minimal.antt. Assumes nothing.
+-- specs/Meaning.antt. Assumes nothing.
 use mathlib.Core.Bool.{Bool, true, false, cond}
 use mathlib.Core.List.{List, [], _∷_, _++_, map}
 use Prim.Native.Nat.{ℕ, zero, suc, _+_, _-_}

@@ -1,3 +1,4 @@
 pub mod Joint
 pub mod Contract
+pub mod Meaning
 pub mod Inner

@@ -22,7 +22,8 @@ ghost use Rattle.joint.specs.Inner.{Stands, Placed, checked, Readable};
 ghost use Rattle.joint.specs.Inner.{joined, joined-if, Put-bytes, Grown, Room, Conjoins};
 ghost use Rattle.joint.specs.Inner.{Clear, attempt-told, attempt-said, shrunk-told, core-said};
 
-// A subset of the formulas is a word here, bit i for the formula at position i.
+// What comes of a catalogue: 30, 34, a formula's refusal of reading, 11 to 13, 35, MET, NOT (MEANING 10.2, 10.3). A subset of the formulas
+// is a word here, bit i for the formula at position i.
 pub enum Joint {
     Damaged(usize),
     Miscounted,
