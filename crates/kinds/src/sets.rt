@@ -33,17 +33,18 @@ fn noted(answer: Joint, workspace: &[u8], letters: &[u16], shown: bool) {
 }
 
 fn told(answer: Joint, letters: &[u16]) {
+    let code = joint::code_of(answer);
     match answer {
-        Joint::Damaged(place) => say::refused_at(30, place),
-        Joint::Miscounted => say::refused(34),
+        Joint::Damaged(place) => say::refused_at(code, place),
+        Joint::Miscounted => say::refused(code),
         Joint::Unread { position, why } => {
             say::unread(why);
             say::put(b" of");
             say::number(b' ', position);
         }
-        Joint::Refused(code) => say::refused(code),
+        Joint::Refused(_) => say::refused(code),
         Joint::Untried(tried) => {
-            say::refused(35);
+            say::refused(code);
             positions(tried);
         }
         Joint::Satisfiable {
