@@ -1,15 +1,11 @@
 -- Parts of a list of formulas: a part of what reading accepts is accepted, and of what a lasso meets it meets. Assumes nothing.
-use mathlib.Core.Path.{_≡_, refl, sym, _∙_}
+use mathlib.Core.Path.{_≡_}
 use mathlib.Core.List.{List, [], _∷_}
 use Prim.Native.Nat.{ℕ}
 use Rattle.formula.specs.Formula.{Formula}
 use Rattle.formula.specs.Reading.{Reading}
 use Rattle.lasso.specs.Lasso.{Lasso}
 use Rattle.conjunction.specs.Conjunction.{Accepted, Meets-each, Part}
-
-pub part-self : {A : Type 0} (xs : List A) → Part xs xs
-part-self [] = Part.none
-part-self (x ∷ xs) = Part.keep (part-self xs)
 
 pub part-accepted : {cs bs : List (List ℕ)} {fs : List Formula} → Part cs bs → Accepted bs fs
     → (gs : List Formula) × Accepted cs gs × Part gs fs
@@ -24,13 +20,6 @@ part-accepted (Part.keep p) (Accepted.more {f = f} e a) =
 -- what is accepted is one formula
 pub accepted-same : {f g : Formula} → Reading.accepted f ≡ Reading.accepted g → f ≡ g
 accepted-same e = cc
-
-pub accepted-one : {bs : List (List ℕ)} {fs gs : List Formula} → Accepted bs fs → Accepted bs gs → fs ≡ gs
-accepted-one Accepted.none Accepted.none = refl
-accepted-one (Accepted.more d a) (Accepted.more e b) =
-    let first = accepted-same (sym d ∙ e) in
-    let rest = accepted-one a b in
-    λ i. first i ∷ rest i
 
 pub part-meets : {c : Lasso} {gs fs : List Formula} → Part gs fs → Meets-each c fs → Meets-each c gs
 part-meets Part.none Meets-each.none = Meets-each.none

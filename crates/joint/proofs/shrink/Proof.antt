@@ -1,7 +1,7 @@
 -- `joint::shrink`: what is left, with the positions still to come, comes to what the whole comes to; the workspace stays as it is.
 use mathlib.Core.Path.{_≡_, refl, sym, ap, subst, _∙_}
 use mathlib.Core.List.{List}
-use Prim.Native.Nat.{ℕ, _≤_}
+use Prim.Native.Nat.{ℕ, _-_, _≤_}
 use native.Mathlib.Omega.{arith}
 use lib.ListN.{length}
 use Rattle.joint.specs.Joint.{Subset, chosen, Attempt, attempted}
@@ -23,6 +23,11 @@ record Going (catalogue : List ℕ) (p : Places) (N M : ℕ) (workspace₀ works
     below : i ≤ p .count
     same : workspace ≡ workspace₀
     long : length letters ≡ 5120
+
+-- one position on
+onward : {catalogue : List ℕ} {p : Places} {N M : ℕ} {w₀ w w′ l l′ : List ℕ} {s t : Subset} {i : ℕ} → Going catalogue p N M w₀ w l s i
+    → Shrinking (try catalogue p N M) (p .count) (i - 1) t → w′ ≡ w → length l′ ≡ 5120 → Going catalogue p N M w₀ w′ l′ t (i - 1)
+onward g h e long = record { going = h; below = omega (arith, g .below); same = e ∙ g .same; long = long }
 
 abbrev Inv-loop : tie.InvT-loop
 Inv-loop catalogue p node-capacity profile-capacity workspace₀ letters₀ s₀ i₀ workspace letters s i =
@@ -88,14 +93,10 @@ loop-again c =
     let start = at-loop .before .before .before .before in
     let a = start .args in
     let inv = at-loop .loop .inv in
-    record {
-      going = shrinking-met (try (a .catalogue .now) (a .p) (a .node-capacity) (a .profile-capacity)) (a .p .count) (inv .going)
-          (omega arith)
-          (at-without .without .ensures) (at-attempted .attempted .ensures .0) (c .enum-told .given .1);
-      below = omega (arith, inv .below);
-      same = at-attempted .attempted .ensures .1 ∙ inv .same;
-      long = search (needs, inv .long);
-    }
+    onward inv
+    (shrinking-met (try (a .catalogue .now) (a .p) (a .node-capacity) (a .profile-capacity)) (a .p .count) (inv .going) (omega arith)
+    (at-without .without .ensures) (at-attempted .attempted .ensures .0) (c .enum-told .given .1))
+    (at-attempted .attempted .ensures .1) (search (needs, inv .long))
 
 enum-told-2 : tie.Need-enum-told-2 Inv-loop μ-loop
 enum-told-2 c = c .match .keys2
@@ -111,14 +112,10 @@ loop-again-2 c =
     let start = at-loop .before .before .before .before in
     let a = start .args in
     let inv = at-loop .loop .inv in
-    record {
-      going = shrinking-unmet (try (a .catalogue .now) (a .p) (a .node-capacity) (a .profile-capacity)) (a .p .count) (inv .going)
-          (omega arith)
-          (at-without .without .ensures) (at-attempted .attempted .ensures .0) (c .enum-told2 .given .1);
-      below = omega (arith, inv .below);
-      same = at-attempted .attempted .ensures .1 ∙ inv .same;
-      long = search (needs, inv .long);
-    }
+    onward inv
+    (shrinking-unmet (try (a .catalogue .now) (a .p) (a .node-capacity) (a .profile-capacity)) (a .p .count) (inv .going) (omega arith)
+    (at-without .without .ensures) (at-attempted .attempted .ensures .0) (c .enum-told2 .given .1))
+    (at-attempted .attempted .ensures .1) (search (needs, inv .long))
 
 enum-told-3 : tie.Need-enum-told-3 Inv-loop μ-loop
 enum-told-3 c = c .match .keys3
