@@ -38,7 +38,7 @@ impl Subset {
         self.0.count_ones() as usize
     }
 
-    /// Whether they are none. No answer has such a subset, since any course meets no rules at all.
+    /// Whether they are none. No answer has such a subset: of no rules every course meets all.
     pub fn is_empty(self) -> bool {
         self.0 == 0
     }
