@@ -24,10 +24,12 @@ use Rattle.conjunction.proofs.ReadLaws.{part-read}
 use Rattle.joint.specs.Joint.{Subset, chosen, everything, decided, Attempt, attempt-of, attempted, Shrunk, shrink, Joint, with-core}
 use Rattle.joint.specs.Joint.{settled, concluded}
 use Rattle.joint.specs.Contract.{says, leaves, cleared, Leaves}
-use Rattle.joint.specs.Inner.{shrunk-told, core-said}
+use Rattle.joint.specs.Inner.{held, Readable, shrunk-told, core-said}
+use Rattle.joint.specs.declared.Places.{Places}
 use Rattle.joint.specs.declared.Joint as code
 use Rattle.joint.specs.declared.Joint.the-variants.{Untried, Satisfiable}
 use Rattle.joint.specs.declared.Shrunk as code-shrunk
+use Rattle.joint.proofs.CheckLaws.{held-length}
 use Rattle.joint.proofs.SubsetLaws.{everything-chosen, within-part}
 use Rattle.joint.proofs.ShrinkLaws.{lends-decided}
 use Rattle.joint.proofs.ShrinkMeaning.{Stuck-at, shrink-stuck}
@@ -126,33 +128,51 @@ says-unsat (Verdict.satisfiable stem cycle K c letters) e = absurd (let z : _≡
 says-unsat (Verdict.unsatisfiable K P) e = cc
 
 -- ---- the outcome by the answer on all
-module _ (N M : ℕ) (bs : List (List ℕ)) {fs : List Formula} (accepted : Accepted bs fs) {w w′ b b′ : List ℕ} {v : code-verdict.Verdict}
-    (l : Lends N M (length w) (length b)) {n : ℕ} (counts : n ≡ length bs) {s : Subset} (all : s ≡ everything n)
-    (d : Decided (conjoined (chosen s bs)) N M w w′ b b′ v) where
+-- The conjunction of all formulas was decided, with this answer, from these areas to those.
+pub record All-decided (catalogue : List ℕ) (p : Places) (N M : ℕ) (w w′ b b′ : List ℕ) (v : code-verdict.Verdict) (s : Subset) : Type 0
+  where
+    pub readable : Readable catalogue p
+    pub lends : Lends N M (length w) (length b)
+    pub all : s ≡ everything (p .count)
+    pub decides : Decided (conjoined (chosen s (held catalogue p))) N M w w′ b b′ v
+
+pub all-decided : {catalogue : List ℕ} {p : Places} {N M : ℕ} {w w′ b b′ : List ℕ} {v : code-verdict.Verdict} {s : Subset}
+    → Readable catalogue p → Lends N M (length w) (length b) → s ≡ everything (p .count)
+    → Decided (conjoined (chosen s (held catalogue p))) N M w w′ b b′ v → All-decided catalogue p N M w w′ b b′ v s
+all-decided r l e d = record { readable = r; lends = l; all = e; decides = d }
+
+module _ {catalogue : List ℕ} {p : Places} {N M : ℕ} {w w′ b b′ : List ℕ} {v : code-verdict.Verdict} {s : Subset}
+    (h : All-decided catalogue p N M w w′ b b′ v s) where
+  abbrev bs : List (List ℕ)
+  bs = held catalogue p
+
+  counts : p .count ≡ length bs
+  counts = sym (held-length catalogue p)
+
   every : s ≡ everything (length bs)
-  every = all ∙ ap everything counts
+  every = h .all ∙ ap everything counts
 
   abbrev whole : Verdict
   whole = decided N M (conjoined bs)
 
   given : verdict N M (length w) (length b) (conjoined (chosen s bs)) ≡ whole
   given =
-      lends-decided N M (conjoined (chosen s bs)) l
+      lends-decided N M (conjoined (chosen s bs)) (h .lends)
       ∙ ap (λ (t : Subset). decided N M (conjoined (chosen t bs))) every
       ∙ ap (λ (cs : List (List ℕ)). decided N M (conjoined cs)) (everything-chosen bs)
 
   answer-is : decision.says whole ≡ v
-  answer-is = sym (d .answered ∙ ap decision.says given)
+  answer-is = sym (h .decides .answered ∙ ap decision.says given)
 
   buffer-is : {x : Verdict} → whole ≡ x → b′ ≡ decision.leaves x b
-  buffer-is e = d .buffered ∙ ap (λ (x : Verdict). decision.leaves x b) (given ∙ e)
+  buffer-is e = h .decides .buffered ∙ ap (λ (x : Verdict). decision.leaves x b) (given ∙ e)
 
   workspace-is : {x : Verdict} → whole ≡ x → w′ ≡ decision.cleared N M x w
-  workspace-is e = d .worked ∙ ap (λ (x : Verdict). decision.cleared N M x w) (given ∙ e)
+  workspace-is e = h .decides .worked ∙ ap (λ (x : Verdict). decision.cleared N M x w) (given ∙ e)
 
   by-verdict : {x : Verdict} {w₂ : List ℕ} {r : code.Joint} → whole ≡ x → Leaves N M (settled N M bs x) w w₂ b b′ r
       → Leaves N M (concluded N M bs) w w₂ b b′ r
-  by-verdict {w₂ = w₂} {r} e h = subst (λ (x : Verdict). Leaves N M (settled N M bs x) w w₂ b b′ r) (sym e) h
+  by-verdict {w₂ = w₂} {r} e q = subst (λ (x : Verdict). Leaves N M (settled N M bs x) w w₂ b b′ r) (sym e) q
 
   pub conclude-unread : {why : Refusal} {x : ℕ} → v ≡ answer.Unread why → x ≡ word s
       → Leaves N M (concluded N M bs) w w′ b b′ (Untried x)
@@ -176,13 +196,14 @@ module _ (N M : ℕ) (bs : List (List ℕ)) {fs : List Formula} (accepted : Acce
   unmet-workspace e = workspace-is (says-unsat whole (answer-is ∙ e))
 
   pub conclude-unmet : {K P : ℕ} {w₂ : List ℕ} {x : code-shrunk.Shrunk} {r : code.Joint} → v ≡ answer.Unsatisfiable K P → w₂ ≡ w′
-      → x ≡ shrunk-told (shrink (λ s. attempted N M (chosen s bs)) n (everything n)) → r ≡ core-said K P x
+      → x ≡ shrunk-told (shrink (λ t. attempted N M (chosen t bs)) (p .count) (everything (p .count))) → r ≡ core-said K P x
       → Leaves N M (concluded N M bs) w w₂ b b′ r
   conclude-unmet {K} {P} {w₂} {x} {r} e kept shrunk said =
       let is = says-unsat whole (answer-is ∙ e) in
       let read = unsat-read N M (conjoined bs) is .1 in
       let try : Subset → Attempt = λ t. attempted N M (chosen t bs) in
-      let left = unmet-leaves N M bs accepted read K P {w = w} {b = b} (shrink try (length bs) (everything (length bs))) refl in
+      let left = unmet-leaves N M bs (h .readable .accepted) read K P {w = w} {b = b} (shrink try (length bs) (everything (length bs)))
+      refl in
       by-verdict is (record {
         answered =
             said ∙ ap (core-said K P) (shrunk ∙ ap (λ (k : ℕ). shrunk-told (shrink try k (everything k))) counts)

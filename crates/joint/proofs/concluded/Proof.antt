@@ -1,10 +1,9 @@
 -- `joint::concluded`: the verdict on all settles the outcome, or leaving out does, over the cleared workspace.
 use mathlib.Core.Path.{refl, sym, ap, subst, _∙_}
 use lib.ListN.{length}
-use Rattle.joint.specs.Inner.{held, Clear}
-use Rattle.joint.proofs.CheckLaws.{held-length}
+use Rattle.joint.specs.Inner.{Clear}
 use Rattle.joint.proofs.ShrinkLaws.{lends-same, lends-own, zeroed-length, zeroed-clear}
-use Rattle.joint.proofs.ConcludeLaws.{conclude-unread, conclude-refused, conclude-met, unmet-workspace, conclude-unmet}
+use Rattle.joint.proofs.ConcludeLaws.{all-decided, conclude-unread, conclude-refused, conclude-met, unmet-workspace, conclude-unmet}
 use borrow.Author.Needs.{needs}
 use Rattle.joint.proofs.concluded.Statement.{statement}
 use Rattle.joint.proofs.concluded.Tie as tie
@@ -43,12 +42,9 @@ shrink-requires c κs =
     let at-decided-some = at-v .before .before .before .before .before .before in
     let at-everything = at-decided-some .before .before .before in
     let start = at-everything .before .before .before .before in
+    let whole = all-decided (start .pre .0) (start .pre .1) (at-everything .everything .ensures) (at-decided-some .decided-some .ensures) in
     let a = start .args in
-    let bs = held (a .catalogue .now) (a .p) in
-    let counts = sym (held-length (a .catalogue .now) (a .p)) in
-    let all = at-everything .everything .ensures in
-    let d = at-decided-some .decided-some .ensures in
-    let cleared = unmet-workspace (a .node-capacity) (a .profile-capacity) bs (start .pre .0 .accepted) (start .pre .1) counts all d
+    let cleared = unmet-workspace whole
     (at-v .v2 .given .1) in (
       start .pre .0,
       (
@@ -72,13 +68,8 @@ returns c =
     let at-decided-some = c .before .before .before .before .before .before .before in
     let at-everything = at-decided-some .before .before .before in
     let start = at-everything .before .before .before .before in
-    let a = start .args in
-    let bs = held (a .catalogue .now) (a .p) in
-    let counts = sym (held-length (a .catalogue .now) (a .p)) in
-    let all = at-everything .everything .ensures in
-    let d = at-decided-some .decided-some .ensures in
-    conclude-unread (a .node-capacity) (a .profile-capacity) bs (start .pre .0 .accepted) (start .pre .1) counts all d
-    (c .before .enum-told .given .1) (c .word-of .ensures)
+    let whole = all-decided (start .pre .0) (start .pre .1) (at-everything .everything .ensures) (at-decided-some .decided-some .ensures) in
+    conclude-unread whole (c .before .enum-told .given .1) (c .word-of .ensures)
 
 same-length-3 : tie.Need-same-length-3
 same-length-3 c = search needs
@@ -91,13 +82,8 @@ returns-2 c =
     let at-decided-some = c .before .before .before .before .before .before .before in
     let at-everything = at-decided-some .before .before .before in
     let start = at-everything .before .before .before .before in
-    let a = start .args in
-    let bs = held (a .catalogue .now) (a .p) in
-    let counts = sym (held-length (a .catalogue .now) (a .p)) in
-    let all = at-everything .everything .ensures in
-    let d = at-decided-some .decided-some .ensures in
-    conclude-refused (a .node-capacity) (a .profile-capacity) bs (start .pre .0 .accepted) (start .pre .1) counts all d
-    (c .before .enum-told2 .given .1) (c .word-of2 .ensures)
+    let whole = all-decided (start .pre .0) (start .pre .1) (at-everything .everything .ensures) (at-decided-some .decided-some .ensures) in
+    conclude-refused whole (c .before .enum-told2 .given .1) (c .word-of2 .ensures)
 
 same-length-5 : tie.Need-same-length-5
 same-length-5 c = search needs
@@ -110,12 +96,8 @@ returns-3 c =
     let at-decided-some = c .before .before .before .before .before .before .before in
     let at-everything = at-decided-some .before .before .before in
     let start = at-everything .before .before .before .before in
-    let a = start .args in
-    let bs = held (a .catalogue .now) (a .p) in
-    let counts = sym (held-length (a .catalogue .now) (a .p)) in
-    let all = at-everything .everything .ensures in
-    let d = at-decided-some .decided-some .ensures in
-    conclude-met (a .node-capacity) (a .profile-capacity) bs (start .pre .0 .accepted) (start .pre .1) counts all d (c .before .v .given .1)
+    let whole = all-decided (start .pre .0) (start .pre .1) (at-everything .everything .ensures) (at-decided-some .decided-some .ensures) in
+    conclude-met whole (c .before .v .given .1)
 
 same-length-7 : tie.Need-same-length-7
 same-length-7 c = search needs
@@ -130,13 +112,8 @@ returns-4 c =
     let at-decided-some = at-v .before .before .before .before .before .before in
     let at-everything = at-decided-some .before .before .before in
     let start = at-everything .before .before .before .before in
-    let a = start .args in
-    let bs = held (a .catalogue .now) (a .p) in
-    let counts = sym (held-length (a .catalogue .now) (a .p)) in
-    let all = at-everything .everything .ensures in
-    let d = at-decided-some .decided-some .ensures in
-    conclude-unmet (a .node-capacity) (a .profile-capacity) bs (start .pre .0 .accepted) (start .pre .1) counts all d (at-v .v2 .given .1)
-    (at-shrink .shrink .ensures .1) (at-shrink .shrink .ensures .0) (c .with-core .ensures)
+    let whole = all-decided (start .pre .0) (start .pre .1) (at-everything .everything .ensures) (at-decided-some .decided-some .ensures) in
+    conclude-unmet whole (at-v .v2 .given .1) (at-shrink .shrink .ensures .1) (at-shrink .shrink .ensures .0) (c .with-core .ensures)
 
 pub concluded-spec : {M : Type 1} → statement M
 concluded-spec =
