@@ -11,7 +11,7 @@ pub mod Spelling
 pub mod NamedBinder
 pub mod Early
 pub mod Limits
-pub mod Closed
+pub mod Measure
 pub mod Guarded
 pub mod Reread
 pub mod WellFormed

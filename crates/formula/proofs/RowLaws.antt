@@ -15,6 +15,7 @@ use Rattle.formula.specs.Reading.{Reading, parse, with-entries, reading}
 use Rattle.formula.specs.Rows.{length-at, operator-at, end-at, operators-of, lengths-of, ends-of, entries-of}
 use Rattle.formula.specs.Rows.{reading-by, reading-of}
 use Rattle.formula.specs.declared.Table.{Table}
+use Rattle.formula.specs.declared.Outcome.{Outcome}
 use Rattle.formula.specs.declared.Outcome.the-variants.{Accepted, Refused}
 use Rattle.formula.specs.declared.Refusal.{Refusal}
 use Rattle.formula.specs.declared.Reading as code
@@ -57,33 +58,48 @@ pub record Holds-formula (bytes : List ℕ) (t : Table) : Type 0 where
   pub operators : operators-of (t .rows) 0 (t .count) ≡ table formula
   pub ends : ends-of (t .rows) 0 (t .count) ≡ ends-from 0 formula
 
--- what a caller of reading has after an accepted outcome
-pub reading-held : (bytes : List ℕ) (r : code.Reading) → reading-of r ≡ reading bytes → r .outcome ≡ Accepted
-    → Holds-formula bytes (r .table)
-unfolding reading table
-reading-held bytes r e a = by (parse bytes) refl (sym e ∙ ap (λ o. reading-by o (r .table)) a)
-  where
-    by : (x : Reading Formula) → parse bytes ≡ x → with-entries x ≡ Reading.accepted (entries-of (r .table))
-        → Holds-formula bytes (r .table)
-    by (Reading.refused why) q e = absurd (let z : _≡_ {A = ℕ} 0 1 = cc in omega arith)
-    by (Reading.accepted f) q e =
-        let same : entries f ≡ entries-of (r .table) = cc in
-        record {
-          formula = f;
-          parsed = q;
-          operators = sym (ap (λ (x : Entries). x .operators) same);
-          ends = ends-read (r .table .rows) (r .table .count) f (sym (ap (λ (x : Entries). x .lengths) same));
-        }
-
--- and after a refusal: what the code refuses the definition refuses
-pub reading-refused : (bytes : List ℕ) (r : code.Reading) {why : Refusal} → reading-of r ≡ reading bytes → r .outcome ≡ Refused why
-    → parse bytes ≡ Reading.refused why
+-- what reading accepts is a formula, with its subformulas
+pub reading-parsed : (bytes : List ℕ) {x : Entries} → reading bytes ≡ Reading.accepted x
+    → (f : Formula) × (parse bytes ≡ Reading.accepted f) × (entries f ≡ x)
 unfolding reading
-reading-refused bytes r {why} e a = by (parse bytes) (sym e ∙ ap (λ o. reading-by o (r .table)) a)
+reading-parsed bytes {x} e = by (parse bytes) refl e
+  where
+    by : (p : Reading Formula) → parse bytes ≡ p → with-entries p ≡ Reading.accepted x
+        → (f : Formula) × (parse bytes ≡ Reading.accepted f) × (entries f ≡ x)
+    by (Reading.refused why) q e = absurd (let z : _≡_ {A = ℕ} 0 1 = cc in omega arith)
+    by (Reading.accepted f) q e = (f, q, cc)
+
+-- what it refuses is none
+pub reading-unread : (bytes : List ℕ) {why : Refusal} → reading bytes ≡ Reading.refused why → parse bytes ≡ Reading.refused why
+unfolding reading
+reading-unread bytes {why} e = by (parse bytes) e
   where
     by : (x : Reading Formula) → with-entries x ≡ Reading.refused why → x ≡ Reading.refused why
     by (Reading.refused w) q = cc
     by (Reading.accepted f) q = absurd (let z : _≡_ {A = ℕ} 0 1 = cc in omega arith)
+
+-- the outcome of the code is the definition's
+pub outcome-told : (bytes : List ℕ) (r : code.Reading) {o : Outcome} → reading-of r ≡ reading bytes → r .outcome ≡ o
+    → reading bytes ≡ reading-by o (r .table)
+outcome-told bytes r e a = sym e ∙ ap (λ o. reading-by o (r .table)) a
+
+-- what a caller of reading has after an accepted outcome
+pub reading-held : (bytes : List ℕ) (r : code.Reading) → reading-of r ≡ reading bytes → r .outcome ≡ Accepted
+    → Holds-formula bytes (r .table)
+unfolding table
+reading-held bytes r e a =
+    let p = reading-parsed bytes (outcome-told bytes r e a) in
+    record {
+      formula = p .0;
+      parsed = p .1;
+      operators = sym (ap (λ (x : Entries). x .operators) (p .2));
+      ends = ends-read (r .table .rows) (r .table .count) (p .0) (sym (ap (λ (x : Entries). x .lengths) (p .2)));
+    }
+
+-- and after a refusal: what the code refuses the definition refuses
+pub reading-refused : (bytes : List ℕ) (r : code.Reading) {why : Refusal} → reading-of r ≡ reading bytes → r .outcome ≡ Refused why
+    → parse bytes ≡ Reading.refused why
+reading-refused bytes r e a = reading-unread bytes (outcome-told bytes r e a)
 
 module _ {bytes : List ℕ} {t : Table} (h : Holds-formula bytes t) where
   pub held-count : t .count ≡ size (h .formula)

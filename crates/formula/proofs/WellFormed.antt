@@ -17,7 +17,6 @@ use Rattle.formula.specs.Table.{Operator, Table, table-from, table, ends
 use Rattle.formula.specs.Reading.{Reading, parse}
 use Rattle.formula.specs.Occurrence as specs
 use Rattle.formula.specs.Occurrence.{Listed-from, nothing, Guards, Guarded, Ranged}
-use Rattle.formula.proofs.Closed.{length-table}
 use Rattle.formula.proofs.Limits.{size-some, parse-limited}
 use Rattle.formula.proofs.Guarded.{parse-guarded}
 
@@ -38,6 +37,20 @@ module _ {A : Type 0} {d : A} {s : ℕ → A} {e : ℕ} where
             let p : e + n + i ≡ e + (length a + i) = omega arith in
             rw p (h .at (length a + i) (omega (arith, length-append a b)) ∙ getD-append-add a b i d);
       }
+
+-- a table has as many operators, ends and lengths as the formula's size says
+pub length-table : (e : ℕ) (binders : List ℕ) (f : Formula) → length (table-from e binders f) ≡ size f
+length-table e bs (Formula.leaf l) = refl
+length-table e bs (Formula.variable d) = refl
+length-table e bs (Formula.pair o a b) =
+    omega (
+      arith,
+      length-append (table-from (e + 1) bs a) (table-from (e + 1 + size a) bs b),
+      length-table (e + 1) bs a,
+      length-table (e + 1 + size a) bs b,
+    )
+length-table e bs (Formula.next a) = omega (arith, length-table (e + 1) bs a)
+length-table e bs (Formula.fix g a) = omega (arith, length-table (e + 1) (e ∷ bs) a)
 
 pub length-ends : (e : ℕ) (f : Formula) → length (ends-from e f) ≡ size f
 length-ends e (Formula.leaf l) = refl

@@ -4,7 +4,7 @@
 use mathlib.Core.Path.{_≡_}
 use mathlib.Core.Bool.{Bool, true, false}
 use mathlib.Core.List.{List, _∷_, map}
-use Prim.Native.Nat.{ℕ, _+_, _≤_, _<_}
+use Prim.Native.Nat.{ℕ, suc, _+_, _≤_, _<_}
 use lib.Dec.{T}
 use lib.ListN.{length, getD}
 use Rattle.formula.specs.Formula.{Leaf, Formula, size}
@@ -29,6 +29,14 @@ Guarded guards (Formula.variable d) = (d < length guards) × T (getD guards d fa
 Guarded guards (Formula.pair o a b) = Guarded guards a × Guarded guards b
 Guarded guards (Formula.next a) = Guarded (map (λ _. true) guards) a
 Guarded guards (Formula.fix g a) = Guarded (false ∷ guards) a
+
+-- Closed (question 7): each variable names one of m fixpoints around, or one inside. By itself a formula is closed with none around.
+abbrev pub Closed : (m : ℕ) → Formula → Type 0
+Closed m (Formula.leaf l) = Unit {0}
+Closed m (Formula.variable d) = d < m
+Closed m (Formula.pair o a b) = Closed m a × Closed m b
+Closed m (Formula.next a) = Closed m a
+Closed m (Formula.fix g a) = Closed (suc m) a
 
 -- signals are 0 to 15 (question 6)
 abbrev pub Ranged : Formula → Type 0

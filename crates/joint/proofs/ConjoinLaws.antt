@@ -6,13 +6,11 @@ use mathlib.Core.Bool.{Bool, true, false, cond}
 use mathlib.Core.List.{List, [], _∷_, _++_, append-nil}
 use Prim.Native.Nat.{ℕ, zero, suc, _+_, _-_, _*_, _≤_, _<_}
 use native.Mathlib.Omega.{arith}
-use lib.ListN.{length, getD, take, drop, set, length-set, length-append, length-drop, drop-of-length-le}
+use lib.ListN.{length, getD, take, drop, set, length-set, length-drop, drop-of-length-le}
 use lib.Seq.{take-all, drop-length, drop-cons, getD-set-same, drop-set-lt}
-use Rattle.formula.specs.Formula.{Leaf, Formula, size}
-use Rattle.formula.specs.Reading.{Opcode, byte-of, Reading, parse}
-use Rattle.formula.specs.Ways.{spelled}
-use Rattle.formula.proofs.Spelling.{parse-spelled}
-use Rattle.formula.proofs.Limits.{parse-limited}
+use Rattle.formula.specs.Formula.{Formula}
+use Rattle.formula.specs.Reading.{Opcode, byte-of}
+use Rattle.formula.proofs.Measure.{accepted-length}
 use Rattle.conjunction.specs.Conjunction.{conjoined, Accepted}
 use Rattle.joint.specs.Joint.{Subset, chosen}
 use Rattle.joint.specs.Inner.{joined, joined-if, Put-bytes, Grown, Conjoins}
@@ -107,22 +105,7 @@ pub grown-not : (at : ℕ) (h : List ℕ) {taken : Bool} (out : List ℕ) → ta
 grown-not at h out t =
     record { is = sym (ap (λ (x : Bool). joined-if x h (drop at out)) t); before = omega arith; near = omega arith; long = refl }
 
--- ---- how long a formula is
-spelled-length : (f : Formula) → (0 < length (spelled f)) × (length (spelled f) ≤ 2 * size f)
-spelled-length (Formula.leaf (Leaf.constant b)) = (omega arith, omega arith)
-spelled-length (Formula.leaf (Leaf.signal present s)) = (omega arith, omega arith)
-spelled-length (Formula.variable d) = (omega arith, omega arith)
-spelled-length (Formula.pair o a b) =
-    (omega arith, omega (arith, spelled-length a .1, spelled-length b .1, length-append (spelled a) (spelled b)))
-spelled-length (Formula.next a) = (omega arith, omega (arith, spelled-length a .1))
-spelled-length (Formula.fix g a) = (omega arith, omega (arith, spelled-length a .1))
-
-pub accepted-length : (b : List ℕ) {f : Formula} → parse b ≡ Reading.accepted f → (0 < length b) × (length b ≤ 96)
-accepted-length b {f} e =
-    let n = spelled-length f in
-    let same = ap length (parse-spelled b f e) in
-    (omega (arith, n .0, same), omega (arith, n .1, same, parse-limited b f e .commands))
-
+-- ---- how long formulas are
 -- each of several has 1 to 96 bytes
 abbrev pub Sized : List (List ℕ) → Type 0
 Sized [] = Unit {0}

@@ -15,8 +15,7 @@ use Rattle.base.proofs.NumberLaws.{values-same}
 use Rattle.formula.specs.Formula.{Formula, size}
 use Rattle.formula.specs.Rows.{operator-at, end-at}
 use Rattle.lasso.specs.Lasso.{Lasso, Positions, combine, before, holds, sets}
-use Rattle.formula.specs.Occurrence.{Guards}
-use Rattle.formula.proofs.Closed.{Closed}
+use Rattle.formula.specs.Occurrence.{Guards, Closed}
 use Rattle.formula.proofs.Limits.{size-some}
 use Rattle.formula.proofs.WellFormed.{sits-first}
 use Rattle.lasso.specs.Inner.{Formula-in-rows, Formula-at, outside-of, Alone, Shut, column, columns, Columns-kept, Closed-known}

@@ -17,11 +17,10 @@ use Rattle.base.proofs.Inside.{inside-at}
 use Rattle.formula.specs.Formula.{Formula, size}
 use Rattle.formula.specs.Table.{Operator, table-from}
 use Rattle.formula.specs.Rows.{operator-at, end-at}
-use Rattle.formula.specs.Occurrence.{Guards, nothing}
-use Rattle.formula.proofs.Closed.{Closed, length-table}
+use Rattle.formula.specs.Occurrence.{Guards, Closed, nothing}
 use Rattle.formula.proofs.Guarded.{guarded-closed}
 use Rattle.formula.proofs.Limits.{size-some}
-use Rattle.formula.proofs.WellFormed.{Operands, located, occurs-shaped, occurs-nested}
+use Rattle.formula.proofs.WellFormed.{length-table, Operands, located, occurs-shaped, occurs-nested}
 use Rattle.lasso.specs.Lasso.{Lasso, Positions, holds, sets}
 use Rattle.lasso.specs.Inner.{said, Formula-in-rows, Words-room, Shut, Open, Movable, column, columns, Closed-known, Bits-filled}
 use Rattle.lasso.specs.Inner.{Names, Moves}

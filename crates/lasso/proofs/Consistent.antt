@@ -17,7 +17,8 @@ use Rattle.base.proofs.WordLaws.{word-bit}
 use Rattle.base.proofs.ListLaws.{Each, each-append, each-left, each-right, each-at, each-of, getD-map, length-range, getD-range}
 use Rattle.formula.specs.Formula.{Leaf, Formula, size}
 use Rattle.formula.specs.Table.{Operator, table-from, table}
-use Rattle.formula.proofs.Closed.{Closed, length-table}
+use Rattle.formula.specs.Occurrence.{Closed}
+use Rattle.formula.proofs.WellFormed.{length-table}
 use Rattle.lasso.specs.Lasso.{Lasso, Positions, leaf-at, joined, combine, before, holds, sets, label, labelling}
 use Rattle.lasso.proofs.Monotone.{span, Sets-sized, length-holds}
 use Rattle.lasso.proofs.Fixpoint.{fixed}

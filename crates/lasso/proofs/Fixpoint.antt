@@ -14,7 +14,7 @@ use Rattle.base.specs.Sets.{Inside, Toward}
 use Rattle.base.proofs.ListLaws.{iterate-add, iterate-stays, iterate-keeps}
 use Rattle.base.proofs.Inside.{inside-iterate, toward-mono, toward-start, waiting-le, rests, passes-none}
 use Rattle.formula.specs.Formula.{Formula}
-use Rattle.formula.proofs.Closed.{Closed}
+use Rattle.formula.specs.Occurrence.{Closed}
 use Rattle.lasso.specs.Lasso.{Lasso, Positions, holds}
 use Rattle.lasso.proofs.Monotone.{span, Sets-within, within-refl, monotone, Sets-sized, length-holds}
 

@@ -11,7 +11,7 @@ use Rattle.base.proofs.ListLaws.{iterate-keeps}
 use Rattle.base.specs.Sets.{Below, Inside}
 use Rattle.base.proofs.Inside.{below-least, below-greatest, inside-at, inside-refl, inside-append, inside-tail, inside-iterate}
 use Rattle.formula.specs.Formula.{Formula}
-use Rattle.formula.proofs.Closed.{Closed}
+use Rattle.formula.specs.Occurrence.{Closed}
 use Rattle.lasso.specs.Lasso.{Lasso, Positions, leaf-at, joined, combine, before, holds, sets}
 
 -- how many positions a lasso has
