@@ -16,10 +16,13 @@ use Rattle.formula.specs.declared.Refusal.the-variants.{AtByte, Unguarded}
 use Rattle.formula.proofs.Fuel.{Stopped, parse-stopped}
 use Rattle.formula.proofs.Early.{parse-early}
 use Rattle.joint.specs.declared.Joint.the-variants.{Unread, Untried, Unsatisfiable}
+use Rattle.substitution.specs.declared.Source.{Source}
+use Rattle.substitution.specs.declared.Answer.the-variants as substitution
 use Rattle.catalogue.specs.Contract.{code, layer-told}
 use Rattle.catalogue.specs.declared.Location.{Location}
 use Rattle.catalogue.specs.declared.Location.the-variants.{Found, Damaged, Missing}
 use Rattle.yuktrob_c.specs.Numbers.{number, refusal-number, found, location-number, joint-number, Letters-16, Early}
+use Rattle.yuktrob_c.specs.Numbers.{source-number, edit-number}
 use Rattle.yuktrob_c.proofs.JointFit.{refusal-small}
 use Rattle.yuktrob_c.specs.Entry.{argument-of, packed}
 
@@ -82,15 +85,41 @@ refusal-apart bytes why e =
     subst (λ (n : ℕ). RefusalApart n why) {x = refusal-number why + 16777216 * 0} {y = refusal-number why} (omega arith)
     (apart-by why 0 (parse-stopped bytes e) (parse-early bytes why e))
 
--- Theorem: so is that of a formula of a catalogue, with its position, by yuktrob_position: a shift by 24 bits.
-pub unread-apart : (bytes : List ℕ) (why : Refusal) → parse bytes ≡ Reading.refused why → (position : ℕ)
-    → RefusalApart (joint-number (Unread position why)) why × (joint-number (Unread position why) / 16777216 ≡ position)
-unread-apart bytes why e position =
+-- and so it is if something stands above it, which a shift by 24 bits gives
+above-apart : (bytes : List ℕ) (why : Refusal) → parse bytes ≡ Reading.refused why → (above : ℕ)
+    → RefusalApart (refusal-number why + 16777216 * above) why × ((refusal-number why + 16777216 * above) / 16777216 ≡ above)
+above-apart bytes why e above =
     let stopped = parse-stopped bytes e in
     let early = parse-early bytes why e in (
-      apart-by why position stopped early,
-      high (refusal-number why) 16777216 position (refusal-small why (stopped .known) early),
+      apart-by why above stopped early,
+      high (refusal-number why) 16777216 above (refusal-small why (stopped .known) early),
     )
+
+-- Theorem: so is that of a formula of a catalogue, with its position, by yuktrob_position.
+pub unread-apart : (bytes : List ℕ) (why : Refusal) → parse bytes ≡ Reading.refused why → (position : ℕ)
+    → RefusalApart (joint-number (Unread position why)) why × (joint-number (Unread position why) / 16777216 ≡ position)
+unread-apart = above-apart
+
+-- Theorem: so is that of a substitution, with which bytes it is about, by yuktrob_source.
+pub source-apart : (bytes : List ℕ) (why : Refusal) → parse bytes ≡ Reading.refused why → (count : ℕ) (source : Source)
+    → RefusalApart (edit-number count (substitution.Unread source why)) why
+    × (edit-number count (substitution.Unread source why) / 16777216 ≡ source-number source)
+source-apart bytes why e count source = above-apart bytes why e (source-number source)
+
+-- Theorem: a substitution that is done is taken apart by yuktrob_edited_len and yuktrob_edited_count: shifts by 8 and 16 bits.
+pub record EditApart (n long count : ℕ) : Type 0 where
+  pub refusal : n % 256 ≡ 0
+  pub long-is : n / 256 % 256 ≡ long
+  pub count-is : n / 65536 % 256 ≡ count
+
+pub edit-apart : (long count : ℕ) → long ≤ 97 → count ≤ 48 → EditApart (edit-number count (substitution.Substituted long)) long count
+edit-apart long count l c =
+    let n = edit-number count (substitution.Substituted long) in
+    record {
+      refusal = low 0 256 (long + 256 * count) (omega arith);
+      long-is = part n 0 256 long 256 count (omega arith) (omega arith) (omega arith);
+      count-is = part n (256 * long) 65536 count 256 0 (omega arith) (omega arith) (omega arith);
+    }
 
 -- Theorem: 35 is taken apart by yuktrob_refusal and yuktrob_tried, a core by yuktrob_clash: shifts by 8 and 9 bits.
 pub tried-apart : (s : ℕ) → s < 256 → (joint-number (Untried s) % 256 ≡ 35) × (joint-number (Untried s) / 256 % 256 ≡ s)

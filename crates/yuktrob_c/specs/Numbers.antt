@@ -1,5 +1,5 @@
--- The number that stands for each answer: its lowest byte is the number of a refusal (MEANING 1.4, 2.5, 5.2, 5.11, 5.12, 5.14, 9.3, 10.2),
--- or 0, and what the answer carries stands above it. include/yuktrob.h says the same in C. Assumes nothing.
+-- The number that stands for each answer: its lowest byte is the number of a refusal (MEANING 1.4, 2.5, 5.2, 5.11, 5.12, 5.14, 9.3, 10.2,
+-- 11.3), or 0, and what the answer carries stands above it. include/yuktrob.h says the same in C. Assumes nothing.
 use mathlib.Core.Bool.{cond}
 use mathlib.Core.List.{List}
 use mathlib.Core.Option.{Option, none, some}
@@ -28,6 +28,10 @@ use Rattle.joint.specs.Joint.{max-formulas}
 use Rattle.joint.specs.Contract.{number-of}
 use Rattle.joint.specs.declared.Joint as joint-code
 use Rattle.joint.specs.declared.Joint.the-variants as joint
+use Rattle.substitution.specs.declared.Source.{Source}
+use Rattle.substitution.specs.declared.Source.the-variants.{Old, New, Spliced}
+use Rattle.substitution.specs.declared.Answer.{Answer}
+use Rattle.substitution.specs.declared.Answer.the-variants as substitution
 use Rattle.catalogue.specs.declared.Location.{Location}
 use Rattle.catalogue.specs.Contract.{code, layer-told}
 
@@ -96,6 +100,19 @@ joint-number (joint.Untried s) = number (number-of (joint.Untried s)) s
 joint-number (joint.Satisfiable stem cycle K c) = number 0 (found 1 stem cycle K c)
 joint-number (joint.Unsatisfiable K P core) = number 0 (found 0 core 0 K P)
 
+-- which bytes a refusal is about, as a number
+abbrev pub source-number : Source → ℕ
+source-number Old = 0
+source-number New = 1
+source-number Spliced = 2
+
+-- A substitution: how many bytes there are now, and above 8 bits for them how many subformulas. A refusal of reading has above its 24 bits
+-- which bytes it is about, and 37 carries nothing.
+abbrev pub edit-number : (count : ℕ) → Answer → ℕ
+edit-number count (substitution.Unread source why) = refusal-number why + 16777216 * source-number source
+edit-number count substitution.Missing = number 37 0
+edit-number count (substitution.Substituted long) = number 0 (long + 256 * count)
+
 -- the definition's verdict, by the formula's bytes, the capacities and the lent areas
 abbrev pub verdict-of : (bytes : List ℕ) (N M : ℕ) (workspace buffer : List ℕ) → meaning.Verdict
 verdict-of bytes N M workspace buffer = verdict N M (length workspace) (length buffer) bytes
@@ -163,3 +180,9 @@ JointFits (joint.Refused code) = Unit {0}
 JointFits (joint.Untried s) = Unit {0}
 JointFits (joint.Satisfiable stem cycle K c) = Letters-16 stem cycle K c
 JointFits (joint.Unsatisfiable K P core) = Letters-16 core 0 K P
+
+-- and of a substitution, which has at most 97 bytes
+abbrev pub EditFits : Answer → Type 0
+EditFits (substitution.Unread source why) = (code-of why ≤ 9) × Early why
+EditFits substitution.Missing = Unit {0}
+EditFits (substitution.Substituted long) = long ≤ 97

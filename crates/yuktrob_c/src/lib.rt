@@ -10,6 +10,8 @@ use formula::Subformula;
 use formula::Table;
 use joint::Joint;
 use lasso::Truth;
+use substitution::Answer;
+use substitution::Source;
 ghost use mathlib.Core.Path.{_≡_};
 ghost use Prim.Native.Nat.{_≤_, _<_};
 ghost use lib.ListN.{length};
@@ -29,6 +31,9 @@ ghost use Rattle.yuktrob_c.specs.Entry.{argument-of, packed, entry-numbe
 ghost use Rattle.catalogue.specs.Location.{location};
 ghost use Rattle.catalogue.specs.Contract.{place-told, size-told};
 ghost use Rattle.yuktrob_c.specs.Numbers.{location-number};
+ghost use Rattle.substitution.specs.Substitution.{substitution};
+ghost use Rattle.substitution.specs.Contract as edited;
+ghost use Rattle.yuktrob_c.specs.Numbers.{source-number, edit-number, EditFits};
 ghost use Rattle.joint.specs.Contract as joined;
 ghost use Rattle.yuktrob_c.specs.Numbers.{joint-number, joint-of, JointFits};
 
@@ -333,4 +338,52 @@ pub extern "C" fn yuktrob_decide_set(
     let j = joint::decide_all(sheet, nodes, profiles, work, course);
     *place = joint::fault_of(j);
     joint_number(j)
+}
+
+fn source_number(source: Source) -> usize
+    ensures { λ r. ⌜ (r ≡ source-number source) × (r ≤ 2) ⌝ }
+{
+    match source {
+        Source::Old => 0,
+        Source::New => 1,
+        Source::Spliced => 2,
+    }
+}
+
+fn edit_number(answer: Answer, count: usize) -> u64
+    requires { ⌜ EditFits answer × (count ≤ 48) ⌝ }
+    ensures { λ r. ⌜ r ≡ edit-number count answer ⌝ }
+{
+    match answer {
+        Answer::Unread { source, why } => {
+            refusal_number(why) + 16777216 * (source_number(source) as u64)
+        }
+        Answer::Missing => number(37, 0),
+        Answer::Substituted(long) => number(0, long + 256 * count),
+    }
+}
+
+// A formula with another one in place of a subformula: the spliced bytes, and the rows of the table.
+#[no_mangle]
+pub extern "C" fn yuktrob_edit(
+    old: &[u8],
+    e: usize,
+    new: &[u8],
+    spliced: &mut [u8; 97],
+    rows: &mut [u8; 144],
+) -> u64
+    ensures numbered { λ r. ⌜ r ≡ edit-number
+        (edited.handed (substitution (now (old .entry)) e (now (new .entry))) .table .count)
+        (edited.handed (substitution (now (old .entry)) e (now (new .entry))) .answer) ⌝ }
+    ensures spliced { λ _. ⌜ now (spliced .exit) ≡ edited.handed (substitution (now (old .entry)) e (now (new .entry))) .bytes ⌝ }
+    ensures tabled { λ _. ⌜ now (rows .exit) ≡ edited.handed (substitution (now (old .entry)) e (now (new .entry))) .table .rows ⌝ }
+{
+    let r = substitution::substitute(old, e, new);
+    let answer = r.answer;
+    let table = r.table;
+    let bytes = r.bytes;
+    let entries = table.rows;
+    *spliced = bytes;
+    *rows = entries;
+    edit_number(answer, table.count)
 }

@@ -1,0 +1,68 @@
+-- `substitution::with_new`: the new formula is read, then the number is looked at. Assumes nothing.
+use mathlib.Core.Path.{_∙_}
+use native.Mathlib.Omega.{arith}
+use Rattle.formula.proofs.RowLaws.{outcome-told}
+use Rattle.substitution.proofs.OutcomeLaws.{read-few, new-refused, number-there, number-missing}
+use borrow.Author.Needs.{needs}
+use Rattle.substitution.proofs.with_new.Statement.{statement}
+use Rattle.substitution.proofs.with_new.Tie as tie
+
+read-requires : tie.Need-read-requires
+read-requires c κs = search needs
+
+enum-known-outcome : tie.Need-enum-known-outcome
+enum-known-outcome c = search needs
+
+refused-requires : tie.Need-refused-requires
+refused-requires c κs = search needs
+
+enum-told : tie.Need-enum-told
+enum-told c = search needs
+
+replaced-requires : tie.Need-replaced-requires
+replaced-requires c κs =
+    let a = c .before .before .before .before .before .before .before .args in
+    let read = c .before .before .before .before .read in
+    let accepted = outcome-told (a .new .now) (read .result) (read .ensures .0) (c .before .before .enum-told .given .1) in
+    (c .before .before .before .before .before .before .before .pre, omega arith, read-few (a .new .now) accepted)
+
+returns : tie.Need-returns
+returns c =
+    let a = c .before .before .before .before .before .before .before .before .args in
+    let h = c .before .before .before .before .before .before .before .before .pre in
+    let read = c .before .before .before .before .before .read in
+    let accepted = outcome-told (a .new .now) (read .result) (read .ensures .0) (c .before .before .before .enum-told .given .1) in
+    c .replaced .ensures ∙ number-there (a .old .now) (a .t) h (a .e) (a .new .now) accepted (omega arith)
+
+refused-requires-2 : tie.Need-refused-requires-2
+refused-requires-2 c κs = search needs
+
+returns-2 : tie.Need-returns-2
+returns-2 c =
+    let a = c .before .before .before .before .before .before .before .args in
+    let h = c .before .before .before .before .before .before .before .pre in
+    let read = c .before .before .before .before .read in
+    let refused = outcome-told (a .new .now) (read .result) (read .ensures .0) (c .before .before .outcome .given .1) in
+    c .refused .ensures ∙ new-refused (a .old .now) (a .t) h (a .e) (a .new .now) refused
+
+returns-3 : tie.Need-returns-3
+returns-3 c =
+    let a = c .before .before .before .before .before .before .before .before .args in
+    let h = c .before .before .before .before .before .before .before .before .pre in
+    let read = c .before .before .before .before .before .read in
+    let accepted = outcome-told (a .new .now) (read .result) (read .ensures .0) (c .before .before .before .enum-told .given .1) in
+    c .refused2 .ensures ∙ number-missing (a .old .now) (a .t) h (a .e) (a .new .now) accepted (omega arith)
+
+pub with-new-spec : {M : Type 1} → statement M
+with-new-spec =
+    tie.close
+    (tie.spec
+    read-requires
+    enum-known-outcome
+    refused-requires
+    enum-told
+    replaced-requires
+    returns
+    refused-requires-2
+    returns-2
+    returns-3)

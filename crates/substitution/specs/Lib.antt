@@ -1,0 +1,4 @@
+pub mod Substitution
+pub mod Contract
+pub mod Inner
+pub mod Meaning
