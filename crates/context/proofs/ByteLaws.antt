@@ -10,11 +10,11 @@ use native.Mathlib.Omega.{arith}
 use lib.ListN.{length, getD, take, length-append}
 use lib.Seq.{take-append-seam, drop-append-seam, drop-append-add, take-at}
 use Rattle.formula.specs.Formula.{Leaf, Formula, size}
-use Rattle.formula.specs.Table.{Operator, Table, table-from, table, lengths, entries}
+use Rattle.formula.specs.Table.{Operator, Table, table-from, table, lengths, entries, width, bytes-before}
 use Rattle.formula.specs.Reading.{Opcode, byte-of}
 use Rattle.formula.specs.Ways.{spelled}
 use Rattle.context.specs.Context.{Context, plugged, number}
-use Rattle.context.specs.Bytes.{width, bytes-before, first-byte, last-byte, between, spliced, subformula-bytes, replaced}
+use Rattle.context.specs.Bytes.{first-byte, last-byte, between, spliced, subformula-bytes, replaced}
 use Rattle.context.proofs.TableLaws.{number-length}
 
 -- the bytes before the hole,

@@ -1,25 +1,9 @@
 -- Where a subformula's bytes begin and end, by the stored lengths and the opcodes, and bytes with others in their place. MEANING 11.1.
 -- Assumes nothing.
-use mathlib.Core.List.{List, [], _∷_, _++_}
-use Prim.Native.Nat.{ℕ, zero, suc, _+_, _-_}
+use mathlib.Core.List.{List, _++_}
+use Prim.Native.Nat.{ℕ, _+_, _-_}
 use lib.ListN.{getD, take, drop}
-use Rattle.formula.specs.Formula.{Leaf}
-use Rattle.formula.specs.Table.{Operator, Table, Entries}
-
--- how many bytes an operator has before those of its operands: its opcode, and the operand byte of a signal or a variable
-abbrev pub width : Operator → ℕ
-width (Operator.leaf (Leaf.constant b)) = 1
-width (Operator.leaf (Leaf.signal present s)) = 2
-width (Operator.variable m) = 2
-width (Operator.pair o l r) = 1
-width (Operator.next g) = 1
-width (Operator.fix g b) = 1
-
--- how many bytes the first n operators have
-abbrev pub bytes-before : Table → ℕ → ℕ
-bytes-before [] n = 0
-bytes-before (o ∷ t) zero = 0
-bytes-before (o ∷ t) (suc n) = width o + bytes-before t n
+use Rattle.formula.specs.Table.{Entries, bytes-before}
 
 -- the place of the first byte of subformula e,
 abbrev pub first-byte : Entries → ℕ → ℕ

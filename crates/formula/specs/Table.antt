@@ -2,7 +2,7 @@
 -- subformula e, with the numbers of its operands. Assumes nothing.
 use mathlib.Core.Bool.{Bool, true, false}
 use mathlib.Core.List.{List, [], _∷_, _++_}
-use Prim.Native.Nat.{ℕ, _+_}
+use Prim.Native.Nat.{ℕ, zero, suc, _+_}
 use lib.ListN.{getD}
 use Rattle.formula.specs.Formula.{Leaf, Formula, size}
 
@@ -85,3 +85,18 @@ pub record Entries : Type 0 where
 abbrev pub entries : Formula → Entries
 unfolding table
 entries f = record { operators = table f; lengths = lengths f }
+
+-- How many bytes an operator's spelling begins with: its opcode, and the operand byte of a signal or a variable.
+abbrev pub width : Operator → ℕ
+width (Operator.leaf (Leaf.constant b)) = 1
+width (Operator.leaf (Leaf.signal present s)) = 2
+width (Operator.variable m) = 2
+width (Operator.pair o l r) = 1
+width (Operator.next g) = 1
+width (Operator.fix g b) = 1
+
+-- how many the first n operators of a table begin with, together
+abbrev pub bytes-before : Table → ℕ → ℕ
+bytes-before t zero = 0
+bytes-before [] (suc n) = 0
+bytes-before (o ∷ t) (suc n) = width o + bytes-before t n

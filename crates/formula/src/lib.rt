@@ -6,7 +6,7 @@ ghost use lib.ListN.{length};
 ghost use Rattle.formula.specs.Refusal.{code-of, place-of};
 ghost use Rattle.formula.specs.Reading.{opcode, reading, within as allowed};
 ghost use Rattle.formula.specs.Table as definitions;
-ghost use Rattle.formula.specs.Table.{is-or, is-next, is-fix};
+ghost use Rattle.formula.specs.Table.{is-or, is-next, is-fix, width};
 ghost use Rattle.formula.specs.Rows.{operator-of, opcode-at, operator-at, end-at, opcode-byte, reading-of};
 ghost use Rattle.formula.specs.Access.{decoded, Placed};
 ghost use Rattle.formula.specs.Contract.{Table-for, no-table, stored};
@@ -562,5 +562,19 @@ pub fn opcode_byte(operator: Operator) -> u8
         } => if either { OR } else { AND },
         Operator::Next(_) => NEXT,
         Operator::Fixpoint { greatest, body: _ } => if greatest { GREATEST } else { LEAST },
+    }
+}
+
+// How many bytes its spelling begins with, before those of its operands.
+pub fn width(operator: Operator) -> usize
+    ensures { λ r. ⌜ (r ≡ width (decoded operator)) × (r ≤ 2) ⌝ }
+{
+    match operator {
+        Operator::Signal { .. } => 2,
+        Operator::Variable(_) => 2,
+        Operator::Constant(_) => 1,
+        Operator::Pair { .. } => 1,
+        Operator::Next(_) => 1,
+        Operator::Fixpoint { .. } => 1,
     }
 }

@@ -1,7 +1,7 @@
 -- How large the numbers of a verdict are: K is at most N where one is given, stem and cycle have together at most K letters, and at least
 -- one of them is the cycle's; the place of 43 is at most 96, as a formula has at most 48 operators of two bytes; and the places of a
 -- refusal of reading are at most 97. Assumes nothing.
-use mathlib.Core.Path.{_≡_, refl, subst, subst⁻¹}
+use mathlib.Core.Path.{_≡_, refl, subst⁻¹}
 use mathlib.Core.List.{List, [], _∷_}
 use mathlib.Core.Bool.{cond}
 use mathlib.Core.Option.{some}
@@ -11,7 +11,7 @@ use lib.ListN.{length}
 use Rattle.base.proofs.AskLaws.{Asked, every-outcome}
 use Rattle.base.proofs.BoolLaws.{by-test}
 use Rattle.formula.specs.Formula.{Leaf, Formula}
-use Rattle.formula.specs.Table.{Operator, Table, table}
+use Rattle.formula.specs.Table.{Operator, Table, table, width}
 use Rattle.formula.specs.Refusal.{Places-within}
 use Rattle.formula.specs.Reading.{Reading, parse}
 use Rattle.formula.proofs.Early.{parse-early}
@@ -19,7 +19,7 @@ use Rattle.formula.proofs.Limits.{parse-limited}
 use Rattle.formula.proofs.WellFormed.{table-size}
 use Rattle.profile.specs.Profiles.{is-least}
 use Rattle.construction.specs.Construction.{max-nodes, node-count}
-use Rattle.safety.specs.Safety.{Verdict, width, first-least, verdict}
+use Rattle.safety.specs.Safety.{Verdict, first-least, verdict}
 use Rattle.safety.specs.Contract.{says, Decided}
 use Rattle.safety.specs.declared.Shortage.{Shortage}
 use Rattle.safety.specs.declared.Verdict as code

@@ -11,7 +11,7 @@ use lib.Dec.{T}
 use lib.ListN.{length, length-append}
 use Rattle.base.proofs.BoolLaws.{by-test}
 use Rattle.base.proofs.TestLaws.{not-of-T}
-use Rattle.formula.specs.Table.{Table, operator}
+use Rattle.formula.specs.Table.{Table, operator, width}
 use Rattle.tableau.specs.Saturation.{Subset}
 use Rattle.tableau.specs.Transition.{Transition}
 use Rattle.profile.specs.Traces.{Triple}
@@ -19,7 +19,7 @@ use Rattle.profile.specs.Profiles.{Profile, is-least, rejecting}
 use Rattle.profile.specs.Cycle.{Run, Rejecting, AcceptingCycle}
 use Rattle.profile.proofs.RejectLaws.{rejecting-of}
 use Rattle.profile.proofs.CycleLaws.{run-along, along-run}
-use Rattle.safety.specs.Safety.{width, first-least}
+use Rattle.safety.specs.Safety.{first-least}
 use Rattle.safety.specs.Closed.{ClosedRun}
 
 -- no operator is a least fixpoint

@@ -14,19 +14,13 @@ use lib.Seq.{getD-append-add}
 use Rattle.base.proofs.BoolLaws.{by-test, of-T}
 use Rattle.base.proofs.TestLaws.{not-of-T}
 use Rattle.formula.specs.Formula.{Leaf, Formula, size}
-use Rattle.formula.specs.Table.{Operator, Table, operator, table-from, table}
+use Rattle.formula.specs.Table.{Operator, Table, operator, table-from, table, width, bytes-before}
 use Rattle.formula.specs.Reading.{Reading, parse}
 use Rattle.formula.specs.Ways.{spelled}
 use Rattle.formula.proofs.Spelling.{parse-spelled}
 use Rattle.profile.specs.Profiles.{is-least}
-use Rattle.safety.specs.Safety.{width, first-least}
+use Rattle.safety.specs.Safety.{first-least}
 use Rattle.safety.proofs.EveryCycle.{none-least}
-
--- how many bytes the first e operators begin with, together
-abbrev pub bytes-before : Table → ℕ → ℕ
-bytes-before t zero = 0
-bytes-before [] (suc e) = 0
-bytes-before (o ∷ t) (suc e) = width o + bytes-before t e
 
 -- What a place of 43 says: a subformula is a least fixpoint, none with a smaller number is, its operator begins at that place, with a 9.
 pub record Least-place (bytes : List ℕ) (t : Table) (place : ℕ) : Type 0 where

@@ -6,11 +6,11 @@ use mathlib.Core.List.{List}
 use mathlib.Core.Option.{some}
 use Prim.Native.Nat.{ℕ, suc, _+_, _-_, _*_, _≤_, _<_}
 use native.Mathlib.Omega.{arith}
-use Rattle.formula.specs.Table.{Operator}
+use Rattle.formula.specs.Table.{Operator, width}
 use Rattle.formula.specs.Rows.{operator-at, operators-of}
 use Rattle.profile.specs.Profiles.{is-least}
 use Rattle.tableau.specs.Inner.{table-of}
-use Rattle.safety.specs.Safety.{width, first-least}
+use Rattle.safety.specs.Safety.{first-least}
 use Rattle.safety.specs.Inner.{least}
 use Rattle.safety.specs.declared.Least.the-variants.{At, Nowhere}
 

@@ -11,8 +11,8 @@ use Rattle.base.specs.Ask.{ask}
 use Rattle.base.specs.Lists.{first}
 use Rattle.base.specs.Search.{Item, search-from}
 use Rattle.letters.specs.Requirements.{letter-of}
-use Rattle.formula.specs.Formula.{Leaf, Formula}
-use Rattle.formula.specs.Table.{Operator, Table, table}
+use Rattle.formula.specs.Formula.{Formula}
+use Rattle.formula.specs.Table.{Table, table, width}
 use Rattle.formula.specs.Reading.{Reading, parse}
 use Rattle.formula.specs.declared.Refusal.{Refusal}
 use Rattle.tableau.specs.Saturation.{Subset, same-subset}
@@ -30,15 +30,6 @@ pub data Verdict : Type 0 where
   refused : Shortage → Verdict
   satisfiable : (stem cycle K : ℕ) (letters : List ℕ) → Verdict
   unsatisfiable : (K : ℕ) → Verdict
-
--- how many bytes an operator's spelling begins with: its opcode, and the operand byte of a signal or a variable
-abbrev pub width : Operator → ℕ
-width (Operator.leaf (Leaf.constant b)) = 1
-width (Operator.leaf (Leaf.signal q j)) = 2
-width (Operator.variable m) = 2
-width (Operator.pair o l r) = 1
-width (Operator.next g) = 1
-width (Operator.fix g l) = 1
 
 -- the place of the first least fixpoint's byte, where the first of the operators stands at a place; none if all are greatest
 abbrev pub first-least : (place : ℕ) → Table → Option ℕ

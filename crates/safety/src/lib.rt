@@ -21,7 +21,7 @@ ghost use Rattle.tableau.specs.Inner.{table-of, Formed};
 ghost use Rattle.tableau.specs.Area.{eight};
 ghost use Rattle.tableau.specs.Found.{Finding};
 ghost use Rattle.witness.specs.Letters.{stem-letters, Stem-noted};
-ghost use Rattle.safety.specs.Safety.{width, first-least, decide, ask-room, ask-greatest};
+ghost use Rattle.safety.specs.Safety.{first-least, decide, ask-room, ask-greatest};
 ghost use Rattle.safety.specs.Contract.{shortage-code, Decided};
 ghost use Rattle.safety.specs.Inner.{least, Lent, Room-asked, Nodes-there, Onward-of, Some-step, First-step, Cycle-there};
 ghost use Rattle.safety.specs.Inner.{Cycle-written, Course-written, concluded, Nodes-ready, Halfway, Answers, Came-to, Settled};
@@ -95,20 +95,6 @@ fn is_least(o: Operator) -> bool
     }
 }
 
-// How many bytes an operator has before those of its operands.
-fn width(o: Operator) -> usize
-    ensures { λ r. ⌜ (r ≡ width (decoded o)) × (r ≤ 2) ⌝ }
-{
-    match o {
-        Operator::Signal { .. } => 2,
-        Operator::Variable(_) => 2,
-        Operator::Constant(_) => 1,
-        Operator::Pair { .. } => 1,
-        Operator::Next(_) => 1,
-        Operator::Fixpoint { .. } => 1,
-    }
-}
-
 fn first_least(rows: &[u8; 144], count: usize) -> Least
     requires { ⌜ Formed (now rows) count ⌝ }
     ensures { λ r. ⌜ r ≡ least (first-least 0 (table-of (now (rows .entry)) count)) ⌝ }
@@ -120,7 +106,7 @@ fn first_least(rows: &[u8; 144], count: usize) -> Least
         if is_least(o) {
             return Least::At(place);
         }
-        place += width(o);
+        place += formula::width(o);
         e += 1;
     }
     Least::Nowhere

@@ -5,25 +5,14 @@ use Prim.Native.Nat.{ℕ, zero, suc, _+_, _*_, _≤_, _<_}
 use native.Mathlib.Omega.{arith}
 use lib.ListN.{length, getD}
 use Rattle.base.proofs.NumberLaws.{values-at, values-length}
-use Rattle.formula.specs.Table.{Operator, Table}
+use Rattle.formula.specs.Table.{Table, width, bytes-before}
 use Rattle.formula.specs.Occurrence.{nothing}
 use Rattle.formula.specs.Rows.{operator-at, operators-of, length-at, end-at, lengths-of}
-use Rattle.formula.specs.Access.{decoded}
-use Rattle.formula.specs.declared.Operator as code
 use Rattle.formula.specs.declared.Table as rows
-use Rattle.context.specs.Bytes.{width, bytes-before}
-
--- the width of an operator that was found to be this one
-pub width-told : {o : Operator} {p q : code.Operator} → o ≡ decoded p → p ≡ q → width (decoded q) ≡ width o
-width-told {o} {p} {q} e f = sym (ap width (e ∙ ap decoded f))
-
-before-none : (t : Table) → bytes-before t 0 ≡ 0
-before-none [] = refl
-before-none (o ∷ t) = refl
 
 before-more : (t : Table) (n : ℕ) → n < length t → bytes-before t (suc n) ≡ bytes-before t n + width (getD t n nothing)
 before-more [] n l = absurd (omega arith)
-before-more (o ∷ t) zero l = omega (arith, before-none t)
+before-more (o ∷ t) zero l = omega arith
 before-more (o ∷ t) (suc n) l = omega (arith, before-more t n (omega arith))
 
 -- the first i operators in the rows, of however many
@@ -34,7 +23,7 @@ pub record Summed (rows : List ℕ) (n sum i : ℕ) : Type 0 where
 
 module _ (rows : List ℕ) (n : ℕ) where
   pub summed-none : Summed rows n 0 0
-  summed-none = record { is = λ m l. sym (before-none (operators-of rows 0 m)); below = omega arith; small = omega arith }
+  summed-none = record { is = λ m l. refl; below = omega arith; small = omega arith }
 
   pub summed-more : {sum i w : ℕ} → Summed rows n sum i → i < n → (w ≡ width (operator-at rows i)) × (w ≤ 2)
       → Summed rows n (sum + w) (i + 1)

@@ -1,6 +1,5 @@
 // Another formula in place of a subformula (MEANING 11; document 02: editing a rule): the spliced bytes, and the table that reading them
 // gives.
-use formula::Operator;
 use formula::Outcome;
 use formula::Refusal;
 use formula::Subformula;
@@ -10,9 +9,10 @@ ghost use mathlib.Core.Bool.{true};
 ghost use Prim.Native.Nat.{_≤_, _<_};
 ghost use lib.ListN.{length, getD, take};
 ghost use Rattle.formula.specs.Reading.{reading};
-ghost use Rattle.formula.specs.Rows.{operator-at, operators-of, entries-of};
-ghost use Rattle.formula.specs.Access.{Placed, Readable};
-ghost use Rattle.context.specs.Bytes.{width, bytes-before, first-byte, last-byte};
+ghost use Rattle.formula.specs.Rows.{operators-of, entries-of};
+ghost use Rattle.formula.specs.Access.{Readable};
+ghost use Rattle.formula.specs.Table.{bytes-before};
+ghost use Rattle.context.specs.Bytes.{first-byte, last-byte};
 ghost use Rattle.substitution.specs.Substitution.{of-number, of-new, substitution};
 ghost use Rattle.substitution.specs.Contract.{turned-away, handed, number-of};
 ghost use Rattle.substitution.specs.Inner.{Read-as, spliced-at, Spans, Splices};
@@ -54,31 +54,6 @@ struct Prefix {
 // An accepted formula has at most 96 bytes, and where there is a 97th, reading says no at it or before.
 const BYTES: usize = 97;
 
-// How many bytes an operator has, without its operand formulas.
-fn width(rows: &[u8; 144], s: Subformula) -> usize
-    requires { ⌜ Placed (now rows) (s .0) ⌝ }
-    ensures { λ r. ⌜ (r ≡ width (operator-at (now (rows .entry)) (s .0))) × (r ≤ 2) ⌝ }
-{
-    match formula::operator_at(rows, s) {
-        Operator::Constant(_) => 1,
-        Operator::Signal {
-            present: _,
-            signal: _,
-        } => 2,
-        Operator::Variable(_) => 2,
-        Operator::Pair {
-            either: _,
-            left: _,
-            right: _,
-        } => 1,
-        Operator::Next(_) => 1,
-        Operator::Fixpoint {
-            greatest: _,
-            body: _,
-        } => 1,
-    }
-}
-
 // How many bytes the first n operators have.
 fn bytes_before(t: Table, n: usize) -> usize
     requires { ⌜ Readable t × (n ≤ t .count) ⌝ }
@@ -88,7 +63,7 @@ fn bytes_before(t: Table, n: usize) -> usize
     let mut sum = 0usize;
     let mut i = 0usize;
     while i < n {
-        sum += width(&rows, Subformula(i));
+        sum += formula::width(formula::operator_at(&rows, Subformula(i)));
         i += 1;
     }
     sum

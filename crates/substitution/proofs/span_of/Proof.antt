@@ -2,7 +2,7 @@
 use mathlib.Core.Path.{ap, _∙_}
 use native.Mathlib.Omega.{arith}
 use Rattle.formula.specs.Rows.{operators-of}
-use Rattle.context.specs.Bytes.{bytes-before}
+use Rattle.formula.specs.Table.{bytes-before}
 use Rattle.substitution.proofs.WidthLaws.{end-stored}
 use Rattle.substitution.proofs.span_of.Statement.{statement}
 use Rattle.substitution.proofs.span_of.Tie as tie
