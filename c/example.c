@@ -1,7 +1,7 @@
 /* Lists the entries of a rule, decides a few, one of them with little room, tries the course of each that has one, and a course that is
  * refused; then builds the nodes of a rule once and searches them with little room, with more, and for another rule; then decides safety
  * rules with room for nodes alone; then looks rules up in two sheets; then decides sheets of rules at once, one of which can be met and one
- * of which clashes. Each answer is asked for a refusal before it is taken apart. */
+ * of which clashes; then replaces entries of a rule that cannot be met. Each answer is asked for a refusal before it is taken apart. */
 #include "../include/yuktrob.h"
 #include <stdio.h>
 
@@ -198,6 +198,47 @@ static void decide_sets(void) {
     decide_set(0, handover, sizeof handover);
 }
 
+/* The entries of a table: command, argument, length. */
+static void print_table(const uint8_t *table) {
+    printf("entries:");
+    for (size_t e = 0; e < yuktrob_table_count(table); e++)
+        printf(" %02x/%u/%u", yuktrob_table_command(table, e), yuktrob_table_argument(table, e), yuktrob_table_length(table, e));
+    printf("\n");
+}
+
+/* Puts a rule in place of an entry, and decides what comes of it. */
+static void edit(const uint8_t *old_rule, size_t old_len, size_t e, const uint8_t *new_rule, size_t new_len) {
+    static const char *const whose[] = {"old", "new", "spliced"};
+    uint8_t spliced[YUKTROB_SPLICED_LEN], table[YUKTROB_TABLE_LEN];
+    uint64_t answer = yuktrob_edit(old_rule, old_len, e, new_rule, new_len, spliced, table);
+    if (yuktrob_refusal(answer)) {
+        if (yuktrob_has_place(answer)) printf("the %s rule: ", whose[yuktrob_source(answer)]);
+        print_refusal(answer);
+        print_table(table);
+        return;
+    }
+    printf("edited, bytes %u, entries %u:", yuktrob_edited_len(answer), yuktrob_edited_count(answer));
+    for (size_t i = 0; i < yuktrob_edited_len(answer); i++) printf(" %02x", spliced[i]);
+    printf("\n");
+    print_table(table);
+    decide(spliced, yuktrob_edited_len(answer));
+}
+
+/* Sooner or later the revision changes, and it never does: the second is mended, or the whole replaced; and what is refused. */
+static void edit_some(void) {
+    const uint8_t clashing[] = {0x07, 0x09, 0x06, 0x03, 0x00, 0x08, 0x05, 0x00, 0x0A, 0x07, 0x04, 0x00, 0x08, 0x05, 0x00};
+    const uint8_t until[] = {0x0A, 0x06, 0x03, 0x01, 0x07, 0x04, 0x00, 0x08, 0x05, 0x00}; /* no change until it is announced */
+    const uint8_t later[] = {0x08, 0x08, 0x08, 0x08, 0x08, 0x08, 0x08, 0x08, 0x08, 0x08, 0x08, 0x03, 0x01}; /* announced 11 places on */
+    const uint8_t unguarded[] = {0x09, 0x05, 0x00};
+    decide(clashing, sizeof clashing);
+    edit(clashing, sizeof clashing, 6, until, sizeof until);
+    edit(clashing, sizeof clashing, 0, until + 2, 2);
+    edit(clashing, sizeof clashing - 1, 6, until, sizeof until);
+    edit(clashing, sizeof clashing, 6, unguarded, sizeof unguarded);
+    edit(clashing, sizeof clashing, 11, until, sizeof until);
+    edit(clashing, sizeof clashing, 8, later, sizeof later);
+}
+
 int main(void) {
     const uint8_t eventually[] = {0x09, 0x06, 0x03, 0x00, 0x08, 0x05, 0x00}; /* sooner or later signal 0 */
     const uint8_t either[] = {0x06, 0x03, 0x01, 0x03, 0x00}; /* signal 1 or signal 0: two courses as short, the left one is given */
@@ -235,5 +276,6 @@ int main(void) {
     decide_safety(NODES, unguarded, sizeof unguarded);
     look_up_some();
     decide_sets();
+    edit_some();
     return 0;
 }

@@ -1,6 +1,6 @@
 /* Rules of tractor-guidance terminals: reading, truth on a repeating course, and the decision, at once or in two: building and search;
- * that of safety rules, which takes no profiles; the lookup of a rule by its number, in a dealer's sheet before the factory's; and the
- * decision whether one course meets all rules of a sheet.
+ * that of safety rules, which takes no profiles; the lookup of a rule by its number, in a dealer's sheet before the factory's; the decision
+ * whether one course meets all rules of a sheet; and a rule with one of its entries replaced.
  *
  * Each function answers one number. Its lowest byte is the number of a refusal, or 0; what the answer carries stands above it:
  *   reading    accepted: the number of entries; refused 1 to 9: its places
@@ -17,14 +17,18 @@
  *   set        MET as the decision has it; NOT too, with the clashing rules in the lowest 8 of the lead-in's bits; refused 1 to 9: its
  *              places, in 16 bits always, and above these the rule's position; refused 35: 8 bits for the rules that were tried; refused
  *              30, 34 or 11 to 13: nothing
+ *   edit       edited: 8 bits each for the bytes and for the entries of the spliced rule, the first lowest; refused 1 to 9: its places, in
+ *              16 bits always, and above these which rule it speaks of, 0 for the old, 1 for the new, 2 for the spliced one; refused 37:
+ *              nothing
  * The places of a refusal are 8 bits for the byte's place and, of 8 alone, 8 bits above them for where the variable's fixpoint begins.
  * Rules of a set are told by their positions in the sheet, from 0 on; of several, bit p is set for the rule at position p.
  * What can be any place in memory does not fit beside a refusal: where a rule or a fault stands in a sheet, the lookup and the decision of
  * a set put into words that the caller lends. docs/FORMULAS.md lists the refusals; later versions may have more. Ask for a refusal before
  * taking an answer apart.
  *
- * No function asks anything of its arguments but that a pointer has as many elements as the length behind it says, or one where no length
- * stands behind it, and that what a function writes overlaps nothing else that it is given. */
+ * No function asks anything of its arguments but that a pointer has as many elements as the length behind it says, or, where no length
+ * stands behind it, one, and an edit's spliced and table YUKTROB_SPLICED_LEN and YUKTROB_TABLE_LEN, and that what a function writes
+ * overlaps nothing else that it is given. */
 #ifndef YUKTROB_H
 #define YUKTROB_H
 
@@ -39,6 +43,9 @@
 /* The most rules of a set. */
 #define YUKTROB_MOST_RULES 8
 
+/* The most entries of a rule. */
+#define YUKTROB_MOST_ENTRIES 48
+
 /* A place of a course has 16 bits, bit j for signal j. Signals 14 and 15 are the scale flags: a heading has the previous revision's scale,
  * or the current one's. Each place has exactly one of these two bits, and any of the others. */
 #define YUKTROB_PREVIOUS_SCALE 0x4000u
@@ -48,6 +55,11 @@
 #define YUKTROB_DEALER 0
 #define YUKTROB_FACTORY 1
 
+/* The three rules that an edit can be refused for: the one that is edited, the one that is to stand in it, and what comes of it. */
+#define YUKTROB_OLD 0
+#define YUKTROB_NEW 1
+#define YUKTROB_SPLICED 2
+
 /* How large the areas must be: the bytes of the work area of building, which are the first ones of a search's, and of a safety rule, whose
  * course buffer has as many places as there is room for nodes; the bytes of the work area and the places of the course buffer of a decision
  * or a search; the words of truth. */
@@ -55,6 +67,10 @@
 #define YUKTROB_WORK_LEN(nodes, profiles) (YUKTROB_NODES_LEN(nodes) + (size_t)192 * (profiles))
 #define YUKTROB_COURSE_LEN(nodes, profiles) ((size_t)(nodes) + (size_t)(profiles))
 #define YUKTROB_WORDS_LEN(places) ((size_t)(places))
+
+/* How many bytes an edit writes: for the spliced rule, and for the table, which has three of each entry. */
+#define YUKTROB_SPLICED_LEN 97
+#define YUKTROB_TABLE_LEN (3 * YUKTROB_MOST_ENTRIES)
 
 #ifdef __cplusplus
 extern "C" {
@@ -145,6 +161,22 @@ uint64_t yuktrob_lookup(const uint8_t *dealer, size_t dealer_len, const uint8_t 
 uint64_t yuktrob_decide_set(const uint8_t *sheet, size_t sheet_len, size_t nodes, size_t profiles, uint8_t *work, size_t work_len,
                             uint16_t *course, size_t course_len, size_t *place);
 
+/* Puts a rule in place of entry e of another. The spliced rule has the old rule's bytes, with the new rule's for those of entry e, from its
+ * command to the end of its last operand; if that is not refused it can be decided like any other. The table has its entries, as reading it
+ * gives them: byte e is the command of entry e, byte 48 + e its argument, as yuktrob_entry has it but 0 for or and and, and byte 96 + e its
+ * length, which is how many commands it has: entry e holds the entries from e up to e plus its length. Entries before e keep command and
+ * argument, and their length but where they hold e. The new rule's entries come next, with e added to the number of each and to that of a
+ * variable's fixpoint, and what was behind entry e follows them.
+ *
+ * The questions, in this order: 1 to 9 are what reading says of the old rule, and then what it says of the new one, which has to be a rule
+ * by itself, so that its variables name no fixpoint of the old one; 37 says that the old rule has no entry e; 3 and 4 are what reading says
+ * of the spliced rule, which can have no other fault.
+ *
+ * Both areas are written whole, always. Edited, spliced begins with the spliced rule, with zeros behind it; refused, it is all zeros. The
+ * table is the spliced rule's or, refused, the old one's, with zeros behind the last entry; where the old rule is refused, all is zero. */
+uint64_t yuktrob_edit(const uint8_t *old_rule, size_t old_len, size_t e, const uint8_t *new_rule, size_t new_len, uint8_t *spliced,
+                      uint8_t *table);
+
 /* Taking an answer apart. Every answer: the refusal's number, or 0; whether the answer has a byte's place, as 1 to 9 and 43 have it (that
  * of 30 is in the word *start or *place, and not in the answer); and the place. Then whether it has a fixpoint's place too, which 8 alone
  * has; and that place. */
@@ -186,6 +218,19 @@ static inline unsigned yuktrob_sheet(uint64_t answer) { return (unsigned)(answer
 static inline unsigned yuktrob_clash(uint64_t answer) { return (unsigned)(answer >> 9 & 255); }
 static inline unsigned yuktrob_position(uint64_t answer) { return (unsigned)(answer >> 24); }
 static inline unsigned yuktrob_tried(uint64_t answer) { return (unsigned)(answer >> 8 & 255); }
+
+/* An edit, not refused: how many bytes the spliced rule has, and how many entries. Refused with 1 to 9: which rule it speaks of,
+ * YUKTROB_OLD, YUKTROB_NEW or YUKTROB_SPLICED, in whose bytes the places are counted. */
+static inline unsigned yuktrob_edited_len(uint64_t answer) { return (unsigned)(answer >> 8 & 255); }
+static inline unsigned yuktrob_edited_count(uint64_t answer) { return (unsigned)(answer >> 16 & 255); }
+static inline unsigned yuktrob_source(uint64_t answer) { return (unsigned)(answer >> 24); }
+
+/* A table: how many entries it has, which is the length of entry 0, or 0 if the old rule was refused; and of entry e, which is less than
+ * YUKTROB_MOST_ENTRIES, the command, the argument and the length, all 0 if there is no such entry. */
+static inline unsigned yuktrob_table_count(const uint8_t *table) { return table[2 * YUKTROB_MOST_ENTRIES]; }
+static inline unsigned yuktrob_table_command(const uint8_t *table, size_t e) { return table[e]; }
+static inline unsigned yuktrob_table_argument(const uint8_t *table, size_t e) { return table[YUKTROB_MOST_ENTRIES + e]; }
+static inline unsigned yuktrob_table_length(const uint8_t *table, size_t e) { return table[2 * YUKTROB_MOST_ENTRIES + e]; }
 
 #ifdef __cplusplus
 }

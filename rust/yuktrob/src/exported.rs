@@ -1,12 +1,17 @@
 //! The exported functions of the proved library, called with Rust's slices: the one module with `unsafe`.
 //!
 //! Why each call is sound. The library asks two things of its caller (`include/yuktrob.h`): that each pointer has as many elements as the
-//! length behind it says, or one where no length stands behind it, and that what is written overlaps nothing else. A slice's pointer has
-//! its length's elements, all initialised; it is aligned and not null, even where the slice is empty; and a `&mut` overlaps nothing. The
-//! library is proved to stay inside its slices, for any values in them. It keeps no pointer after it returns, and it does not unwind: it
-//! has no panics.
+//! length behind it says, or, where no length stands behind it, one, and of an edit's two areas 97 and 144, and that what is written
+//! overlaps nothing else. A slice's pointer has its length's elements, all initialised; it is aligned and not null, even where the slice is
+//! empty; an array has as many as its type says; and a `&mut` overlaps nothing. The library is proved to stay inside its slices and arrays,
+//! for any values in them. It keeps no pointer after it returns, and it does not unwind: it has no panics.
 
 use crate::Refusal;
+
+/// The most entries of a rule, and the bytes of the two areas of an edit: a rule has at most 96, and the table has three of each entry.
+pub const MOST_ENTRIES: usize = 48;
+pub const SPLICED_LEN: usize = 97;
+pub const TABLE_LEN: usize = 3 * MOST_ENTRIES;
 
 extern "C" {
     fn yuktrob_read(rule: *const u8, rule_len: usize) -> u64;
@@ -70,6 +75,15 @@ extern "C" {
         course: *mut u16,
         course_len: usize,
         place: *mut usize,
+    ) -> u64;
+    fn yuktrob_edit(
+        old_rule: *const u8,
+        old_len: usize,
+        e: usize,
+        new_rule: *const u8,
+        new_len: usize,
+        spliced: *mut u8,
+        table: *mut u8,
     ) -> u64;
 }
 
@@ -140,6 +154,12 @@ pub fn decide_set(sheet: &[u8], nodes: usize, profiles: usize, work: &mut [u8], 
     unsafe {
         yuktrob_decide_set(sheet.as_ptr(), sheet_len, nodes, profiles, work.as_mut_ptr(), work_len, course.as_mut_ptr(), course_len, place)
     }
+}
+
+/// The whole answer, since a refusal by reading has above its places which bytes it speaks of.
+pub fn edit(old: &[u8], e: usize, new: &[u8], spliced: &mut [u8; SPLICED_LEN], table: &mut [u8; TABLE_LEN]) -> u64 {
+    // SAFETY: pointers and lengths are those of slices, and those without a length of arrays of just as many bytes; see above.
+    unsafe { yuktrob_edit(old.as_ptr(), old.len(), e, new.as_ptr(), new.len(), spliced.as_mut_ptr(), table.as_mut_ptr()) }
 }
 
 #[cfg(test)]
@@ -215,5 +235,39 @@ mod tests {
         // both rules at once have one node; the first alone has two, and so have any two that can be met
         assert_eq!(told(&clashing, 1, 200, 2), (35 + (1 << 8), 0));
         assert_eq!(told(&[&present[..], &record(2, &[3, 1])].concat(), 1, 200, 2), (35 + (3 << 8), 0));
+    }
+    /// Both areas are written whole by every call, whatever they held. Edited, the bytes and the entries are counted; a refusal by reading
+    /// has whose bytes it speaks of above its places, which take 16 bits in any case; 37 carries nothing.
+    #[test]
+    fn numbers_of_edits() {
+        let told = |old: &[u8], e: usize, new: &[u8]| {
+            let (mut spliced, mut table) = ([0xa5; SPLICED_LEN], [0xa5; TABLE_LEN]);
+            (edit(old, e, new, &mut spliced, &mut table), spliced.to_vec(), table.to_vec())
+        };
+        let padded = |bytes: &[u8], len: usize| [bytes, &vec![0; len - bytes.len()]].concat();
+        let table = |rows: [&[u8]; 3]| rows.map(|part| padded(part, MOST_ENTRIES)).concat();
+        let edited = |bytes: &[u8], rows: [&[u8]; 3]| {
+            ((bytes.len() as u64) << 8 | (rows[0].len() as u64) << 16, padded(bytes, SPLICED_LEN), table(rows))
+        };
+        let refused = |number: u64, rows: [&[u8]; 3]| (number, vec![0; SPLICED_LEN], table(rows));
+        let (always, rows): (&[u8], [&[u8]; 3]) = (&[10, 7, 3, 9, 8, 5, 0], [&[10, 7, 3, 8, 5], &[0, 0, 9, 0, 0], &[5, 4, 1, 2, 1]]);
+        // behind a least fixpoint, and with one inside: both fixpoints move
+        let (least, new): (&[u8], &[u8]) = (&[9, 4, 2], &[6, 2, 9, 8, 5, 0]);
+        let both = [&[7, 3, 1], always].concat();
+        let moved: [&[u8]; 3] = [&[7, 9, 4, 10, 7, 3, 8, 5], &[0, 0, 2, 0, 0, 9, 0, 3], &[8, 2, 1, 5, 4, 1, 2, 1]];
+        assert_eq!(told(&both, 1, least), edited(&[&[7, 9, 4, 2], always].concat(), moved));
+        let inside: [&[u8]; 3] = [&[10, 7, 6, 2, 9, 8, 5, 8, 5], &[0, 0, 0, 0, 0, 0, 4, 0, 0], &[9, 8, 5, 1, 3, 2, 1, 2, 1]];
+        assert_eq!(told(always, 2, new), edited(&[10, 7, 6, 2, 9, 8, 5, 0, 8, 5, 0], inside));
+        assert_eq!(told(always, 0, &[1]), edited(&[1], [&[1], &[0], &[1]]));
+        assert_eq!(told(&[8, 9, 5, 0], 99, &[11]), refused(8 + (3 << 8) + (1 << 16), [&[]; 3]));
+        assert_eq!(told(&[], 0, &[]), refused(1, [&[]; 3]));
+        assert_eq!(told(always, 99, &[8, 9, 5, 0]), refused(8 + (3 << 8) + (1 << 16) + (1 << 24), rows));
+        assert_eq!(told(always, 0, &[]), refused(1 + (1 << 24), rows));
+        for e in [5, 48, 144, 256, usize::MAX] {
+            assert_eq!(told(always, e, &[1]), refused(37, rows));
+        }
+        // 49 commands, of which the last two have a next and a variable; then 13 nexts
+        assert_eq!(told(always, 2, &[vec![7; 22], vec![1; 23]].concat()), refused(3 + (48 << 8) + (2 << 24), rows));
+        assert_eq!(told(always, 2, &[vec![8; 12], vec![1]].concat()), refused(4 + (15 << 8) + (2 << 24), rows));
     }
 }

@@ -1,7 +1,7 @@
 //! Rules of tractor-guidance terminals: reading a rule, its truth on a repeating course, and the decision whether any course meets it,
-//! with a short example, the same one each time; finding a rule by its number in the sheets of a dealer and of the factory; and the
-//! decision whether one course meets all rules of a sheet. A rule is a formula of the linear-time mu-calculus in bytes; `docs/FORMULAS.md`
-//! shows how to write one.
+//! with a short example, the same one each time; finding a rule by its number in the sheets of a dealer and of the factory; the decision
+//! whether one course meets all rules of a sheet; and replacing a part of a rule. A rule is a formula of the linear-time mu-calculus in
+//! bytes; `docs/FORMULAS.md` shows how to write one.
 //!
 //! The work is done by a library whose every function is proved to meet its contract. This crate wraps its exported functions and takes
 //! their numbers apart.
@@ -79,13 +79,29 @@
 //! # Ok::<(), yuktrob::SetRefusal>(())
 //! ```
 //!
+//! A part of a rule is replaced by its entry's number, and the rule that comes of it is decided like any other:
+//!
+//! ```
+//! use yuktrob::{Areas, Rule, Verdict};
+//! // always signal 0, and sooner or later no signal 0
+//! let rule = Rule::read(&[0x07, 0x0A, 0x07, 0x03, 0x00, 0x08, 0x05, 0x00, 0x09, 0x06, 0x04, 0x00, 0x08, 0x05, 0x00])?;
+//! let mut areas = Areas::new(256, 300);
+//! assert_eq!(rule.decide(&mut areas)?, Verdict::Not { nodes: 2, profiles: 1 });
+//! // signal 1 for the absence of signal 0, which is entry 8
+//! let mended = rule.edit(8, [0x03, 0x01])?;
+//! assert!(matches!(mended.decide(&mut areas)?, Verdict::Met { course: &[0x4003, 0x4001], .. }));
+//! # Ok::<(), Box<dyn std::error::Error>>(())
+//! ```
+//!
 //! [`truth`], [`decide`], [`build`], [`search`] and [`decide_safety`] take the rule's bytes and areas that the caller lends, as the
-//! functions of `include/yuktrob.h` do, and so does [`decide_set`] with a sheet's.
+//! functions of `include/yuktrob.h` do, and so does [`decide_set`] with a sheet's. [`edit`] takes the bytes of both rules, and gives the
+//! entries of the one that comes of it too.
 
 #![deny(unsafe_code, missing_docs)]
 
 mod building;
 mod decision;
+mod edit;
 #[allow(unsafe_code)]
 mod exported;
 mod refusal;
@@ -97,6 +113,7 @@ mod truth;
 
 pub use building::{build, nodes_len, search, Built};
 pub use decision::{course_len, decide, work_len, Areas, Verdict, MOST_NODES, MOST_PROFILES};
+pub use edit::{edit, EditRefusal, Edited, Row, Source, Table};
 pub use refusal::Refusal;
 pub use rule::{Command, Entry, Rule};
 pub use safety::{decide_safety, SafetyVerdict};

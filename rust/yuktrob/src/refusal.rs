@@ -70,6 +70,7 @@ impl Refusal {
             34 => "the sheet has no rules, or more than eight",
             35 => "as one rule these have more commands, or, next or fixpoints than 3 and 4 allow, or need more room than 14 and 15 find",
             36 => "K or the first 8 N bytes of the work area are not what building with N leaves for this rule",
+            37 => "the old rule has no entry with this number",
             43 => "a least fixpoint, where safety rules have greatest ones alone",
             _ => "a refusal that has no words here",
         }

@@ -1,4 +1,4 @@
-use crate::{decision, exported, safety, truth, Areas, Built, Refusal, SafetyVerdict, Verdict};
+use crate::{decision, edit, exported, safety, truth, Areas, Built, EditRefusal, Refusal, SafetyVerdict, Verdict};
 
 /// What an entry is, with the numbers of the entries that it leads to.
 ///
@@ -32,6 +32,25 @@ pub enum Command {
     Least(usize),
     /// A greatest fixpoint, with its body.
     Greatest(usize),
+}
+
+impl Command {
+    /// The command of entry e, by its byte, its signal or its fixpoint's entry, and its second operand; nothing if the byte is 0.
+    pub(crate) fn new(byte: u8, e: usize, argument: u8, right: usize) -> Option<Command> {
+        Some(match byte {
+            0 => return None,
+            1 => Command::True,
+            2 => Command::False,
+            3 => Command::Present(argument),
+            4 => Command::Absent(argument),
+            5 => Command::Variable(argument.into()),
+            6 => Command::Or(e + 1, right),
+            7 => Command::And(e + 1, right),
+            8 => Command::Next(e + 1),
+            9 => Command::Least(e + 1),
+            _ => Command::Greatest(e + 1),
+        })
+    }
 }
 
 /// One entry of a rule.
@@ -78,7 +97,12 @@ impl Rule {
     /// ```
     pub fn read(bytes: &[u8]) -> Result<Rule, Refusal> {
         let count = exported::read(bytes)? as usize;
-        Ok(Rule { bytes: bytes.into(), count })
+        Ok(Rule::accepted(bytes, count))
+    }
+
+    /// Of bytes that are known to be a rule with so many entries.
+    pub(crate) fn accepted(bytes: &[u8], count: usize) -> Rule {
+        Rule { bytes: bytes.into(), count }
     }
 
     /// The rule's bytes.
@@ -115,21 +139,7 @@ impl Rule {
     pub fn entry(&self, e: usize) -> Option<Entry> {
         let told = exported::entry(&self.bytes, e).expect("the bytes were accepted, and they settle what reading gives");
         let [command, argument, end, ..] = told.to_le_bytes();
-        let other = argument.into();
-        let command = match command {
-            0 => return None,
-            1 => Command::True,
-            2 => Command::False,
-            3 => Command::Present(argument),
-            4 => Command::Absent(argument),
-            5 => Command::Variable(other),
-            6 => Command::Or(e + 1, other),
-            7 => Command::And(e + 1, other),
-            8 => Command::Next(e + 1),
-            9 => Command::Least(e + 1),
-            _ => Command::Greatest(e + 1),
-        };
-        Some(Entry { command, end: end.into() })
+        Some(Entry { command: Command::new(command, e, argument, argument.into())?, end: end.into() })
     }
 
     /// The entries in order.
@@ -197,6 +207,27 @@ impl Rule {
     /// ```
     pub fn build(&self, nodes: usize) -> Result<Built<'_>, Refusal> {
         Built::new(self, nodes)
+    }
+
+    /// The rule with another one in place of its entry e, as [`edit`](crate::edit()) gives it. This one stays as it is. Refused: 1 to 9 of
+    /// the new rule, 37, and 3 or 4 of the spliced one.
+    ///
+    /// ```
+    /// use yuktrob::{Rule, Source};
+    /// // always, if signal 0 then sooner or later signal 1
+    /// let rule = Rule::read(&[0x0A, 0x07, 0x06, 0x04, 0, 0x09, 0x06, 0x03, 1, 0x08, 0x05, 0, 0x08, 0x05, 0])?;
+    /// // entry 4, from the 09 on: then signal 1 at the next place
+    /// let sharper = rule.edit(4, [0x08, 0x03, 1])?;
+    /// assert_eq!(sharper.as_bytes(), [0x0A, 0x07, 0x06, 0x04, 0, 0x08, 0x03, 1, 0x08, 0x05, 0]);
+    /// // back again, with a rule of its own
+    /// assert_eq!(sharper.edit(4, Rule::read(&[0x09, 0x06, 0x03, 1, 0x08, 0x05, 0])?)?, rule);
+    /// let why = rule.edit(4, [0x08, 0x05, 0]).unwrap_err();
+    /// assert_eq!((why.number(), why.source), (7, Some(Source::New)));
+    /// assert_eq!(rule.edit(11, [0x01]).unwrap_err().number(), 37);
+    /// # Ok::<(), Box<dyn std::error::Error>>(())
+    /// ```
+    pub fn edit(&self, e: usize, new: impl AsRef<[u8]>) -> Result<Rule, EditRefusal> {
+        Ok(edit(&self.bytes, e, new.as_ref())?.rule)
     }
 }
 

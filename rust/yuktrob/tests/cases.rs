@@ -2,10 +2,12 @@
 //! count of profiles as document 02 asks; which course is given of several as short; what the flags refuse; little room for profiles, and
 //! the areas then; nodes that are built and searched, and nodes that are not the rule's; safety rules, their refusals and what they leave
 //! in the areas; the refusals of reading with their places; rules looked up in two sheets, where they stand in memory, and what is wrong
-//! with a sheet; and the rules of a sheet decided at once, which of them clash, their refusals and what they leave in the areas.
+//! with a sheet; the rules of a sheet decided at once, which of them clash, their refusals and what they leave in the areas; and entries of
+//! a rule replaced, what becomes of the other entries, and what is refused with which table.
 
-use yuktrob::{build, course_len, decide, decide_safety, decide_set, lookup, nodes_len, search, truth, work_len};
-use yuktrob::{Areas, Found, NotFound, Refusal, Rule, SafetyVerdict, SetRefusal, SetVerdict, Sheet, Verdict, MOST_NODES};
+use yuktrob::{build, course_len, decide, decide_safety, decide_set, edit, lookup, nodes_len, search, truth, work_len};
+use yuktrob::{Areas, EditRefusal, Edited, Found, NotFound, Refusal, Row, Rule, SafetyVerdict, SetRefusal, SetVerdict, Sheet, Source};
+use yuktrob::{Table, Verdict, MOST_NODES};
 
 fn met(lead_len: usize, loop_len: usize, nodes: usize, profiles: usize, course: &[u16]) -> Verdict<'_> {
     Verdict::Met { lead_len, loop_len, nodes, profiles, course }
@@ -880,4 +882,178 @@ fn words_of_refused_sets() {
     assert!(told(&[&[1], &[9, 5, 0]], 256).starts_with("the rule at position 1: refused 8 at byte 2, for the fixpoint at byte 0: no next"));
     assert!(told(&[&[1]], 0).starts_with("refused 11: N is not 1 to 1,024"));
     assert!(told(&[&[1], &[3, 0]], 1).starts_with("refused 35 for the rules at 0 1: as one rule"));
+}
+
+fn lengths(table: &Table) -> Vec<usize> {
+    table.rows().map(|row| row.length).collect()
+}
+
+/// What an edit answers, in a line: the bytes and the lengths; or the refusal, and the old rule's lengths.
+fn edit_told(answer: &Result<Edited, EditRefusal>) -> String {
+    match answer {
+        Ok(Edited { rule, table }) => format!("{:02x?} {:?}", rule.as_bytes(), lengths(table)),
+        Err(EditRefusal { refusal: Refusal { number, place, fixpoint, .. }, source, table, .. }) => {
+            let places = [place, fixpoint].into_iter().flatten().map(|place| format!(" {place}")).collect::<String>();
+            let source = source.map_or(String::new(), |source| format!(" {source:?}"));
+            format!("{number}{places}{source}: {:?}", table.as_ref().map(lengths))
+        }
+    }
+}
+
+fn check_edit(old: &[u8], e: usize, new: &[u8], expected: &str) {
+    assert_eq!(edit_told(&edit(old, e, new)), expected, "{old:02x?} {e} {new:02x?}");
+}
+
+#[test]
+fn edits() {
+    // always signal 0 or, at the next place, sooner or later signal 1
+    let rule = [10, 7, 6, 3, 0, 8, 9, 6, 3, 1, 8, 5, 0, 8, 5, 0];
+    for (e, new, expected) in [
+        (0, &[3, 9][..], "[03, 09] [1]"),
+        (0, &rule, "[0a, 07, 06, 03, 00, 08, 09, 06, 03, 01, 08, 05, 00, 08, 05, 00] [12, 11, 8, 1, 6, 5, 4, 1, 2, 1, 2, 1]"),
+        (1, &[1], "[0a, 01] [2, 1]"),
+        (2, &[2], "[0a, 07, 02, 08, 05, 00] [5, 4, 1, 2, 1]"),
+        (2, &[8, 4, 3], "[0a, 07, 08, 04, 03, 08, 05, 00] [6, 5, 2, 1, 2, 1]"),
+        (3, &[8, 1], "[0a, 07, 06, 08, 01, 08, 09, 06, 03, 01, 08, 05, 00, 08, 05, 00] [13, 12, 9, 2, 1, 6, 5, 4, 1, 2, 1, 2, 1]"),
+        (4, &[3, 15], "[0a, 07, 06, 03, 00, 03, 0f, 08, 05, 00] [7, 6, 3, 1, 1, 2, 1]"),
+        (5, &[10, 8, 5, 0], "[0a, 07, 06, 03, 00, 08, 0a, 08, 05, 00, 08, 05, 00] [10, 9, 6, 1, 4, 3, 2, 1, 2, 1]"),
+        // a variable, and a next before one
+        (9, &[1], "[0a, 07, 06, 03, 00, 08, 09, 06, 03, 01, 08, 01, 08, 05, 00] [12, 11, 8, 1, 6, 5, 4, 1, 2, 1, 2, 1]"),
+        (8, &[7, 1, 2], "[0a, 07, 06, 03, 00, 08, 09, 06, 03, 01, 07, 01, 02, 08, 05, 00] [13, 12, 9, 1, 7, 6, 5, 1, 3, 1, 1, 2, 1]"),
+        // the last entry
+        (11, &[4, 2], "[0a, 07, 06, 03, 00, 08, 09, 06, 03, 01, 08, 05, 00, 08, 04, 02] [12, 11, 8, 1, 6, 5, 4, 1, 2, 1, 2, 1]"),
+    ] {
+        check_edit(&rule, e, new, expected);
+    }
+}
+
+/// Command and argument of each entry.
+fn rows(table: &Table) -> Vec<(u8, u8)> {
+    table.rows().map(|Row { command, argument, .. }| (command, argument)).collect()
+}
+
+#[test]
+fn fixpoints_that_an_edit_moves() {
+    // a greatest fixpoint, in it an and of a next and of a least one, all variables named
+    let rule = [10, 7, 8, 5, 0, 9, 6, 8, 5, 0, 8, 5, 1];
+    let table = |e: usize, new: &[u8]| edit(&rule, e, new).map(|edited| rows(&edited.table)).expect("an edit");
+    let same = [(10, 0), (7, 0), (8, 0), (5, 0), (9, 0), (6, 0), (8, 0), (5, 4), (8, 0), (5, 0)];
+    assert_eq!(table(0, &rule), same);
+    // the first next is one entry: the least fixpoint comes forward by one, then it goes back by two
+    assert_eq!(table(2, &[1]), [(10, 0), (7, 0), (1, 0), (9, 0), (6, 0), (8, 0), (5, 3), (8, 0), (5, 0)]);
+    let longer = [(10, 0), (7, 0), (7, 0), (10, 0), (8, 0), (5, 3), (3, 9), (9, 0), (6, 0), (8, 0), (5, 7), (8, 0), (5, 0)];
+    assert_eq!(table(2, &[7, 10, 8, 5, 0, 3, 9]), longer);
+    // as many entries as before: nothing moves
+    assert_eq!(table(2, &[8, 3, 9]), [&same[..3], &[(3, 9)], &same[4..]].concat());
+    // a fixpoint in the new rule, with the numbers from 8 on
+    let inner = [&same[..8], &[(9, 0), (8, 0), (10, 0), (8, 0), (6, 0), (5, 8), (5, 10)]].concat();
+    assert_eq!(table(8, &[9, 8, 10, 8, 6, 5, 1, 5, 0]), inner);
+}
+
+/// Rules that are edited at every entry.
+const EDITED: [&[u8]; 7] = [
+    &[1],
+    &CASE_F,
+    &CASE_H,
+    &CASE_I,
+    &[10, 9, 6, 7, 3, 0, 8, 5, 1, 8, 5, 0],
+    &[7, 9, 6, 3, 0, 8, 5, 0, 10, 7, 4, 0, 8, 5, 0],
+    &[10, 7, 6, 4, 0, 9, 6, 3, 1, 8, 5, 0, 8, 5, 0],
+];
+
+/// The table is what reading the spliced rule gives. Before e command and argument stay; a length differs just where e is inside, and by as
+/// much as there are more entries.
+#[test]
+fn every_entry_replaced_by_every_rule() {
+    for (old, new) in EDITED.into_iter().flat_map(|old| EDITED.map(|new| (old, new))) {
+        let before = edit(old, usize::MAX, &[1]).expect_err("no such entry").table.expect("a rule");
+        let (rule, other) = (Rule::read(old).expect("a rule"), Rule::read(new).expect("a rule"));
+        for (e, replaced) in rule.entries().enumerate() {
+            let Edited { rule: spliced, table } = edit(old, e, new).expect("both are small");
+            assert_eq!(Rule::read(spliced.as_bytes()), Ok(spliced.clone()), "{old:02x?} {e} {new:02x?}");
+            assert!(table.entries().eq(spliced.entries()), "{old:02x?} {e} {new:02x?}");
+            assert_eq!(table.count(), rule.entry_count() - (replaced.end - e) + other.entry_count(), "{old:02x?} {e} {new:02x?}");
+            assert_eq!(rows(&table)[..e], rows(&before)[..e], "{old:02x?} {e} {new:02x?}");
+            for (i, (was, is)) in lengths(&before).into_iter().zip(lengths(&table)).take(e).enumerate() {
+                let more = if i + was > e { table.count() } else { rule.entry_count() };
+                assert_eq!(is + rule.entry_count(), was + more, "{old:02x?} {e} {new:02x?}");
+            }
+            assert_eq!(rule.edit(e, &other).as_ref(), Ok(&spliced), "{old:02x?} {e} {new:02x?}");
+        }
+    }
+}
+
+/// An entry that names no fixpoint around it can be put for itself, and nothing changes; else the new rule is none.
+#[test]
+fn an_entry_in_its_own_place() {
+    let own = |old: &[u8], e: usize, bytes: std::ops::Range<usize>| edit_told(&edit(old, e, &old[bytes]));
+    let same = edit_told(&edit(&CASE_F, 0, &CASE_F));
+    assert_eq!(own(&CASE_F, 2, 2..9), same);
+    assert_eq!(own(&CASE_F, 4, 4..6), same);
+    let kept = "Some([9, 8, 5, 4, 1, 2, 1, 2, 1])";
+    assert_eq!(own(&CASE_F, 1, 1..12), format!("7 10 New: {kept}"));
+    assert_eq!(own(&CASE_F, 3, 3..9), format!("7 5 New: {kept}"));
+    assert_eq!(own(&CASE_F, 5, 6..9), format!("7 2 New: {kept}"));
+    assert_eq!(own(&CASE_F, 8, 10..12), format!("7 1 New: {kept}"));
+}
+
+#[test]
+fn refusals_of_edits_in_order() {
+    // the old rule, whatever else there is
+    for (e, new) in [(0, &[1][..]), (0, &[]), (99, &[8, 9, 5, 0])] {
+        check_edit(&[], e, new, "1 0 Old: None");
+        check_edit(&[8, 9, 5, 0], e, new, "8 3 1 Old: None");
+        check_edit(&[7; 49], e, new, "3 48 Old: None");
+        check_edit(&[8; 13], e, new, "4 12 Old: None");
+        check_edit(&[1, 1], e, new, "9 1 Old: None");
+    }
+    // the new rule, whether or not there is such an entry
+    for e in [0, 1, 2, 99] {
+        check_edit(&[8, 3, 7], e, &[], "1 0 New: Some([2, 1])");
+        check_edit(&[8, 3, 7], e, &[7, 0], "2 1 New: Some([2, 1])");
+        check_edit(&[8, 3, 7], e, &[7; 49], "3 48 New: Some([2, 1])");
+        check_edit(&[8, 3, 7], e, &[10; 8], "4 7 New: Some([2, 1])");
+        check_edit(&[8, 3, 7], e, &[3], "5 1 New: Some([2, 1])");
+        check_edit(&[8, 3, 7], e, &[4, 16], "6 1 New: Some([2, 1])");
+        check_edit(&[8, 3, 7], e, &[5, 0], "7 1 New: Some([2, 1])");
+        check_edit(&[8, 3, 7], e, &[8, 10, 6, 1, 5, 0], "8 5 1 New: Some([2, 1])");
+        check_edit(&[8, 3, 7], e, &[1, 1], "9 1 New: Some([2, 1])");
+    }
+    // 37, for whatever would be put there
+    let full = [vec![7; 23], vec![1; 24]].concat();
+    for e in [2, 3, 47, 48, 97, 256, 1 << 32, usize::MAX] {
+        check_edit(&[8, 3, 7], e, &[1], "37: Some([2, 1])");
+        check_edit(&[8, 3, 7], e, &full, "37: Some([2, 1])");
+    }
+    // 3 of what is spliced: 47 commands, one of them replaced by three
+    let kept = |old: &[u8]| format!("{:?}", edit(old, 99, &[1]).unwrap_err().table.as_ref().map(lengths));
+    check_edit(&full, 24, &[8, 8, 1], &format!("3 48 Spliced: {}", kept(&full)));
+    check_edit(&full, 46, &[8, 8, 1], &format!("3 48 Spliced: {}", kept(&full)));
+    assert_eq!(edit(&full, 46, &[8, 1]).map(|edited| edited.table.count()), Ok(48));
+    // 4: an or, a next, a fixpoint too many, in the new rule and behind it
+    let before = |command: u8, count: usize| [vec![command; count], vec![1]].concat();
+    let (ors, nexts) = ([vec![6; 12], vec![1; 13]].concat(), before(8, 11));
+    check_edit(&ors, 12, &[6, 1, 1], &format!("4 12 Spliced: {}", kept(&ors)));
+    check_edit(&nexts, 11, &[8, 8, 1], &format!("4 12 Spliced: {}", kept(&nexts)));
+    check_edit(&[7, 1, 8, 1], 1, &before(8, 12), "4 14 Spliced: Some([4, 1, 2, 1])");
+    check_edit(&[7, 1, 9, 1], 1, &before(10, 7), "4 9 Spliced: Some([4, 1, 2, 1])");
+    assert_eq!(edit(&nexts, 11, &[8, 1]).map(|edited| edited.table.count()), Ok(13));
+    // what stands in the entry goes with it
+    assert_eq!(edit(&ors, 0, &ors).map(|edited| edited.table.count()), Ok(25));
+    // the 13th next is the 49th command, which 3 is asked of first; or it is the 47th
+    let with_next = |ands: usize| [vec![7, 8], vec![7; ands], vec![1; ands + 2]].concat();
+    check_edit(&with_next(17), 37, &before(8, 12), &format!("3 48 Spliced: {}", kept(&with_next(17))));
+    check_edit(&with_next(16), 35, &before(8, 12), &format!("4 46 Spliced: {}", kept(&with_next(16))));
+}
+
+#[test]
+fn words_of_refused_edits() {
+    let told = |old: &[u8], e: usize, new: &[u8]| edit(old, e, new).unwrap_err().to_string();
+    assert!(told(&[9, 5, 0], 0, &[1]).starts_with("the old rule: refused 8 at byte 2, for the fixpoint at byte 0: no next"));
+    assert!(told(&[1], 1, &[1, 2]).starts_with("the new rule: refused 9 at byte 1: bytes after"));
+    assert!(told(&[8; 13], 0, &[1]).starts_with("the old rule: refused 4 at byte 12: more than 12 or"));
+    assert_eq!(told(&[1], 1, &[2]), "refused 37: the old rule has no entry with this number");
+    let (old, new) = ([vec![7; 23], vec![1; 24]].concat(), [8, 8, 1]);
+    assert_eq!(told(&old, 46, &new), "the spliced rule: refused 3 at byte 48: more than 48 commands");
+    assert_eq!(edit(&old, 46, &new).unwrap_err().source, Some(Source::Spliced));
 }
