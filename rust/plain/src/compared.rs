@@ -1,11 +1,13 @@
 //! One input through the proved library and the independent implementation: what differs, if anything.
 
 mod building;
+mod edit;
 mod safety;
 mod set;
 mod sheet;
 
 pub use building::{Buildings, Changed};
+pub use edit::{edit, proved_edit, Edits};
 pub use safety::{safety, Safeties};
 pub use set::{proved_set, set, Sets};
 pub use sheet::{lookup, proved_lookup, Faults, Lookups};

@@ -1,9 +1,12 @@
-//! Random rules, sets of rules and sheets, whole and damaged, and random courses, for comparing and timing. The same seed gives the same
+//! Random rules, sets of rules, sheets, whole and damaged, edits, and random courses, for comparing and timing. The same seed gives the same
 //! ones.
 
+mod edits;
 mod sets;
 mod sheets;
 
+pub use edits::Replacement;
+pub(crate) use sets::commands;
 pub use sheets::Sheets;
 
 use crate::reading::{ends, read, Command};

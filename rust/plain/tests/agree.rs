@@ -1,7 +1,7 @@
 //! The proved library and the independent implementation agree.
 
 use yuktrob_plain::compared::{self, Areas, Input};
-use yuktrob_plain::compared::{Buildings, Courses, Decisions, Lookups, Rooms, Safeties, Sets, Signals, Truths, Unguarded};
+use yuktrob_plain::compared::{Buildings, Courses, Decisions, Edits, Lookups, Rooms, Safeties, Sets, Signals, Truths, Unguarded};
 use yuktrob_plain::random::Random;
 
 /// Courses are kept this short, so that the test takes seconds; `compare` draws longer ones.
@@ -55,6 +55,15 @@ fn on_some_thousands_of_sets() {
         assert_eq!(compared::set(&mut random, &mut areas, &mut sets), Ok(()));
     }
     check_sets(&sets);
+}
+
+#[test]
+fn on_some_thousands_of_edits() {
+    let (mut random, mut edits) = (Random::new(42), Edits::default());
+    for _ in 0..20_000 {
+        assert_eq!(compared::edit(&mut random, &mut edits), Ok(()));
+    }
+    check_edits(&edits);
 }
 
 /// Each count is above the number behind it.
@@ -219,5 +228,40 @@ fn check_sets(sets: &Sets) {
         (later_15, 200, "subsets refused with 35 through 15"),
         (sets.later_behind, 600, "subsets refused with 35 where some rule was left out for good"),
         (sets.again, 1000, "verdicts asked for again with more room"),
+    ]);
+}
+
+fn check_edits(edits: &Edits) {
+    let fewest = |counts: &[u64]| counts.iter().copied().min().unwrap_or(0);
+    check_counts(&[
+        (edits.edited, 6000, "edits"),
+        (edits.whole, 2000, "whole rules replaced"),
+        (edits.last, 1000, "last entries replaced"),
+        (edits.between, 2000, "entries replaced with others before and behind"),
+        (edits.longer, 3000, "edits to more entries"),
+        (edits.shorter, 1700, "edits to fewer entries"),
+        (edits.even, 1200, "edits to as many entries"),
+        (edits.same, 800, "edits to the same rule"),
+        (edits.within, 2500, "edits inside a fixpoint"),
+        (edits.named_before, 700, "edits before a variable of a fixpoint that stays"),
+        (edits.named_moved, 250, "edits before a fixpoint that moves with its variables"),
+        (edits.named_inside, 1200, "edits with a fixpoint of the new rule that moves"),
+        (fewest(&edits.full), 400, "edits to as many commands, ors, nexts or fixpoints as there may be"),
+        (fewest(&edits.old), 10, "old rules refused with some number"),
+        (fewest(&edits.new), 25, "new rules refused with some number"),
+        (edits.old_before_new, 250, "old rules refused where the new one would be too"),
+        (edits.new_before_37, 250, "new rules refused where there is no such entry"),
+        (edits.open, 450, "new rules refused with 7 whose variables would name a fixpoint of the old one"),
+        (edits.missing, 1300, "edits refused with 37"),
+        (edits.missing_next, 200, "edits refused with 37 for the entry behind the last"),
+        (edits.missing_low, 600, "edits refused with 37 where the lowest bits are an entry's"),
+        (edits.commands, 1300, "spliced rules refused with 3"),
+        (edits.commands_by_one, 250, "spliced rules refused with 3 for one command"),
+        (fewest(&edits.kinds), 400, "spliced rules refused with 4 for ors, nexts or fixpoints"),
+        (fewest(&edits.kinds_by_one), 250, "spliced rules refused with 4 for one or, next or fixpoint"),
+        (edits.excess_inside, 2500, "spliced rules refused in the new rule"),
+        (edits.excess_behind, 1200, "spliced rules refused behind the new rule"),
+        (edits.excess_both[0], 150, "spliced rules refused with 3 that have too many of others"),
+        (edits.excess_both[1], 700, "spliced rules refused with 4 that have too many commands"),
     ]);
 }

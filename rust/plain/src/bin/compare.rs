@@ -1,14 +1,16 @@
 //! Runs the proved library and the independent implementation on the same random inputs, and reports every difference.
 //!
-//! - `compare [INPUTS [SEED [LONGEST]]]`: readings, truths, decisions, decisions of safety rules, lookups and decisions of sets in turn,
-//!   where no course that both work out is longer than LONGEST places, 60 at least and 8,192 at most.
+//! - `compare [INPUTS [SEED [LONGEST]]]`: readings, truths, decisions, decisions of safety rules, lookups, decisions of sets and edits in
+//!   turn, where no course that both work out is longer than LONGEST places, 60 at least and 8,192 at most.
 //! - `compare safety [INPUTS [SEED]]`: decisions of safety rules alone.
 //! - `compare sheet [INPUTS [SEED]]`: lookups alone.
 //! - `compare set [INPUTS [SEED]]`: decisions of sets alone.
+//! - `compare edit [INPUTS [SEED]]`: edits alone.
 
 use std::time::Instant;
 use yuktrob_plain::compared::{self, Areas, Input, LONG};
-use yuktrob_plain::compared::{Buildings, Changed, Courses, Decisions, Faults, Lookups, Rooms, Safeties, Sets, Signals, Truths, Unguarded};
+use yuktrob_plain::compared::{Buildings, Changed, Courses, Decisions, Edits, Faults, Lookups, Rooms, Safeties, Sets, Signals};
+use yuktrob_plain::compared::{Truths, Unguarded};
 use yuktrob_plain::random::Random;
 
 fn main() {
@@ -17,6 +19,7 @@ fn main() {
         Some("safety") => Some(safety),
         Some("sheet") => Some(sheet),
         Some("set") => Some(set),
+        Some("edit") => Some(edit),
         _ => None,
     };
     words.drain(..alone.is_some() as usize);
@@ -66,19 +69,27 @@ fn set(inputs: u64, seed: u64) -> u64 {
     differences
 }
 
+fn edit(inputs: u64, seed: u64) -> u64 {
+    let (mut random, mut edits) = (Random::new(seed), Edits::default());
+    let differences = differing(inputs, "edits", || compared::edit(&mut random, &mut edits));
+    report_edits(&edits);
+    differences
+}
+
 /// How many of so many inputs differ.
 fn all(inputs: u64, seed: u64, longest: usize) -> u64 {
     let mut random = Random::new(seed);
     let (mut unguarded, mut signals) = (Unguarded::default(), Signals::default());
     let (mut areas, mut truths, mut decisions) = (Areas::new(), Truths::default(), Decisions::default());
-    let (mut safeties, mut lookups, mut sets) = (Safeties::default(), Lookups::default(), Sets::default());
+    let (mut safeties, mut lookups, mut sets, mut edits) = (Safeties::default(), Lookups::default(), Sets::default(), Edits::default());
     let mut differences = 0u64;
     let start = Instant::now();
     for i in 0..inputs {
-        differences += reported(match i % 6 {
+        differences += reported(match i % 7 {
             3 => compared::safety(&mut random, &mut areas, &mut safeties),
             4 => compared::lookup(&mut random, &mut lookups),
             5 => compared::set(&mut random, &mut areas, &mut sets),
+            6 => compared::edit(&mut random, &mut edits),
             share => {
                 let input = Input::new(&mut random);
                 let rule = &input.rule;
@@ -93,8 +104,8 @@ fn all(inputs: u64, seed: u64, longest: usize) -> u64 {
         });
     }
     let seconds = start.elapsed().as_secs_f64();
-    let [readings, decided, safely, found, at_once] = [5, 3, 2, 1, 0].map(|more| (inputs + more) / 6);
-    let (all, rest) = (truths.all, format!("{safely} of safety rules, {found} lookups, {at_once} sets in {seconds:.1} s"));
+    let [readings, decided, safely, found, at_once, edited] = [6, 4, 3, 2, 1, 0].map(|more| (inputs + more) / 7);
+    let (all, rest) = (truths.all, format!("{safely} of safety rules, {found} lookups, {at_once} sets, {edited} edits in {seconds:.1} s"));
     println!("compared: {readings} readings, {all} truths, {decided} decisions, {rest}");
     println!("truths of rules with alternating fixpoints: {}, of these on {LONG} places or more: {}", truths.alternating, truths.long);
     let Unguarded { all, between } = unguarded;
@@ -105,6 +116,7 @@ fn all(inputs: u64, seed: u64, longest: usize) -> u64 {
     report_safeties(&safeties);
     report_lookups(&lookups);
     report_sets(&sets);
+    report_edits(&edits);
     differences
 }
 
@@ -204,4 +216,26 @@ fn report_sets(sets: &Sets) {
     let Sets { whole: [by_3, by_4, by_14, by_15], later: [later_14, later_15], later_behind, .. } = sets;
     println!("refused with 35 at the whole set through 3: {by_3}, 4: {by_4}, 14: {by_14}, 15: {by_15}");
     println!("at a subset through 14: {later_14}, 15: {later_15}, of these where some rule was left out for good: {later_behind}");
+}
+
+fn report_edits(edits: &Edits) {
+    let Edits { edited, whole, last, between, longer, shorter, even, same, .. } = edits;
+    println!("edited: {edited}, of these the whole rule: {whole}, the last entry: {last}, one with others before and behind: {between}");
+    println!("to more entries: {longer}, to fewer: {shorter}, to as many: {even}, to the same rule: {same}");
+    let Edits { within, named_before, named_moved, named_inside, .. } = edits;
+    println!("inside a fixpoint: {within}; with a variable behind that names a fixpoint before: {named_before}, one that moves: {named_moved}");
+    println!("with a variable in the new rule, whose fixpoint moves: {named_inside}");
+    let Edits { full: [commands, ors, nexts, fixpoints], .. } = edits;
+    println!("to 48 commands: {commands}, 12 ors: {ors}, 12 nexts: {nexts}, 7 fixpoints: {fixpoints}");
+    let Edits { old, new, old_before_new, new_before_37, open, .. } = edits;
+    println!("the old rule refused with 1 to 9: {old:?}, of these with a new rule that is none: {old_before_new}");
+    println!("the new rule refused with 1 to 9: {new:?}, of these without such an entry: {new_before_37}");
+    println!("of these with 7, where the spliced bytes are a rule: {open}");
+    let Edits { missing, missing_next, missing_low, .. } = edits;
+    println!("refused with 37: {missing}, of these for the entry behind the last: {missing_next}, with an entry's lowest bits: {missing_low}");
+    let Edits { commands, commands_by_one, kinds: [ors, nexts, fixpoints], kinds_by_one: [or, next, fixpoint], .. } = edits;
+    println!("the spliced rule refused with 3: {commands}, of these for one command too many: {commands_by_one}");
+    println!("with 4 for ors: {ors}, nexts: {nexts}, fixpoints: {fixpoints}, of these for one too many: {or}, {next}, {fixpoint}");
+    let Edits { excess_inside, excess_behind, excess_both: [by_3, by_4], .. } = edits;
+    println!("in the new rule: {excess_inside}, behind it: {excess_behind}; with 3 where 4 is due too: {by_3}, with 4 where 3 is: {by_4}");
 }

@@ -77,7 +77,7 @@ impl Random {
     }
 
     /// A rule with as many bytes as reading accepts: an and of 24 signals, and one more command before it.
-    fn longest(&mut self) -> Vec<u8> {
+    pub(super) fn longest(&mut self) -> Vec<u8> {
         let before = 8 + self.below(3) as u8;
         let signals: Vec<u8> = (0..24).flat_map(|_| self.signal(3)).collect();
         [vec![before], vec![7; 23], signals].concat()
@@ -130,7 +130,7 @@ impl Random {
     }
 
     /// Bytes that reading refuses, nearly always.
-    fn no_rule(&mut self) -> Vec<u8> {
+    pub(super) fn no_rule(&mut self) -> Vec<u8> {
         match self.below(6) {
             0 => Vec::new(),
             1 => self.unguarded(),
@@ -147,7 +147,7 @@ impl Random {
 }
 
 /// The commands of a rule, without their operand bytes.
-fn commands(rule: &[u8]) -> impl Iterator<Item = u8> + '_ {
+pub(crate) fn commands(rule: &[u8]) -> impl Iterator<Item = u8> + '_ {
     let mut at = 0;
     std::iter::from_fn(move || {
         let &command = rule.get(at)?;
