@@ -223,8 +223,8 @@ fn report_edits(edits: &Edits) {
     println!("edited: {edited}, of these the whole rule: {whole}, the last entry: {last}, one with others before and behind: {between}");
     println!("to more entries: {longer}, to fewer: {shorter}, to as many: {even}, to the same rule: {same}");
     let Edits { within, named_before, named_moved, named_inside, .. } = edits;
-    println!("inside a fixpoint: {within}; with a variable behind that names a fixpoint before: {named_before}, one that moves: {named_moved}");
-    println!("with a variable in the new rule, whose fixpoint moves: {named_inside}");
+    println!("inside a fixpoint: {within}; with a variable in the new rule, whose fixpoint moves: {named_inside}");
+    println!("with a variable behind that names a fixpoint before: {named_before}, one that moves: {named_moved}");
     let Edits { full: [commands, ors, nexts, fixpoints], .. } = edits;
     println!("to 48 commands: {commands}, 12 ors: {ors}, 12 nexts: {nexts}, 7 fixpoints: {fixpoints}");
     let Edits { old, new, old_before_new, new_before_37, open, .. } = edits;
@@ -232,7 +232,7 @@ fn report_edits(edits: &Edits) {
     println!("the new rule refused with 1 to 9: {new:?}, of these without such an entry: {new_before_37}");
     println!("of these with 7, where the spliced bytes are a rule: {open}");
     let Edits { missing, missing_next, missing_low, .. } = edits;
-    println!("refused with 37: {missing}, of these for the entry behind the last: {missing_next}, with an entry's lowest bits: {missing_low}");
+    println!("refused with 37: {missing}, of these for the entry behind the last: {missing_next}, by its lowest bits an entry: {missing_low}");
     let Edits { commands, commands_by_one, kinds: [ors, nexts, fixpoints], kinds_by_one: [or, next, fixpoint], .. } = edits;
     println!("the spliced rule refused with 3: {commands}, of these for one command too many: {commands_by_one}");
     println!("with 4 for ors: {ors}, nexts: {nexts}, fixpoints: {fixpoints}, of these for one too many: {or}, {next}, {fixpoint}");

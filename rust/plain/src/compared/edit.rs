@@ -27,7 +27,7 @@ pub struct Edits {
     pub named_inside: u64,
     /// Edited to as many commands, ors, nexts and fixpoints as there may be.
     pub full: [u64; 4],
-    /// The old rule refused, the new one, each with 1 to 9; of the former with a new rule that is none; of the latter without such an entry.
+    /// The old rule refused, the new one, each with 1 to 9; of the former where the new one is none, of the latter without such an entry.
     pub old: [u64; 9],
     pub new: [u64; 9],
     pub old_before_new: u64,

@@ -93,8 +93,8 @@ impl Random {
         old[from..to].to_vec()
     }
 
-    /// A rule that is accepted, such that the spliced one has about as many of something as it may have, and one too many every second time.
-    /// The old rule may get more of it too.
+    /// An accepted rule, such that the spliced one has as many of something as it may have, or, every second time, one more. The old rule
+    /// may get more of it too.
     fn up_to_limit(&mut self, old: &mut Vec<u8>, e: usize) -> Vec<u8> {
         let limit = &LIMITS[self.below(4)];
         let size = 1 + self.below(8);

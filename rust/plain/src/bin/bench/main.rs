@@ -6,6 +6,7 @@
 //! - `bench safety [COUNT SEED]`: the tables of safety rules; or which of so many random ones take longest.
 //! - `bench sheets`: the tables of lookups.
 //! - `bench sets [COUNT SEED]`: the tables of sets; or which of so many random ones take longest.
+//! - `bench edits [COUNT SEED]`: the tables of edits; or which of so many random ones have the largest ratios.
 //! - `bench alternating [SHORT LONG]`: the table of truth with alternating fixpoints, at these numbers of places.
 //! - `bench search COUNT SEED [PLACES]`: which of so many random rules with fixpoints that cross, most of which alternate, take the proved
 //!   library longest, and on which course.
@@ -18,6 +19,7 @@ mod alternating;
 mod building;
 mod decisions;
 mod early;
+mod edits;
 mod readings;
 mod safety;
 mod sets;
@@ -40,6 +42,7 @@ fn all() {
     safety::tables();
     sheets::tables();
     sets::tables();
+    edits::tables();
     truths::tables();
     alternating::table(1024, 8192);
 }
@@ -56,8 +59,10 @@ fn main() {
         Some("sheets") => sheets::tables(),
         Some("sets") if words.len() > 1 => sets::search(number(1, 1000), number(2, 1) as u64),
         Some("sets") => sets::tables(),
+        Some("edits") if words.len() > 1 => edits::search(number(1, 1000), number(2, 1) as u64),
+        Some("edits") => edits::tables(),
         Some("alternating") => alternating::table(number(1, 1024), number(2, 8192)),
         Some("search") => alternating::search(number(1, 3000), number(2, 1) as u64, number(3, 1024)),
-        Some(other) => panic!("{other}: not known; early, building, safety, sheets, sets, alternating or search, or nothing"),
+        Some(other) => panic!("{other}: not known; early, building, safety, sheets, sets, edits, alternating or search, or nothing"),
     }
 }
