@@ -1,8 +1,9 @@
 //! Every line of the ```rules blocks of docs/FORMULAS.md, run; its words for each refusal, held beside the crate's; and a rule that is
 //! searched with more and more room.
 
-use yuktrob::{build, course_len, decide, decide_safety, decide_set, lookup, nodes_len, search, truth, work_len};
-use yuktrob::{Areas, Found, NotFound, Refusal, Rule, SafetyVerdict, SetRefusal, SetVerdict, Sheet, Verdict, MOST_NODES, PREVIOUS_SCALE};
+use yuktrob::{build, course_len, decide, decide_safety, decide_set, edit, lookup, nodes_len, search, truth, work_len};
+use yuktrob::{Areas, Edited, Found, NotFound, Refusal, Rule, SafetyVerdict, SetRefusal, SetVerdict, Sheet, Source, Verdict};
+use yuktrob::{MOST_NODES, PREVIOUS_SCALE};
 
 fn document() -> String {
     std::fs::read_to_string(concat!(env!("CARGO_MANIFEST_DIR"), "/../../docs/FORMULAS.md")).expect("docs/FORMULAS.md")
@@ -137,15 +138,15 @@ fn decided_safely(rule: &[u8], nodes: usize, lent: With) -> String {
     }
 }
 
-/// A sheet, of which a dash has no records.
-fn records(text: &str) -> Vec<u8> {
+/// The bytes of a sheet or a rule; a dash stands for none.
+fn bytes_or_none(text: &str) -> Vec<u8> {
     if text == "-" { Vec::new() } else { bytes(text) }
 }
 
 /// The lookup of a rule in two sheets.
 fn looked_up(sheets: [&str; 2], number: u16) -> String {
     let name = |sheet| if sheet == Sheet::Dealer { "dealer" } else { "factory" };
-    let [dealer, factory] = sheets.map(records);
+    let [dealer, factory] = sheets.map(bytes_or_none);
     match lookup(&dealer, &factory, number) {
         Ok(Found { sheet, start, rule }) => {
             let digits: String = rule.iter().map(|byte| format!("{byte:02x}")).collect();
@@ -171,16 +172,35 @@ fn decided_at_once(sheet: &[u8], room: &str) -> String {
     }
 }
 
+/// A rule in place of an entry of another: the bytes and the lengths of all entries.
+fn edited(old: &[u8], e: usize, new: &[u8]) -> String {
+    match edit(old, e, new) {
+        Ok(Edited { rule, table }) => {
+            let digits: String = rule.as_bytes().iter().map(|byte| format!("{byte:02x}")).collect();
+            table.rows().fold(format!("EDITED {digits} lengths"), |told, row| format!("{told} {}", row.length))
+        }
+        Err(why) => {
+            let source = why.source.map_or("", |source| match source {
+                Source::Old => " of old",
+                Source::New => " of new",
+                Source::Spliced => " of spliced",
+            });
+            format!("{}{source}", refused(why.refusal))
+        }
+    }
+}
+
 /// What a line comes to: `RULE on COURSE`, `RULE built`, `RULE searched`, `RULE searched over RULE`, or a rule alone, which is decided. All
 /// but the first may be followed by ` with ` and numbers. Or, as the test runner has them, `safety | RULE | N`, and perhaps
-/// ` | lent WORK COURSE`; `sheet | DEALER | FACTORY | NUMBER`; and `set | SHEET | N M`.
+/// ` | lent WORK COURSE`; `sheet | DEALER | FACTORY | NUMBER`; `set | SHEET | N M`; and `edit | OLD | ENTRY | NEW`.
 fn found(input: &str) -> String {
     match input.split(" | ").collect::<Vec<_>>()[..] {
         ["safety", rule, nodes, ref lent @ ..] => {
             return decided_safely(&bytes(rule), nodes.parse().expect("a room for nodes"), With(lent.first().unwrap_or(&"")));
         }
         ["sheet", dealer, factory, number] => return looked_up([dealer, factory], number.parse().expect("a rule's number")),
-        ["set", sheet, room] => return decided_at_once(&records(sheet), room),
+        ["set", sheet, room] => return decided_at_once(&bytes_or_none(sheet), room),
+        ["edit", old, e, new] => return edited(&bytes_or_none(old), e.parse().expect("an entry"), &bytes_or_none(new)),
         _ => {}
     }
     let (input, with) = input.split_once(" with ").unwrap_or((input, ""));
@@ -198,7 +218,7 @@ fn found(input: &str) -> String {
 #[test]
 fn every_line_of_the_document() {
     let mut inside = false;
-    let (mut lines, mut sheets, mut sets) = (0, 0, 0);
+    let (mut lines, mut sheets, mut sets, mut edits) = (0, 0, 0, 0);
     for line in document().lines() {
         match line {
             "```rules" => inside = true,
@@ -209,11 +229,13 @@ fn every_line_of_the_document() {
                 lines += 1;
                 sheets += input.starts_with("sheet | ") as u32;
                 sets += input.starts_with("set | ") as u32;
+                edits += input.starts_with("edit | ") as u32;
             }
             _ => {}
         }
     }
-    assert!(lines >= 30 && sheets >= 10 && sets >= 10, "only {lines} lines were found, {sheets} with two sheets, {sets} with a set");
+    let told = format!("only {lines} lines were found, {sheets} with two sheets, {sets} with a set, {edits} with an edit");
+    assert!(lines >= 30 && sheets >= 10 && sets >= 10 && edits >= 10, "{told}");
 }
 
 /// The trainers' use: nodes that are built once are searched with more and more room, lent or with their rule.
@@ -247,6 +269,7 @@ fn refusal(number: u8) -> Refusal {
         18 => truth(&[1], &[PREVIOUS_SCALE; 2], 1, &mut [0]).unwrap_err(),
         19 => truth(&[1], &[0], 0, &mut [0]).unwrap_err(),
         36 => search(&often, 3, 256, 300, &mut work, &mut buffer).unwrap_err(),
+        37 => edit(&[1], 1, &[1]).unwrap_err().refusal,
         43 => decide_safety(&often, 256, &mut work, &mut buffer).unwrap_err(),
         _ => panic!("the document has a refusal {number} that no input is known for"),
     }
@@ -279,7 +302,7 @@ fn every_refusal_has_the_words_of_the_document() {
         Some((number.parse::<u8>().ok()?, words.to_string()))
     };
     let rows: Vec<(u8, String)> = document.lines().skip_while(|line| *line != "## Refusals").filter_map(row).collect();
-    assert_eq!(rows.len(), 24);
+    assert_eq!(rows.len(), 25);
     for (number, words) in rows {
         if let Some(why) = not_found(number) {
             let place = if number == 30 { " at byte 5 of the dealer's sheet" } else { "" };
