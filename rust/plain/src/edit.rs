@@ -174,3 +174,18 @@ fn joined(table: &[Row], e: usize, others: &[Row]) -> Vec<Row> {
     let before = table[..e].iter().enumerate().map(around);
     before.chain(others.iter().map(inside)).chain(table[end..].iter().map(behind)).collect()
 }
+
+/// An edit as the operation leaves it in two areas: the spliced bytes, or none, with zeros behind them; and all commands, arguments and
+/// lengths of the table, with zeros behind each.
+pub fn laid_out(Edit { answer, table }: &Edit) -> ([u8; 97], [u8; 144]) {
+    let (mut spliced, mut rows) = ([0; 97], [0; 144]);
+    if let Answer::Edited(bytes) = answer {
+        spliced[..bytes.len()].copy_from_slice(bytes);
+    }
+    for (e, row) in table.iter().enumerate() {
+        rows[e] = row.command;
+        rows[48 + e] = row.argument;
+        rows[96 + e] = row.length;
+    }
+    (spliced, rows)
+}

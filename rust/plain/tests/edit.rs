@@ -3,7 +3,7 @@
 
 use std::collections::HashMap;
 use yuktrob_plain::compared::proved_edit;
-use yuktrob_plain::edit::{by_reading, by_rows, Answer, Edit, Row, Source};
+use yuktrob_plain::edit::{by_reading, by_rows, laid_out, Answer, Edit, Row, Source};
 use yuktrob_plain::hex;
 use yuktrob_plain::random::{Random, Replacement};
 
@@ -34,14 +34,9 @@ fn told(Edit { answer, table }: &Edit) -> String {
     }
 }
 
-/// The table as the runner writes it: how many entries there are, and all commands, arguments and lengths, with zeros behind each.
-fn table_told(table: &[Row]) -> String {
-    let part = |of: fn(&Row) -> u8| {
-        let mut bytes: Vec<u8> = table.iter().map(of).collect();
-        bytes.resize(48, 0);
-        written(&bytes)
-    };
-    format!("{} {}{}{}", table.len(), part(|row| row.command), part(|row| row.argument), part(|row| row.length))
+/// The table as the runner writes it: how many entries there are, and all its bytes.
+fn table_told(edit: &Edit) -> String {
+    format!("{} {}", edit.table.len(), written(&laid_out(edit).1))
 }
 
 /// The lines that the test runner runs, each with what it comes to: it passes over comments and blank lines, and answers all others.
@@ -75,7 +70,7 @@ fn vectors() {
         for edit in ALL {
             let edit = edit(&old, e, &new);
             assert_eq!(told(&edit), expected, "{line}");
-            assert_eq!(table.map_or(String::new(), |_| table_told(&edit.table)), table.unwrap_or(""), "{line}");
+            assert_eq!(table.map_or(String::new(), |_| table_told(&edit)), table.unwrap_or(""), "{line}");
         }
         run += 1;
     }

@@ -65,6 +65,10 @@ pub struct Table {
 }
 
 impl Table {
+    fn new(bytes: &[u8; TABLE_LEN]) -> Table {
+        Table { bytes: Box::new(*bytes) }
+    }
+
     /// How many entries there are: 1 to 48.
     ///
     /// ```
@@ -201,15 +205,16 @@ pub struct EditRefusal {
 }
 
 impl EditRefusal {
-    /// From the number, what the answer carries above it, and what the table holds.
-    fn new(number: u8, carried: u64, table: Table) -> EditRefusal {
+    /// From the number, what the answer carries above it, and the table's bytes.
+    fn new(number: u8, carried: u64, bytes: &[u8; TABLE_LEN]) -> EditRefusal {
         let source = match carried >> 16 {
             0 => Source::Old,
             1 => Source::New,
             _ => Source::Spliced,
         };
         let source = matches!(number, 1..=9).then_some(source);
-        EditRefusal { refusal: Refusal::new(number, carried), source, table: (source != Some(Source::Old)).then_some(table) }
+        let table = (source != Some(Source::Old)).then(|| Table::new(bytes));
+        EditRefusal { refusal: Refusal::new(number, carried), source, table }
     }
 
     /// The refusal's number.
@@ -267,14 +272,14 @@ impl std::error::Error for EditRefusal {}
 /// # Ok::<(), Box<dyn std::error::Error>>(())
 /// ```
 pub fn edit(old: &[u8], e: usize, new: &[u8]) -> Result<Edited, EditRefusal> {
-    let (mut spliced, mut bytes) = ([0; SPLICED_LEN], Box::new([0; TABLE_LEN]));
-    let answer = exported::edit(old, e, new, &mut spliced, &mut bytes);
-    let (carried, table) = (answer / 256, Table { bytes });
+    let (mut spliced, mut table) = ([0; SPLICED_LEN], [0; TABLE_LEN]);
+    let answer = exported::edit(old, e, new, &mut spliced, &mut table);
+    let carried = answer / 256;
     match (answer % 256) as u8 {
         0 => {
             let [len, count, ..] = carried.to_le_bytes();
-            Ok(Edited { rule: Rule::accepted(&spliced[..len.into()], count.into()), table })
+            Ok(Edited { rule: Rule::accepted(&spliced[..len.into()], count.into()), table: Table::new(&table) })
         }
-        number => Err(EditRefusal::new(number, carried, table)),
+        number => Err(EditRefusal::new(number, carried, &table)),
     }
 }

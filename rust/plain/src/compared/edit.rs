@@ -1,7 +1,7 @@
 //! Edits through both implementations: what they answer, with the bytes and every byte of the table; that the table is what the proved
 //! reading gives; and that what the papers say of the entries before the one replaced is so.
 
-use crate::edit::{by_reading, by_rows, rows, span, Answer, Edit, Row, Source};
+use crate::edit::{by_reading, by_rows, laid_out, rows, span, Answer, Edit, Row, Source};
 use crate::random::{commands, Random, Replacement};
 use crate::reading::{read, Unreadable};
 use yuktrob::{Edited, Rule, Table};
@@ -64,7 +64,7 @@ pub fn edit(random: &mut Random, edits: &mut Edits) -> Result<(), String> {
     if ours != theirs {
         return fail("answer", &ours);
     }
-    if !(as_read(&asked) && keeps(&asked, &ours)) {
+    if !(as_read(&asked, &theirs) && keeps(&asked, &ours)) {
         return fail("entries", &ours);
     }
     edits.count(&asked, &ours);
@@ -90,17 +90,13 @@ pub fn proved_edit(old: &[u8], e: usize, new: &[u8]) -> Edit {
     Edit { answer, table: why.table.as_ref().map_or(Vec::new(), told) }
 }
 
-/// All 144 bytes as rows, but for zeros at the end.
 fn told(table: &Table) -> Vec<Row> {
-    let bytes = table.as_bytes();
-    let row = |e: usize| Row { command: bytes[e], argument: bytes[48 + e], length: bytes[96 + e] };
-    let last = (0..48).rfind(|&e| row(e) != Row { command: 0, argument: 0, length: 0 });
-    (0..last.map_or(0, |last| last + 1)).map(row).collect()
+    table.rows().map(|row| Row { command: row.command, argument: row.argument, length: row.length as u8 }).collect()
 }
 
-/// Whether the table has the entries that the proved reading gives: of the spliced rule, which is handed back as a rule, or of the old one;
-/// and whether an accepted rule's own edit is the same.
-fn as_read(Replacement { old, e, new }: &Replacement) -> bool {
+/// Whether the table has all bytes as expected, with the entries that the proved reading gives: of the spliced rule, which is handed back as
+/// a rule, or of the old one; and whether an accepted rule's own edit is the same.
+fn as_read(Replacement { old, e, new }: &Replacement, expected: &Edit) -> bool {
     let answer = yuktrob::edit(old, *e, new);
     let (of, table) = match &answer {
         Ok(Edited { rule, table }) => (rule.as_bytes(), Some(table)),
@@ -108,7 +104,10 @@ fn as_read(Replacement { old, e, new }: &Replacement) -> bool {
     };
     let read = Rule::read(of);
     let same = match (&read, table) {
-        (Ok(rule), Some(table)) => table.count() == rule.entry_count() && table.entries().eq(rule.entries()),
+        (Ok(rule), Some(table)) => {
+            let counted = (table.count(), rule.entry_count()) == (expected.table.len(), expected.table.len());
+            counted && table.entries().eq(rule.entries()) && table.as_bytes() == &laid_out(expected).1
+        }
         (Err(_), None) => true,
         _ => false,
     };

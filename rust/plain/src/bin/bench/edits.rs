@@ -1,12 +1,12 @@
 //! Entries of rules replaced: by the number of commands, at the first, a middle and the last entry; rules of the usual shapes; such that are
-//! refused; and a search for edits with a large ratio. The proved library reads the spliced bytes, and the ratio is to plain Rust that does
-//! so too; plain Rust that puts rows together, and reads them no third time, stands beside it.
+//! refused; and a search for edits with a large ratio. The proved library reads the spliced bytes, and the first ratio is to plain Rust that
+//! does so too; plain Rust that puts rows together, and reads no third rule, stands beside it. Both leave their edit in two areas, too.
 
 use crate::shapes::{always, each, eventually, infinitely_often};
 use crate::timing::{head, per, ratio, time};
 use std::hint::black_box;
 use std::time::Duration;
-use yuktrob_plain::edit::{by_reading, by_rows, Edit};
+use yuktrob_plain::edit::{by_reading, by_rows, laid_out, Edit};
 use yuktrob_plain::random::{Random, Replacement};
 use yuktrob_plain::reading::read;
 
@@ -53,7 +53,7 @@ fn editing(asked: &[Replacement], times: usize) -> Took {
     let [by_reading, by_rows] = [by_reading, by_rows].map(|edit: fn(&[u8], usize, &[u8]) -> Edit| {
         time(|| {
             for Replacement { old, e, new } in asked.iter().cycle().take(edits) {
-                black_box(edit(black_box(old), *e, black_box(new)));
+                black_box(laid_out(&edit(black_box(old), *e, black_box(new))));
             }
         })
     });
