@@ -62,7 +62,7 @@ read-few bytes e = accepted-length bytes (reading-parsed bytes e .1) .1
 
 -- ---- the spliced bytes, as far as reading looks at them
 module _ {bytes : List ℕ} {p : Prefix} (h : Splices bytes p) where
-  pub seen : take (p .count) (p .bytes) ≡ take 97 bytes
+  seen : take (p .count) (p .bytes) ≡ take 97 bytes
   seen =
       ap (take (p .count)) (h .is)
       ∙ take-at (take 97 bytes) (replicate {A = ℕ} (97 - length (take 97 bytes)) 0) (p .count) (sym (h .count))
@@ -79,11 +79,11 @@ module _ {bytes : List ℕ} {p : Prefix} (h : Splices bytes p) where
   pub prefix-count : p .count ≡ length (take (p .count) (p .bytes))
   prefix-count = h .count ∙ sym (ap length seen)
 
-  pub seen-reading : {part : List ℕ} → part ≡ take (p .count) (p .bytes) → reading part ≡ reading bytes
-  seen-reading e = ap reading (e ∙ seen) ∙ reading-prefix bytes
+  seen-reading : reading (take (p .count) (p .bytes)) ≡ reading bytes
+  seen-reading = ap reading seen ∙ reading-prefix bytes
 
   -- all of them, where reading accepts them
-  pub seen-all : {x : Entries} {t : Table} → reading bytes ≡ Reading.accepted x → t ≡ table-of x
+  seen-all : {x : Entries} {t : Table} → reading bytes ≡ Reading.accepted x → t ≡ table-of x
       → _≡_ {A = Edit} (record { answer = Substituted (p .count); table = t; bytes = p .bytes }) (handed (Substitution.substituted x bytes))
   seen-all e f =
       let whole = take-all 97 bytes (omega (arith, read-few bytes e)) in
@@ -120,7 +120,7 @@ module _ (old : List ℕ) (t : Table) (h : Read-as old t) (e : ℕ) (new : List 
   many = values-length (operator-at (t .rows)) 0 (t .count)
 
   module _ {span : Span} (s : (span .from ≡ first-byte x e) × (span .to ≡ last-byte x e)) where
-    pub spliced-is : spliced-at span old new ≡ replaced old x e new
+    spliced-is : spliced-at span old new ≡ replaced old x e new
     spliced-is i = spliced (s .0 i) (s .1 i) old new
 
     pub spans : e < t .count → length new ≤ 96 → Spans span old new
@@ -135,16 +135,22 @@ module _ (old : List ℕ) (t : Table) (h : Read-as old t) (e : ℕ) (new : List 
           new-few = few;
         }
 
-  -- what reading says of the spliced bytes
-  pub spliced-told : {bytes : List ℕ} {r : Reading Entries} → bytes ≡ replaced old x e new → reading bytes ≡ r
-      → handed (of-spliced x bytes r) ≡ handed (of-number old x e new true)
-  spliced-told {r = r} q s =
-      ap (λ (l : List ℕ). handed (of-spliced x l r)) q
-      ∙ sym (ap (λ (r : Reading Entries). handed (of-spliced x (replaced old x e new) r)) (ap reading (sym q) ∙ s))
+    -- what reading says of the spliced bytes, by what it says of the prefix
+    module _ {p : Prefix} (b : Splices (spliced-at span old new) p) where
+      prefix-told : {r : Reading Entries} → reading (take (p .count) (p .bytes)) ≡ r
+          → handed (of-spliced x (spliced-at span old new) r) ≡ handed (of-number old x e new true)
+      prefix-told {r} q =
+          ap (λ (l : List ℕ). handed (of-spliced x l r)) spliced-is
+          ∙ sym (ap (λ (r : Reading Entries). handed (of-spliced x (replaced old x e new) r))
+          (ap reading (sym spliced-is) ∙ sym (seen-reading b) ∙ q))
 
-  pub spliced-refused : {bytes : List ℕ} {why : Refusal} → bytes ≡ replaced old x e new → reading bytes ≡ Reading.refused why
-      → turned-away (Unread Spliced why) t ≡ handed (of-number old x e new true)
-  spliced-refused q s = with-table h (Unread Spliced _) ∙ spliced-told q s
+      pub prefix-refused : {why : Refusal} → reading (take (p .count) (p .bytes)) ≡ Reading.refused why
+          → turned-away (Unread Spliced why) t ≡ handed (of-number old x e new true)
+      prefix-refused q = with-table h (Unread Spliced _) ∙ prefix-told q
+
+      pub prefix-accepted : {u : Table} → Read-as (take (p .count) (p .bytes)) u
+          → record { answer = Substituted (p .count); table = u; bytes = p .bytes } ≡ handed (of-number old x e new true)
+      prefix-accepted a = seen-all b (sym (seen-reading b) ∙ a .is) (a .stored) ∙ prefix-told (a .is)
 
   -- of the new formula
   new-told : {r : Reading Entries} → reading new ≡ r → handed (of-new old x e new r) ≡ handed (of-new old x e new (reading new))

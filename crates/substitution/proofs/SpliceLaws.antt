@@ -38,6 +38,10 @@ module _ (s : Span) (old new : List ℕ) (h : Spans s old new) where
   pub byte-new : (i : ℕ) → s .from ≤ i → i - s .from < length new → getD new (i - s .from) 0 ≡ getD (spliced-at s old new) i 0
   byte-new i l k = sym (byte-from i l ∙ List·getD-append new (drop (s .to) old) 0 (i - s .from) k)
 
+  pub behind-inside : (i : ℕ) → i < length (spliced-at s old new) → s .from ≤ i → length new ≤ i - s .from
+      → s .to + (i - s .from - length new) < length old
+  behind-inside i l k n = omega (arith, spliced-length, h .order, h .inside)
+
   pub byte-behind : (i : ℕ) → s .from ≤ i → length new ≤ i - s .from
       → getD old (s .to + (i - s .from - length new)) 0 ≡ getD (spliced-at s old new) i 0
   byte-behind i l k =

@@ -138,6 +138,18 @@ fn refused(answer: Answer, table: Table) -> Edit
     }
 }
 
+fn unread(source: Source, why: Refusal, table: Table) -> Edit
+    ensures { λ r. ⌜ r ≡ turned-away (Answer.Unread source why) table ⌝ }
+{
+    refused(
+        Answer::Unread {
+            source: source,
+            why: why,
+        },
+        table,
+    )
+}
+
 // Subformula e of the old formula, of which this is the table, gives place to the new one.
 fn replaced(old: &[u8], t: Table, e: usize, new: &[u8]) -> Edit
     requires { ⌜ Read-as (now old) t × (e < t .count) × (length (now new) ≤ 96) ⌝ }
@@ -150,13 +162,7 @@ fn replaced(old: &[u8], t: Table, e: usize, new: &[u8]) -> Edit
     let outcome = r.outcome;
     let table = r.table;
     match outcome {
-        Outcome::Refused(why) => refused(
-            Answer::Unread {
-                source: Source::Spliced,
-                why: why,
-            },
-            t,
-        ),
+        Outcome::Refused(why) => unread(Source::Spliced, why, t),
         Outcome::Accepted => Edit {
             answer: Answer::Substituted(count),
             table: table,
@@ -173,13 +179,7 @@ fn with_new(old: &[u8], t: Table, e: usize, new: &[u8]) -> Edit
     let r = formula::read(new);
     let outcome = r.outcome;
     match outcome {
-        Outcome::Refused(why) => refused(
-            Answer::Unread {
-                source: Source::New,
-                why: why,
-            },
-            t,
-        ),
+        Outcome::Refused(why) => unread(Source::New, why, t),
         Outcome::Accepted => {
             if e < t.count {
                 return replaced(old, t, e, new);
@@ -197,13 +197,7 @@ pub fn substitute(old: &[u8], e: usize, new: &[u8]) -> Edit
     let outcome = r.outcome;
     let table = r.table;
     match outcome {
-        Outcome::Refused(why) => refused(
-            Answer::Unread {
-                source: Source::Old,
-                why: why,
-            },
-            table,
-        ),
+        Outcome::Refused(why) => unread(Source::Old, why, table),
         Outcome::Accepted => with_new(old, table, e, new),
     }
 }

@@ -1,9 +1,8 @@
 -- `substitution::replaced`: what reading says of the prefix of the spliced bytes is what it says of all of them. Assumes nothing.
-use mathlib.Core.Path.{refl, sym, _∙_}
+use mathlib.Core.Path.{_∙_}
 use Rattle.formula.proofs.RowLaws.{outcome-told}
-use Rattle.substitution.proofs.OutcomeLaws.{as-readable, spans, spliced-is, accepted-as, prefix-fits, prefix-count}
-use Rattle.substitution.proofs.OutcomeLaws.{seen-reading, seen-all}
-use Rattle.substitution.proofs.OutcomeLaws.{spliced-told, spliced-refused}
+use Rattle.substitution.proofs.OutcomeLaws.{as-readable, spans, accepted-as, prefix-fits, prefix-count}
+use Rattle.substitution.proofs.OutcomeLaws.{prefix-refused, prefix-accepted}
 use borrow.Author.Needs.{needs}
 use Rattle.substitution.proofs.replaced.Statement.{statement}
 use Rattle.substitution.proofs.replaced.Tie as tie
@@ -30,8 +29,8 @@ read-requires c κs = search needs
 enum-known-outcome : tie.Need-enum-known-outcome
 enum-known-outcome c = search needs
 
-refused-requires : tie.Need-refused-requires
-refused-requires c κs = search needs
+unread-requires : tie.Need-unread-requires
+unread-requires c κs = search needs
 
 enum-told : tie.Need-enum-told
 enum-told c = search needs
@@ -42,26 +41,20 @@ returns c =
     let at-splice = at-read .before .before .before in
     let at-start = at-splice .before .before .before .before in
     let a = at-start .args in
-    let h = at-start .pre .0 in
-    let read = at-read .read in
-    let splices = at-splice .splice .ensures in
-    let is = spliced-is (a .old .now) (a .t) h (a .e) (a .new .now) (at-splice .before .span-of .ensures) in
-    let refused = outcome-told _ (read .result) (read .ensures .0) (c .before .before .outcome .given .1) in
-    c .refused .ensures ∙ spliced-refused (a .old .now) (a .t) h (a .e) (a .new .now) is (sym (seen-reading splices refl) ∙ refused)
+    c .unread .ensures
+    ∙ prefix-refused (a .old .now) (a .t) (at-start .pre .0) (a .e) (a .new .now) (at-splice .before .span-of .ensures)
+    (at-splice .splice .ensures)
+    (outcome-told _ (at-read .read .result) (at-read .read .ensures .0) (c .before .before .outcome .given .1))
 
 returns-2 : tie.Need-returns-2
 returns-2 c =
-    let at-read = c .before .before .before in
-    let at-splice = at-read .before .before .before in
+    let read = c .before .before .before .read in
+    let at-splice = c .before .before .before .before .before .before in
     let at-start = at-splice .before .before .before .before in
     let a = at-start .args in
-    let h = at-start .pre .0 in
-    let read = at-read .read in
-    let splices = at-splice .splice .ensures in
-    let is = spliced-is (a .old .now) (a .t) h (a .e) (a .new .now) (at-splice .before .span-of .ensures) in
-    let accepted = accepted-as _ (read .result) (read .ensures .0) (read .ensures .1 .1) (c .enum-told .given .1) in
-    let whole = sym (seen-reading splices refl) ∙ accepted .is in
-    seen-all splices whole (accepted .stored) ∙ spliced-told (a .old .now) (a .t) h (a .e) (a .new .now) is whole
+    prefix-accepted (a .old .now) (a .t) (at-start .pre .0) (a .e) (a .new .now) (at-splice .before .span-of .ensures)
+    (at-splice .splice .ensures)
+    (accepted-as _ (read .result) (read .ensures .0) (read .ensures .1 .1) (c .enum-told .given .1))
 
 pub replaced-spec : {M : Type 1} → statement M
 replaced-spec =
@@ -73,7 +66,7 @@ replaced-spec =
     slice-aggregate-read
     read-requires
     enum-known-outcome
-    refused-requires
+    unread-requires
     enum-told
     returns
     returns-2)

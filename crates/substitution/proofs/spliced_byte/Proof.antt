@@ -1,6 +1,6 @@
 -- `substitution::spliced_byte`: before the span, in the new bytes, or behind the span. Assumes nothing.
 use native.Mathlib.Omega.{arith}
-use Rattle.substitution.proofs.SpliceLaws.{spliced-length, byte-before, byte-new, byte-behind}
+use Rattle.substitution.proofs.SpliceLaws.{byte-before, byte-new, behind-inside, byte-behind}
 use borrow.Author.Needs.{needs}
 use Rattle.substitution.proofs.spliced_byte.Statement.{statement}
 use Rattle.substitution.proofs.spliced_byte.Tie as tie
@@ -30,15 +30,13 @@ add-result : tie.Need-add-result
 add-result c =
     let a = c .before .before .before .before .before .args in
     let p = c .before .before .before .before .before .pre in
-    let h = p .0 in
-    search (needs, h .inside, h .old-few, h .order, p .1, spliced-length (a .span) (a .old .now) (a .new .now) h)
+    search (needs, behind-inside (a .span) (a .old .now) (a .new .now) (p .0) (a .i) (p .1) (omega arith) (omega arith), p .0 .old-few)
 
 shared-slice-read-result-3 : tie.Need-shared-slice-read-result-3
 shared-slice-read-result-3 c =
     let a = c .before .before .before .before .before .before .args in
     let p = c .before .before .before .before .before .before .pre in
-    let h = p .0 in
-    search (needs, h .inside, h .old-few, h .order, p .1, spliced-length (a .span) (a .old .now) (a .new .now) h)
+    search (needs, behind-inside (a .span) (a .old .now) (a .new .now) (p .0) (a .i) (p .1) (omega arith) (omega arith))
 
 returns-3 : tie.Need-returns-3
 returns-3 c =

@@ -15,31 +15,34 @@ read-requires c κs = search needs
 enum-known-outcome : tie.Need-enum-known-outcome
 enum-known-outcome c = search needs
 
-refused-requires : tie.Need-refused-requires
-refused-requires c κs = search needs
+unread-requires : tie.Need-unread-requires
+unread-requires c κs = search needs
 
 enum-told : tie.Need-enum-told
 enum-told c = search needs
 
 with-new-requires : tie.Need-with-new-requires
 with-new-requires c κs =
-    let old = c .before .before .before .before .before .before .args .old .now in
-    let read = c .before .before .before .read in
+    let at-read = c .before .before .before in
+    let old = at-read .before .before .before .args .old .now in
+    let read = at-read .read in
     accepted-as old (read .result) (read .ensures .0) (read .ensures .1 .1) (c .enum-told .given .1)
 
 returns : tie.Need-returns
 returns c =
-    let a = c .before .before .before .before .before .before .before .before .args in
-    let read = c .before .before .before .before .before .read in
+    let at-read = c .before .before .before .before .before in
+    let a = at-read .before .before .before .args in
+    let read = at-read .read in
     let told = c .before .before .outcome .given .1 in
-    c .refused .ensures
+    c .unread .ensures
     ∙ ap (turned-away (Unread Old _)) (refused-table (a .old .now) (read .result) (read .ensures .0) (read .ensures .1 .1) told)
     ∙ old-told (a .old .now) (a .e) (a .new .now) (outcome-told (a .old .now) (read .result) (read .ensures .0) told)
 
 returns-2 : tie.Need-returns-2
 returns-2 c =
-    let a = c .before .before .before .before .before .before .before .args in
-    let read = c .before .before .before .before .read in
+    let at-read = c .before .before .before .before in
+    let a = at-read .before .before .before .args in
+    let read = at-read .read in
     c .with-new .ensures
     ∙ old-told (a .old .now) (a .e) (a .new .now)
     (outcome-told (a .old .now) (read .result) (read .ensures .0) (c .before .enum-told .given .1))
@@ -50,7 +53,7 @@ substitute-spec =
     (tie.spec
     read-requires
     enum-known-outcome
-    refused-requires
+    unread-requires
     enum-told
     with-new-requires
     returns

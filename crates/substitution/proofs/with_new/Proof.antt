@@ -13,45 +13,50 @@ read-requires c κs = search needs
 enum-known-outcome : tie.Need-enum-known-outcome
 enum-known-outcome c = search needs
 
-refused-requires : tie.Need-refused-requires
-refused-requires c κs = search needs
+unread-requires : tie.Need-unread-requires
+unread-requires c κs = search needs
 
 enum-told : tie.Need-enum-told
 enum-told c = search needs
 
 replaced-requires : tie.Need-replaced-requires
 replaced-requires c κs =
-    let a = c .before .before .before .before .before .before .before .args in
-    let read = c .before .before .before .before .read in
-    let accepted = outcome-told (a .new .now) (read .result) (read .ensures .0) (c .before .before .enum-told .given .1) in
-    (c .before .before .before .before .before .before .before .pre, omega arith, read-few (a .new .now) accepted)
+    let at-read = c .before .before .before .before in
+    let at-start = at-read .before .before .before in
+    let new = at-start .args .new .now in
+    let read = at-read .read in
+    let accepted = outcome-told new (read .result) (read .ensures .0) (c .before .before .enum-told .given .1) in
+    (at-start .pre, omega arith, read-few new accepted)
 
 returns : tie.Need-returns
 returns c =
-    let a = c .before .before .before .before .before .before .before .before .args in
-    let h = c .before .before .before .before .before .before .before .before .pre in
-    let read = c .before .before .before .before .before .read in
+    let at-read = c .before .before .before .before .before in
+    let at-start = at-read .before .before .before in
+    let a = at-start .args in
+    let read = at-read .read in
     let accepted = outcome-told (a .new .now) (read .result) (read .ensures .0) (c .before .before .before .enum-told .given .1) in
-    c .replaced .ensures ∙ number-there (a .old .now) (a .t) h (a .e) (a .new .now) accepted (omega arith)
+    c .replaced .ensures ∙ number-there (a .old .now) (a .t) (at-start .pre) (a .e) (a .new .now) accepted (omega arith)
 
-refused-requires-2 : tie.Need-refused-requires-2
-refused-requires-2 c κs = search needs
+refused-requires : tie.Need-refused-requires
+refused-requires c κs = search needs
 
 returns-2 : tie.Need-returns-2
 returns-2 c =
-    let a = c .before .before .before .before .before .before .before .args in
-    let h = c .before .before .before .before .before .before .before .pre in
-    let read = c .before .before .before .before .read in
+    let at-read = c .before .before .before .before in
+    let at-start = at-read .before .before .before in
+    let a = at-start .args in
+    let read = at-read .read in
     let refused = outcome-told (a .new .now) (read .result) (read .ensures .0) (c .before .before .outcome .given .1) in
-    c .refused .ensures ∙ new-refused (a .old .now) (a .t) h (a .e) (a .new .now) refused
+    c .unread .ensures ∙ new-refused (a .old .now) (a .t) (at-start .pre) (a .e) (a .new .now) refused
 
 returns-3 : tie.Need-returns-3
 returns-3 c =
-    let a = c .before .before .before .before .before .before .before .before .args in
-    let h = c .before .before .before .before .before .before .before .before .pre in
-    let read = c .before .before .before .before .before .read in
+    let at-read = c .before .before .before .before .before in
+    let at-start = at-read .before .before .before in
+    let a = at-start .args in
+    let read = at-read .read in
     let accepted = outcome-told (a .new .now) (read .result) (read .ensures .0) (c .before .before .before .enum-told .given .1) in
-    c .refused2 .ensures ∙ number-missing (a .old .now) (a .t) h (a .e) (a .new .now) accepted (omega arith)
+    c .refused .ensures ∙ number-missing (a .old .now) (a .t) (at-start .pre) (a .e) (a .new .now) accepted (omega arith)
 
 pub with-new-spec : {M : Type 1} → statement M
 with-new-spec =
@@ -59,10 +64,10 @@ with-new-spec =
     (tie.spec
     read-requires
     enum-known-outcome
-    refused-requires
+    unread-requires
     enum-told
     replaced-requires
     returns
-    refused-requires-2
+    refused-requires
     returns-2
     returns-3)
