@@ -1,6 +1,7 @@
 // Kinds of line of the test runner that are checked apart from the program: a module each with a function `outcome`, and `capacities` with
 // what several have in common.
 pub mod capacities;
+pub mod edits;
 pub mod greatest;
 pub mod sets;
 pub mod sheets;

@@ -39,7 +39,7 @@ fn told(l: Location, formula: &[u8]) {
             say::put(b"FOUND");
             layer_name(l);
             say::number(b' ', catalogue::place_of(l));
-            spelled(formula);
+            say::spelled(formula);
         }
         30 => {
             say::refused(code);
@@ -57,26 +57,4 @@ fn layer_name(l: Location) {
         1 => say::put(b" factory"),
         _ => say::put(b" NEITHER"),
     }
-}
-
-// A dash stands for no bytes.
-fn spelled(formula: &[u8]) {
-    if formula.len() == 0 {
-        say::put(b" -");
-        return;
-    }
-    say::put(b" ");
-    hex_bytes(formula);
-}
-
-fn hex_bytes(formula: &[u8]) {
-    let mut i = 0;
-    while i < formula.len() {
-        hex_byte(formula[i]);
-        i += 1;
-    }
-}
-
-fn hex_byte(b: u8) {
-    io::print_hex(1, b as u64, 2);
 }

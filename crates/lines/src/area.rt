@@ -73,7 +73,7 @@ pub fn rest_bytes(s: &[u8], n: usize) -> &[u8] {
 }
 
 // How many bytes are zero from the start on.
-fn zeros(area: &[u8]) -> usize {
+pub fn zeros(area: &[u8]) -> usize {
     let mut i = 0;
     while i < area.len() {
         if area[i] != 0 {
@@ -139,6 +139,12 @@ pub fn note_bytes(area: &[u8]) {
     number(b' ', zeros(area));
     put(b", kept");
     kept(kept_bytes(area), area.len());
+}
+
+// How many bytes behind those of an outcome are zero, from the first on, and how many there are.
+pub fn note_rest(area: &[u8]) {
+    put(b" | rest: zero");
+    kept(zeros(area), area.len());
 }
 
 // How many of the bytes at the area's start are as before, from the first on, and how many there were.

@@ -40,13 +40,40 @@ pub fn refused_at(code: u8, place: usize) {
     worded(b" at", place);
 }
 
-// A refusal of reading has a place, and that of a binder where it names one.
 pub fn unread(why: Refusal) {
-    refused_at(formula::code_of(why), formula::place_of(why));
+    refused(formula::code_of(why));
+    places(why);
+}
+
+// A refusal of reading has a place, and that of a binder where it names one.
+pub fn places(why: Refusal) {
+    worded(b" at", formula::place_of(why));
     match why {
         Refusal::AtByte { code: _, at: _ } => {}
         Refusal::Unguarded { at: _, binder_at } => worded(b" from", binder_at),
     }
+}
+
+// Bytes in hex, behind a space; a dash stands for none.
+pub fn spelled(s: &[u8]) {
+    if s.len() == 0 {
+        put(b" -");
+        return;
+    }
+    put(b" ");
+    hex_bytes(s);
+}
+
+fn hex_bytes(s: &[u8]) {
+    let mut i = 0;
+    while i < s.len() {
+        hex_byte(s[i]);
+        i += 1;
+    }
+}
+
+fn hex_byte(b: u8) {
+    io::print_hex(1, b as u64, 2);
 }
 
 // How long lead-in and loop are, and how many nodes there are.

@@ -7,6 +7,7 @@ mod read;
 mod search;
 mod truth;
 
+use kinds::edits;
 use kinds::greatest;
 use kinds::sets;
 use kinds::sheets;
@@ -53,6 +54,7 @@ fn told(line: &[u8]) {
         6 => greatest::outcome(line, s),
         7 => sheets::outcome(line, s),
         8 => sets::outcome(line, s),
+        9 => edits::outcome(line, s),
         _ => say::malformed(),
     }
 }
@@ -82,6 +84,9 @@ fn kind(name: &[u8]) -> u8 {
     }
     if same(name, b"set") {
         return 8;
+    }
+    if same(name, b"edit") {
+        return 9;
     }
     0
 }
