@@ -8,7 +8,9 @@ use yuktrob_plain::hex;
 use yuktrob_plain::random::{Random, Replacement};
 
 /// Either implementation, the independent one in either way.
-const ALL: [fn(&[u8], usize, &[u8]) -> Edit; 3] = [by_rows, by_reading, proved_edit];
+type Replace = fn(&[u8], usize, &[u8]) -> Edit;
+
+const ALL: [Replace; 3] = [by_rows, by_reading, proved_edit];
 
 fn written(bytes: &[u8]) -> String {
     bytes.iter().map(|byte| format!("{byte:02x}")).collect()

@@ -121,7 +121,7 @@ fn shaped() -> Vec<Named> {
     let clashing = [&[7][..], &eventually(&[3, 0]), &always(&[4, 0])].concat();
     let until = [10, 6, 3, 1, 7, 4, 0, 8, 5, 0];
     let nested = (0..7).fold(vec![3, 0], |f, _| eventually(&f));
-    let deep = [vec![9; 7], vec![8; 12], vec![7; 13], vec![3, 0].repeat(14)].concat();
+    let deep = [vec![9; 7], vec![8; 12], vec![7; 13], [3, 0].repeat(14)].concat();
     vec![
         named("always, if a change then sooner or later announced: announced next (FORMULAS)", &announced, 4, &[8, 3, 1]),
         named("a change sooner or later and never: none until announced (FORMULAS)", &clashing, 6, &until),
