@@ -152,26 +152,24 @@ module _ (old : List ℕ) (t : Table) (h : Read-as old t) (e : ℕ) (new : List 
           → record { answer = Substituted (p .count); table = u; bytes = p .bytes } ≡ handed (of-number old x e new true)
       prefix-accepted a = seen-all b (sym (seen-reading b) ∙ a .is) (a .stored) ∙ prefix-told (a .is)
 
-  -- of the new formula
-  new-told : {r : Reading Entries} → reading new ≡ r → handed (of-new old x e new r) ≡ handed (of-new old x e new (reading new))
+  -- question 37
+  number-told : {b : Bool} → ltb e (length (x .operators)) ≡ b
+      → handed (of-number old x e new b) ≡ handed (of-number old x e new (ltb e (length (x .operators))))
+  number-told l = sym (ap (λ (b : Bool). handed (of-number old x e new b)) l)
+
+  pub number-there : e < t .count → handed (of-number old x e new true) ≡ handed (of-number old x e new (ltb e (length (x .operators))))
+  number-there l = number-told (lt-ltb e (length (x .operators)) (omega (arith, many)))
+
+  pub number-missing : t .count ≤ e → turned-away Missing t ≡ handed (of-number old x e new (ltb e (length (x .operators))))
+  number-missing l = with-table h Missing ∙ number-told (le-ltb e (length (x .operators)) (omega (arith, many)))
+
+  -- what reading says of the new formula,
+  pub new-told : {r : Reading Entries} → reading new ≡ r → handed (of-new old x e new r) ≡ handed (of-new old x e new (reading new))
   new-told q = sym (ap (λ (r : Reading Entries). handed (of-new old x e new r)) q)
 
   pub new-refused : {why : Refusal} → reading new ≡ Reading.refused why
       → turned-away (Unread New why) t ≡ handed (of-new old x e new (reading new))
   new-refused q = with-table h (Unread New _) ∙ new-told q
-
-  -- question 37
-  number-told : {y : Entries} {b : Bool} → reading new ≡ Reading.accepted y → ltb e (length (x .operators)) ≡ b
-      → handed (of-number old x e new b) ≡ handed (of-new old x e new (reading new))
-  number-told q l = sym (ap (λ (b : Bool). handed (of-number old x e new b)) l) ∙ new-told q
-
-  pub number-there : {y : Entries} → reading new ≡ Reading.accepted y → e < t .count
-      → handed (of-number old x e new true) ≡ handed (of-new old x e new (reading new))
-  number-there q l = number-told q (lt-ltb e (length (x .operators)) (omega (arith, many)))
-
-  pub number-missing : {y : Entries} → reading new ≡ Reading.accepted y → t .count ≤ e
-      → turned-away Missing t ≡ handed (of-new old x e new (reading new))
-  number-missing q l = with-table h Missing ∙ number-told q (le-ltb e (length (x .operators)) (omega (arith, many)))
 
 -- and of the old one
 pub old-told : (old : List ℕ) (e : ℕ) (new : List ℕ) {r : Reading Entries} → reading old ≡ r

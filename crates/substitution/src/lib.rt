@@ -7,6 +7,7 @@ use formula::Table;
 ghost use mathlib.Core.Path.{_≡_};
 ghost use mathlib.Core.Bool.{true};
 ghost use Prim.Native.Nat.{_≤_, _<_};
+ghost use lib.Dec.{ltb};
 ghost use lib.ListN.{length, getD, take};
 ghost use Rattle.formula.specs.Reading.{reading};
 ghost use Rattle.formula.specs.Rows.{operators-of, entries-of};
@@ -171,6 +172,18 @@ fn replaced(old: &[u8], t: Table, e: usize, new: &[u8]) -> Edit
     }
 }
 
+// Question 37: whether there is a subformula e.
+fn numbered(old: &[u8], t: Table, e: usize, new: &[u8]) -> Edit
+    requires { ⌜ Read-as (now old) t × (length (now new) ≤ 96) ⌝ }
+    ensures { λ r. ⌜ r ≡ handed (of-number (now (old .entry)) (entries-of t) e (now (new .entry))
+        (ltb e (length (entries-of t .operators)))) ⌝ }
+{
+    if e < t.count {
+        return replaced(old, t, e, new);
+    }
+    refused(Answer::Missing, t)
+}
+
 // The new formula is read before the number is looked at.
 fn with_new(old: &[u8], t: Table, e: usize, new: &[u8]) -> Edit
     requires { ⌜ Read-as (now old) t ⌝ }
@@ -180,12 +193,7 @@ fn with_new(old: &[u8], t: Table, e: usize, new: &[u8]) -> Edit
     let outcome = r.outcome;
     match outcome {
         Outcome::Refused(why) => unread(Source::New, why, t),
-        Outcome::Accepted => {
-            if e < t.count {
-                return replaced(old, t, e, new);
-            }
-            refused(Answer::Missing, t)
-        }
+        Outcome::Accepted => numbered(old, t, e, new),
     }
 }
 

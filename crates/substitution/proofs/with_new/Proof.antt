@@ -1,8 +1,7 @@
--- `substitution::with_new`: the new formula is read, then the number is looked at. Assumes nothing.
+-- `substitution::with_new`: reading refuses the new formula, or accepts it, and then the number is looked at. Assumes nothing.
 use mathlib.Core.Path.{_∙_}
-use native.Mathlib.Omega.{arith}
 use Rattle.formula.proofs.RowLaws.{outcome-told}
-use Rattle.substitution.proofs.OutcomeLaws.{read-few, new-refused, number-there, number-missing}
+use Rattle.substitution.proofs.OutcomeLaws.{read-few, new-told, new-refused}
 use borrow.Author.Needs.{needs}
 use Rattle.substitution.proofs.with_new.Statement.{statement}
 use Rattle.substitution.proofs.with_new.Tie as tie
@@ -19,29 +18,17 @@ unread-requires c κs = search needs
 enum-told : tie.Need-enum-told
 enum-told c = search needs
 
-replaced-requires : tie.Need-replaced-requires
-replaced-requires c κs =
-    let at-read = c .before .before .before .before in
-    let at-start = at-read .before .before .before in
-    let new = at-start .args .new .now in
-    let read = at-read .read in
-    let accepted = outcome-told new (read .result) (read .ensures .0) (c .before .before .enum-told .given .1) in
-    (at-start .pre, omega arith, read-few new accepted)
-
-returns : tie.Need-returns
-returns c =
-    let at-read = c .before .before .before .before .before in
+numbered-requires : tie.Need-numbered-requires
+numbered-requires c κs =
+    let at-read = c .before .before in
     let at-start = at-read .before .before .before in
     let a = at-start .args in
     let read = at-read .read in
-    let accepted = outcome-told (a .new .now) (read .result) (read .ensures .0) (c .before .before .before .enum-told .given .1) in
-    c .replaced .ensures ∙ number-there (a .old .now) (a .t) (at-start .pre) (a .e) (a .new .now) accepted (omega arith)
+    let accepted = outcome-told (a .new .now) (read .result) (read .ensures .0) (c .enum-told .given .1) in
+    (at-start .pre, read-few (a .new .now) accepted)
 
-refused-requires : tie.Need-refused-requires
-refused-requires c κs = search needs
-
-returns-2 : tie.Need-returns-2
-returns-2 c =
+returns : tie.Need-returns
+returns c =
     let at-read = c .before .before .before .before in
     let at-start = at-read .before .before .before in
     let a = at-start .args in
@@ -49,14 +36,14 @@ returns-2 c =
     let refused = outcome-told (a .new .now) (read .result) (read .ensures .0) (c .before .before .outcome .given .1) in
     c .unread .ensures ∙ new-refused (a .old .now) (a .t) (at-start .pre) (a .e) (a .new .now) refused
 
-returns-3 : tie.Need-returns-3
-returns-3 c =
-    let at-read = c .before .before .before .before .before in
+returns-2 : tie.Need-returns-2
+returns-2 c =
+    let at-read = c .before .before .before in
     let at-start = at-read .before .before .before in
     let a = at-start .args in
     let read = at-read .read in
-    let accepted = outcome-told (a .new .now) (read .result) (read .ensures .0) (c .before .before .before .enum-told .given .1) in
-    c .refused .ensures ∙ number-missing (a .old .now) (a .t) (at-start .pre) (a .e) (a .new .now) accepted (omega arith)
+    let accepted = outcome-told (a .new .now) (read .result) (read .ensures .0) (c .before .enum-told .given .1) in
+    c .numbered .ensures ∙ new-told (a .old .now) (a .t) (at-start .pre) (a .e) (a .new .now) accepted
 
 pub with-new-spec : {M : Type 1} → statement M
 with-new-spec =
@@ -66,8 +53,6 @@ with-new-spec =
     enum-known-outcome
     unread-requires
     enum-told
-    replaced-requires
+    numbered-requires
     returns
-    refused-requires
-    returns-2
-    returns-3)
+    returns-2)
