@@ -26,11 +26,3 @@ number (Context.left o c b) = 1 + number c
 number (Context.right o b c) = 1 + (size b + number c)
 number (Context.next c) = 1 + number c
 number (Context.fix g c) = 1 + number c
-
--- how many fixpoints stand around the hole
-abbrev pub depth : Context → ℕ
-depth Context.hole = 0
-depth (Context.left o c b) = depth c
-depth (Context.right o b c) = depth c
-depth (Context.next c) = depth c
-depth (Context.fix g c) = 1 + depth c
