@@ -1,5 +1,6 @@
-// The operations with the C calling convention: a slice comes as a pointer and a length, and each answer is one number; what can be any
-// place in memory does not fit beside a refusal, and is put into words that the caller lends.
+// The operations with the C calling convention: a slice comes as a pointer and a length, an array as a pointer, and each answer is one
+// number. What can be any place in memory does not fit beside a refusal, and is put into words that the caller lends; the bytes and the
+// table of an edit go into arrays.
 use catalogue::Location;
 use construction::Construction;
 use decision::Verdict;
