@@ -13,8 +13,8 @@ use lines::field::same;
 use lines::field::unbroken;
 use lines::say;
 use substitution::Answer;
-use substitution::Edit;
 use substitution::Source;
+use substitution::Substitution;
 
 pub fn outcome(line: &[u8], old: &[u8]) {
     let mut kept = io::large_buffer();
@@ -33,7 +33,7 @@ pub fn outcome(line: &[u8], old: &[u8]) {
 }
 
 // What stands beside the answer is shown unasked where it is not as it should be: no line expects it.
-fn noted(edit: Edit, old: &[u8], shown: bool) {
+fn noted(edit: Substitution, old: &[u8], shown: bool) {
     let answer = edit.answer;
     let table = edit.table;
     let bytes = edit.bytes;

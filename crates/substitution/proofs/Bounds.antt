@@ -20,7 +20,7 @@ use Rattle.substitution.specs.Substitution.{of-spliced, of-number, of-ne
 use Rattle.substitution.specs.Contract.{handed}
 use Rattle.substitution.specs.declared.Answer.{Answer}
 use Rattle.substitution.specs.declared.Answer.the-variants.{Unread, Missing, Substituted}
-use Rattle.substitution.specs.declared.Edit.{Edit}
+use Rattle.substitution.specs.declared.Substitution as result
 use Rattle.substitution.proofs.OutcomeLaws.{read-few, entries-size}
 
 abbrev pub Small : Refusal → Type 0
@@ -31,7 +31,7 @@ Answer-small (Unread source why) = Small why
 Answer-small Missing = Unit {0}
 Answer-small (Substituted count) = count ≤ 96
 
-pub record Bounded (r : Edit) : Type 0 where
+pub record Bounded (r : result.Substitution) : Type 0 where
   pub answered : Answer-small (r .answer)
   pub few : r .table .count ≤ 48
 

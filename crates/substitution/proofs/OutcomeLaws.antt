@@ -36,7 +36,7 @@ use Rattle.substitution.specs.Contract.{table-of, padded, turned-away, h
 use Rattle.substitution.specs.Inner.{Read-as, spliced-at, Spans, Splices}
 use Rattle.substitution.specs.declared.Span.{Span}
 use Rattle.substitution.specs.declared.Prefix.{Prefix}
-use Rattle.substitution.specs.declared.Edit.{Edit}
+use Rattle.substitution.specs.declared.Substitution as result
 use Rattle.substitution.specs.declared.Answer.{Answer}
 use Rattle.substitution.specs.declared.Answer.the-variants.{Unread, Missing, Substituted}
 use Rattle.substitution.specs.declared.Source.the-variants.{New, Spliced}
@@ -84,7 +84,8 @@ module _ {bytes : List ℕ} {p : Prefix} (h : Splices bytes p) where
 
   -- all of them, where reading accepts them
   seen-all : {x : Entries} {t : Table} → reading bytes ≡ Reading.accepted x → t ≡ table-of x
-      → _≡_ {A = Edit} (record { answer = Substituted (p .count); table = t; bytes = p .bytes }) (handed (Substitution.substituted x bytes))
+      → _≡_ {A = result.Substitution} (record { answer = Substituted (p .count); table = t; bytes = p .bytes })
+      (handed (Substitution.substituted x bytes))
   seen-all e f =
       let whole = take-all 97 bytes (omega (arith, read-few bytes e)) in
       let count : p .count ≡ length bytes = h .count ∙ ap length whole in

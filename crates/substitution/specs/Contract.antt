@@ -8,7 +8,7 @@ use Rattle.formula.specs.Refusal.{code-of}
 use Rattle.formula.specs.Contract.{no-table}
 use Rattle.formula.specs.declared.Table.{Table}
 use Rattle.substitution.specs.Substitution.{Substitution}
-use Rattle.substitution.specs.declared.Edit.{Edit}
+use Rattle.substitution.specs.declared.Substitution as result
 use Rattle.substitution.specs.declared.Answer.{Answer}
 use Rattle.substitution.specs.declared.Answer.the-variants.{Unread, Missing, Substituted}
 use Rattle.substitution.specs.declared.Source.the-variants.{Old, New, Spliced}
@@ -22,11 +22,11 @@ abbrev pub padded : List ℕ → List ℕ
 padded bytes = bytes ++ replicate {A = ℕ} (97 - length bytes) 0
 
 -- a refusal with a table, and no bytes
-abbrev pub turned-away : Answer → Table → Edit
+abbrev pub turned-away : Answer → Table → result.Substitution
 turned-away answer t = record { answer = answer; table = t; bytes = padded [] }
 
 -- With a refusal comes the old formula's table, or none if that is refused itself (MEANING 11.3).
-abbrev pub handed : Substitution → Edit
+abbrev pub handed : Substitution → result.Substitution
 handed (Substitution.old-unread why) = turned-away (Unread Old why) no-table
 handed (Substitution.new-unread x why) = turned-away (Unread New why) (table-of x)
 handed (Substitution.missing x) = turned-away Missing (table-of x)

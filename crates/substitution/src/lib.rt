@@ -34,7 +34,7 @@ pub enum Answer {
 
 // The answer, with the table and the bytes. Refused, the table is the old formula's, or empty if that is refused itself, and the bytes are
 // zero.
-pub struct Edit {
+pub struct Substitution {
     pub answer: Answer,
     pub table: Table,
     pub bytes: [u8; 97],
@@ -129,17 +129,17 @@ fn splice(old: &[u8], span: Span, new: &[u8]) -> Prefix
     }
 }
 
-fn refused(answer: Answer, table: Table) -> Edit
+fn refused(answer: Answer, table: Table) -> Substitution
     ensures { λ r. ⌜ r ≡ turned-away answer table ⌝ }
 {
-    Edit {
+    Substitution {
         answer: answer,
         table: table,
         bytes: [0u8; BYTES],
     }
 }
 
-fn unread(source: Source, why: Refusal, table: Table) -> Edit
+fn unread(source: Source, why: Refusal, table: Table) -> Substitution
     ensures { λ r. ⌜ r ≡ turned-away (Answer.Unread source why) table ⌝ }
 {
     refused(
@@ -152,7 +152,7 @@ fn unread(source: Source, why: Refusal, table: Table) -> Edit
 }
 
 // Subformula e of the old formula, of which this is the table, gives place to the new one.
-fn replaced(old: &[u8], t: Table, e: usize, new: &[u8]) -> Edit
+fn replaced(old: &[u8], t: Table, e: usize, new: &[u8]) -> Substitution
     requires { ⌜ Read-as (now old) t × (e < t .count) × (length (now new) ≤ 96) ⌝ }
     ensures { λ r. ⌜ r ≡ handed (of-number (now (old .entry)) (entries-of t) e (now (new .entry)) true) ⌝ }
 {
@@ -164,7 +164,7 @@ fn replaced(old: &[u8], t: Table, e: usize, new: &[u8]) -> Edit
     let table = r.table;
     match outcome {
         Outcome::Refused(why) => unread(Source::Spliced, why, t),
-        Outcome::Accepted => Edit {
+        Outcome::Accepted => Substitution {
             answer: Answer::Substituted(count),
             table: table,
             bytes: bytes,
@@ -173,7 +173,7 @@ fn replaced(old: &[u8], t: Table, e: usize, new: &[u8]) -> Edit
 }
 
 // Question 37: whether there is a subformula e.
-fn numbered(old: &[u8], t: Table, e: usize, new: &[u8]) -> Edit
+fn numbered(old: &[u8], t: Table, e: usize, new: &[u8]) -> Substitution
     requires { ⌜ Read-as (now old) t × (length (now new) ≤ 96) ⌝ }
     ensures { λ r. ⌜ r ≡ handed (of-number (now (old .entry)) (entries-of t) e (now (new .entry))
         (ltb e (length (entries-of t .operators)))) ⌝ }
@@ -185,7 +185,7 @@ fn numbered(old: &[u8], t: Table, e: usize, new: &[u8]) -> Edit
 }
 
 // The new formula is read before the number is looked at.
-fn with_new(old: &[u8], t: Table, e: usize, new: &[u8]) -> Edit
+fn with_new(old: &[u8], t: Table, e: usize, new: &[u8]) -> Substitution
     requires { ⌜ Read-as (now old) t ⌝ }
     ensures { λ r. ⌜ r ≡ handed (of-new (now (old .entry)) (entries-of t) e (now (new .entry)) (reading (now (new .entry)))) ⌝ }
 {
@@ -198,7 +198,7 @@ fn with_new(old: &[u8], t: Table, e: usize, new: &[u8]) -> Edit
 }
 
 // The old formula with the new one in place of its subformula e.
-pub fn substitute(old: &[u8], e: usize, new: &[u8]) -> Edit
+pub fn substitute(old: &[u8], e: usize, new: &[u8]) -> Substitution
     ensures { λ r. ⌜ r ≡ handed (substitution (now (old .entry)) e (now (new .entry))) ⌝ }
 {
     let r = formula::read(old);

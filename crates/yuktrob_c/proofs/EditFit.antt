@@ -6,7 +6,7 @@ use Prim.Native.Nat.{ℕ, _≤_}
 use native.Mathlib.Omega.{arith}
 use Rattle.substitution.specs.Substitution.{substitution}
 use Rattle.substitution.specs.Contract.{handed}
-use Rattle.substitution.specs.declared.Edit.{Edit}
+use Rattle.substitution.specs.declared.Substitution as result
 use Rattle.substitution.specs.declared.Answer.{Answer}
 use Rattle.substitution.specs.declared.Answer.the-variants.{Unread, Missing, Substituted}
 use Rattle.substitution.proofs.Bounds.{Answer-small, substitution-bounded}
@@ -17,9 +17,9 @@ small-fits (Unread source why) s = s
 small-fits Missing s = tt
 small-fits (Substituted count) s = omega arith
 
-pub edit-fits : (old : List ℕ) (e : ℕ) (new : List ℕ) {r : Edit} → r ≡ handed (substitution old e new)
+pub edit-fits : (old : List ℕ) (e : ℕ) (new : List ℕ) {r : result.Substitution} → r ≡ handed (substitution old e new)
     → EditFits (r .answer) × (r .table .count ≤ 48)
 edit-fits old e new is =
     let b = substitution-bounded old e new in
-    subst⁻¹ (λ (r : Edit). EditFits (r .answer) × (r .table .count ≤ 48)) is
+    subst⁻¹ (λ (r : result.Substitution). EditFits (r .answer) × (r .table .count ≤ 48)) is
     (small-fits (handed (substitution old e new) .answer) (b .answered), b .few)

@@ -1,6 +1,6 @@
 -- `yuktrob_c::yuktrob_edit`: the answer becomes its number, and bytes and rows go where the caller lent room. Assumes nothing.
 use mathlib.Core.Path.{ap, _∙_}
-use Rattle.substitution.specs.declared.Edit.{Edit}
+use Rattle.substitution.specs.declared.Substitution as result
 use Rattle.yuktrob_c.specs.Numbers.{edit-number}
 use Rattle.yuktrob_c.proofs.EditFit.{edit-fits}
 use borrow.Author.Needs.{needs}
@@ -20,8 +20,8 @@ edit-number-requires c κs =
 returns : tie.Need-returns
 returns c =
     let is = c .before .before .before .before .substitute .ensures in (
-      c .edit-number .ensures ∙ ap (λ (r : Edit). edit-number (r .table .count) (r .answer)) is,
-      (ap (λ (r : Edit). r .bytes) is, ap (λ (r : Edit). r .table .rows) is),
+      c .edit-number .ensures ∙ ap (λ (r : result.Substitution). edit-number (r .table .count) (r .answer)) is,
+      (ap (λ (r : result.Substitution). r .bytes) is, ap (λ (r : result.Substitution). r .table .rows) is),
     )
 
 pub yuktrob-edit-spec : {M : Type 1} → statement M
