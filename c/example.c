@@ -1,12 +1,11 @@
 /* Lists the entries of a rule, decides a few, one of them with little room, tries the course of each that has one, and a course that is
  * refused; then builds the nodes of a rule once and searches them with little room, with more, and for another rule; then decides safety
  * rules with room for nodes alone; then looks rules up in two sheets; then decides sheets of rules at once, one of which can be met and one
- * of which clashes; then replaces entries of a rule that cannot be met; then mends old rules. Each answer is asked for a refusal before it
- * is taken apart. */
+ * of which clashes; then replaces entries of a rule that cannot be met. Each answer is asked for a refusal before it is taken apart. */
 #include "../include/yuktrob.h"
 #include <stdio.h>
 
-enum { NODES = 256, PROFILES = 300, MENDED = 2 * YUKTROB_MOST_ENTRIES };
+enum { NODES = 256, PROFILES = 300 };
 
 static uint8_t work[YUKTROB_WORK_LEN(NODES, PROFILES)];
 static uint16_t course[YUKTROB_COURSE_LEN(NODES, PROFILES)];
@@ -225,7 +224,7 @@ static void edit(const uint8_t *old_rule, size_t old_len, size_t e, const uint8_
     decide(spliced, yuktrob_edited_len(answer));
 }
 
-/* Sooner or later the revision changes, and it never does: the second is put right, or the whole replaced; and what is refused. */
+/* Sooner or later the revision changes, and it never does: the second is mended, or the whole replaced; and what is refused. */
 static void edit_some(void) {
     const uint8_t clashing[] = {0x07, 0x09, 0x06, 0x03, 0x00, 0x08, 0x05, 0x00, 0x0A, 0x07, 0x04, 0x00, 0x08, 0x05, 0x00};
     const uint8_t until[] = {0x0A, 0x06, 0x03, 0x01, 0x07, 0x04, 0x00, 0x08, 0x05, 0x00}; /* no change until it is announced */
@@ -238,40 +237,6 @@ static void edit_some(void) {
     edit(clashing, sizeof clashing, 6, unguarded, sizeof unguarded);
     edit(clashing, sizeof clashing, 11, until, sizeof until);
     edit(clashing, sizeof clashing, 8, later, sizeof later);
-}
-
-/* Mends a rule in a buffer of so many bytes, MENDED at most, and decides what comes of it. */
-static void mend_within(size_t room, const uint8_t *rule, size_t rule_len) {
-    uint8_t mended[MENDED], altered[YUKTROB_ALTERED_LEN];
-    uint64_t answer = yuktrob_mend(rule, rule_len, mended, room, altered);
-    if (yuktrob_refusal(answer)) {
-        print_refusal(answer);
-        return;
-    }
-    printf("mended, bytes %u, altered %u:", yuktrob_mended_len(answer), yuktrob_altered_count(answer));
-    for (size_t i = 0; i < yuktrob_mended_len(answer); i++) printf(" %02x", mended[i]);
-    printf("\n");
-    for (size_t i = 0; i < yuktrob_altered_count(answer); i++)
-        printf("entry %u became %s\n", yuktrob_altered_entry(altered, i), yuktrob_became_true(altered, i) ? "true" : "false");
-    decide(mended, yuktrob_mended_len(answer));
-}
-
-/* An old rule in a buffer that is longer than it needs, just as long, and too short; one that has no fault; and what is refused. */
-static void mend_some(void) {
-    /* always no change, or sooner or later announced, both fixpoints with one variable that has a next and one that has none */
-    const uint8_t old_rule[] = {0x0A, 0x07, 0x06, 0x04, 0x00, 0x09, 0x06, 0x06, 0x03, 0x01, 0x05, 0x00,
-                                0x08, 0x05, 0x00, 0x07, 0x05, 0x00, 0x08, 0x05, 0x00};
-    const uint8_t guarded[] = {0x09, 0x06, 0x03, 0x01, 0x08, 0x05, 0x00};
-    /* a change, or announced until one comes: a variable of the least fixpoint stands in the greatest one */
-    const uint8_t entangled[] = {0x09, 0x06, 0x03, 0x00, 0x0A, 0x06, 0x05, 0x01, 0x07, 0x03, 0x01, 0x08, 0x05, 0x00};
-    const uint8_t two_faults[] = {0x09, 0x05, 0x00, 0x01}; /* a variable without a next, and a byte too many */
-    decide(old_rule, sizeof old_rule);
-    mend_within(MENDED, old_rule, sizeof old_rule);
-    mend_within(sizeof old_rule - 2, old_rule, sizeof old_rule);
-    mend_within(sizeof old_rule - 3, old_rule, sizeof old_rule);
-    mend_within(MENDED, guarded, sizeof guarded);
-    mend_within(0, entangled, sizeof entangled);
-    mend_within(MENDED, two_faults, sizeof two_faults);
 }
 
 int main(void) {
@@ -312,6 +277,5 @@ int main(void) {
     look_up_some();
     decide_sets();
     edit_some();
-    mend_some();
     return 0;
 }

@@ -1,7 +1,6 @@
 /* Rules of tractor-guidance terminals: reading, truth on a repeating course, and the decision, at once or in two: building and search;
  * that of safety rules, which takes no profiles; the lookup of a rule by its number, in a dealer's sheet before the factory's; the decision
- * whether one course meets all rules of a sheet; a rule with one of its entries replaced; and an old rule mended, whose variables lack a
- * next.
+ * whether one course meets all rules of a sheet; and a rule with one of its entries replaced.
  *
  * Each function answers one number. Its lowest byte is the number of a refusal, or 0; what the answer carries stands above it:
  *   reading    accepted: the number of entries; refused 1 to 9: its places
@@ -21,8 +20,6 @@
  *   edit       edited: 8 bits each for the bytes and for the entries of the spliced rule, the first lowest; refused 1 to 9: its places, in
  *              16 bits always, and above these which rule it speaks of, 0 for the old, 1 for the new, 2 for the spliced one; refused 37:
  *              nothing
- *   mend       mended: 8 bits each for the bytes of the mended rule and for how many entries are altered, the first lowest; refused 1 to 7,
- *              9 or 33: its place; refused 42: nothing
  * The places of a refusal are 8 bits for the byte's place and, of 8 alone, 8 bits above them for where the variable's fixpoint begins.
  * Rules of a set are told by their positions in the sheet, from 0 on; of several, bit p is set for the rule at position p.
  * What can be any place in memory does not fit beside a refusal: where a rule or a fault stands in a sheet, the lookup and the decision of
@@ -30,8 +27,8 @@
  * taking an answer apart.
  *
  * No function asks anything of its arguments but that a pointer has as many elements as the length behind it says, or, where no length
- * stands behind it, one, an edit's spliced and table YUKTROB_SPLICED_LEN and YUKTROB_TABLE_LEN, and a mend's altered YUKTROB_ALTERED_LEN,
- * and that what a function writes overlaps nothing else that it is given. */
+ * stands behind it, one, and an edit's spliced and table YUKTROB_SPLICED_LEN and YUKTROB_TABLE_LEN, and that what a function writes
+ * overlaps nothing else that it is given. */
 #ifndef YUKTROB_H
 #define YUKTROB_H
 
@@ -74,9 +71,6 @@
 /* How many bytes an edit writes: for the spliced rule, and for the table, which has three of each entry. */
 #define YUKTROB_SPLICED_LEN 97
 #define YUKTROB_TABLE_LEN (3 * YUKTROB_MOST_ENTRIES)
-
-/* How many bytes the list of a mend's alterations has: two of each entry that a rule can have. */
-#define YUKTROB_ALTERED_LEN (2 * YUKTROB_MOST_ENTRIES)
 
 #ifdef __cplusplus
 extern "C" {
@@ -183,28 +177,12 @@ uint64_t yuktrob_decide_set(const uint8_t *sheet, size_t sheet_len, size_t nodes
 uint64_t yuktrob_edit(const uint8_t *old_rule, size_t old_len, size_t e, const uint8_t *new_rule, size_t new_len, uint8_t *spliced,
                       uint8_t *table);
 
-/* Mends a rule that reading refuses with 8, as it does many an old one. A variable becomes a constant if what stands between its fixpoint
- * and itself has no next and no fixpoint: true if its own is a greatest one, false if it is a least one. All else stays, so that the
- * entries keep their numbers, and there is one byte fewer for each that is altered. Reading accepts the mended rule, which by the rounds
- * that define truth holds wherever the old one does and nowhere else, on any course. A rule without the fault comes back as it was.
- *
- * The questions, in this order: 1 to 7 and 9 are what reading says if it does not ask for nexts, so that a fault behind one of 8 is told;
- * 33 says that a variable has no next but another fixpoint between it and its own, and has the place of the operand of the first such one,
- * for which true or false could be wrong; 42 says that mended_len is less than what the mended rule has. That is never more than what the
- * old one has, nor more than two bytes for each of YUKTROB_MOST_ENTRIES.
- *
- * Mended, the buffer begins with the mended rule, and the rest of it is unchanged; altered has two bytes for each entry that was altered,
- * in rising order, its number and the command that it became, 1 for true or 2 for false, with zeros behind the last. Refused, neither is
- * written. */
-uint64_t yuktrob_mend(const uint8_t *rule, size_t rule_len, uint8_t *mended, size_t mended_len, uint8_t *altered);
-
-/* Taking an answer apart. Every answer: the refusal's number, or 0; whether the answer has a byte's place, as 1 to 9, 33 and 43 have it
- * (that of 30 is in the word *start or *place, and not in the answer); and the place. Then whether it has a fixpoint's place too, which 8
- * alone has; and that place. */
+/* Taking an answer apart. Every answer: the refusal's number, or 0; whether the answer has a byte's place, as 1 to 9 and 43 have it (that
+ * of 30 is in the word *start or *place, and not in the answer); and the place. Then whether it has a fixpoint's place too, which 8 alone
+ * has; and that place. */
 static inline unsigned yuktrob_refusal(uint64_t answer) { return (unsigned)(answer & 255); }
 static inline int yuktrob_has_place(uint64_t answer) {
-    unsigned number = yuktrob_refusal(answer);
-    return (1 <= number && number <= 9) || number == 33 || number == 43;
+    return (1 <= yuktrob_refusal(answer) && yuktrob_refusal(answer) <= 9) || yuktrob_refusal(answer) == 43;
 }
 static inline unsigned yuktrob_place(uint64_t answer) { return (unsigned)(answer >> 8 & 255); }
 static inline int yuktrob_has_fixpoint(uint64_t answer) { return yuktrob_refusal(answer) == 8; }
@@ -253,14 +231,6 @@ static inline unsigned yuktrob_table_count(const uint8_t *table) { return table[
 static inline unsigned yuktrob_table_command(const uint8_t *table, size_t e) { return table[e]; }
 static inline unsigned yuktrob_table_argument(const uint8_t *table, size_t e) { return table[YUKTROB_MOST_ENTRIES + e]; }
 static inline unsigned yuktrob_table_length(const uint8_t *table, size_t e) { return table[2 * YUKTROB_MOST_ENTRIES + e]; }
-
-/* A mend, not refused: how many bytes the mended rule has, and how many entries are altered. */
-static inline unsigned yuktrob_mended_len(uint64_t answer) { return (unsigned)(answer >> 8 & 255); }
-static inline unsigned yuktrob_altered_count(uint64_t answer) { return (unsigned)(answer >> 16 & 255); }
-
-/* A mend's list: the number of the i-th entry that was altered, i being less than their count and from 0 on, and whether it became true. */
-static inline unsigned yuktrob_altered_entry(const uint8_t *altered, size_t i) { return altered[2 * i]; }
-static inline int yuktrob_became_true(const uint8_t *altered, size_t i) { return altered[2 * i + 1] == 1; }
 
 #ifdef __cplusplus
 }

@@ -27,7 +27,7 @@ module _ {A : Type 0} where
   at_in here = Memᴰ.head refl
   at_in (there a) = Memᴰ.tail (at_in a)
 
-  pub in_at : {xs : List A} {x : A} → Memᴰ x xs → (i : ℕ) × At xs i x
+  pub in_at : {x : A} {xs : List A} → Memᴰ x xs → (i : ℕ) × At xs i x
   in_at {x = x} (Memᴰ.head {xs} e) = (0, subst (λ (y : A). At (y ∷ xs) 0 x) e here)
   in_at (Memᴰ.tail m) = let (i, a) = in_at m in (suc i, there a)
 
@@ -61,6 +61,7 @@ module _ {A : Type 0} where
   -- in a list with one element more it stands there before, or is the last
   pub at_split : (xs : List A) (z : A) {i : ℕ} {x : A} → At (xs ++ (z ∷ [])) i x → At xs i x ⊎ ((i ≡ length xs) × (x ≡ z))
   at_split [] z here = inr (refl, refl)
+  at_split [] z (there {i = i} a) = elim a [ ]
   at_split (y ∷ xs) z here = inl here
   at_split (y ∷ xs) z (there a) = elim (at_split xs z a) [ inl b ↦ inl (there b) | inr e ↦ inr (ap suc e.0, e.1) ]
 
@@ -73,6 +74,7 @@ at_map f here = here
 at_map f (there a) = there (at_map f a)
 
 pub at_unmap : {A B : Type 0} (f : A → B) (xs : List A) {i : ℕ} {y : B} → At (map f xs) i y → (x : A) × At xs i x × (f x ≡ y)
+at_unmap {A = A} {B = B} f [] {i = i} {y = y} a = elim a [ ]
 at_unmap f (x ∷ xs) here = (x, here, refl)
 at_unmap f (x ∷ xs) (there a) = let (z, b, e) = at_unmap f xs a in (z, there b, e)
 

@@ -22,7 +22,7 @@ module _ {A B : Type 0} (f : A → List B) where
       elim (Memᴰ.append_cases (f x) m)
       [ inl h ↦ (x, Memᴰ.head refl, h) | inr t ↦ let (a, q, h) = flat_map_of xs t in (a, Memᴰ.tail q, h) ]
 
-  pub flat_map_in : {xs : List A} {a : A} {b : B} → Memᴰ a xs → Memᴰ b (f a) → Memᴰ b (flat_map f xs)
+  pub flat_map_in : {a : A} {xs : List A} {b : B} → Memᴰ a xs → Memᴰ b (f a) → Memᴰ b (flat_map f xs)
   flat_map_in {b} (Memᴰ.head {xs} e) h = Memᴰ.append_left (flat_map f xs) (subst (λ (y : A). Memᴰ b (f y)) e h)
   flat_map_in (Memᴰ.tail {x} m) h = Memᴰ.append_right (f x) (flat_map_in m h)
 
@@ -37,7 +37,7 @@ module _ {A : Type 0} (q : A → Bool) where
       elim (or_cases (q x) (any q xs) h)
       [ inl k ↦ (x, Memᴰ.head refl, k) | inr r ↦ let (a, m, k) = any_of xs r in (a, Memᴰ.tail m, k) ]
 
-  pub any_in : {xs : List A} {a : A} → Memᴰ a xs → T (q a) → T (any q xs)
+  pub any_in : {a : A} {xs : List A} → Memᴰ a xs → T (q a) → T (any q xs)
   any_in (Memᴰ.head {x} {xs} e) h = or_left (q x) (any q xs) (subst (λ (b : A). T (q b)) e h)
   any_in (Memᴰ.tail {x} {xs} m) h = or_right (q x) (any q xs) (any_in m h)
 
@@ -60,7 +60,7 @@ module _ {A : Type 0} (q : A → Bool) where
       (λ h r. (Memᴰ.tail (filter_of xs r).0, (filter_of xs r).1))
       m
 
-  pub filter_in : {xs : List A} {a : A} → Memᴰ a xs → T (q a) → Memᴰ a (filter q xs)
+  pub filter_in : {a : A} {xs : List A} → Memᴰ a xs → T (q a) → Memᴰ a (filter q xs)
   filter_in {a} (Memᴰ.head {x} {xs} e) h =
       by_test (q x) (λ b. Memᴰ a (cond b (x ∷ filter q xs) (filter q xs)))
       (λ k. Memᴰ.head e)

@@ -36,6 +36,8 @@ module _ {A : Type 0} (P : A → A → Type 0) (size : A → ℕ) (less : (a b :
 
   pub total_less : (xs ys : List A) → Pairs P xs ys → (xs ≡ ys) ⊎ (total ys < total xs)
   total_less [] [] Pairs.none = inl refl
+  total_less [] (y ∷ ys) p = elim p [ ]
+  total_less (x ∷ xs) [] p = elim p [ ]
   total_less (x ∷ xs) (y ∷ ys) (more h p) =
       elim (total_less xs ys p) [
         | inl e ↦ elim (less x y h) [ inl d ↦ inl (cc) | inr l ↦ inr (omega (arith, ap total e)) ]

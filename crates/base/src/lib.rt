@@ -1,4 +1,6 @@
 // Numbers and bits of words, shared by the layers above.
+#![tactic(auto)]
+
 ghost use Rattle.std.specs.Prelude.{◌≡◌, cond, ℕ, ◌+◌, ◌%◌, ◌≤◌, ◌<◌, ◌^◌, length, eqb};
 ghost use Rattle.base.specs.Bits.{bit, Lowest, Without};
 ghost use Rattle.base.specs.Bytes.{number_at, with_number};

@@ -10,7 +10,7 @@ use Rattle.catalogue.specs.Location.{numbered, chosen, location}
 use Rattle.catalogue.specs.declared.Record.{Record}
 use Rattle.catalogue.specs.declared.Location.{Location}
 use Rattle.catalogue.specs.Overlay.{IsCatalogue, Entered, Lacking, Means}
-use Rattle.catalogue.proofs.FaultLaws.{least-fault, damaged_exactly}
+use Rattle.catalogue.proofs.FaultLaws.{least_fault, damaged_exactly}
 use Rattle.catalogue.proofs.CatalogueLaws.{catalogue-records, records-catalogue, entry_of, placed_in}
 use Rattle.catalogue.proofs.LocationLaws.{Listed, Unlisted, listed-numbered, unlisted_numbered, Located, location_cases}
 use Rattle.catalogue.proofs.LocationLaws.{location_by, damaged_overlay, damaged_base}
@@ -45,8 +45,8 @@ module _ (bytes : List ℕ) {rs : List Record} (e : records bytes ≡ Records.wh
       }
 
 located_means : {overlay base : List ℕ} {n : ℕ} {l : Location} → Located overlay base n l → Means overlay base n l
-located_means {overlay} (Located.damaged_over p) = Means.damaged_over (least-fault overlay p)
-located_means {overlay} {base} (Located.damaged_under p q) = Means.damaged_under (whole-catalogue overlay p) (least-fault base q)
+located_means {overlay} (Located.damaged_over p) = Means.damaged_over (least_fault overlay p)
+located_means {overlay} {base} (Located.damaged_under p q) = Means.damaged_under (whole-catalogue overlay p) (least_fault base q)
 located_means {overlay} {base} (Located.found_over p q l) = Means.found_over (listed-entered overlay p l) (whole-catalogue base q)
 located_means {overlay} {base} (Located.found_under p q u l) = Means.found_under (unlisted_lacking overlay p u) (listed-entered base q l)
 located_means {overlay} {base} (Located.missing p q u v) = Means.missing (unlisted_lacking overlay p u) (unlisted_lacking base q v)

@@ -38,8 +38,8 @@ module _ (bytes : List ℕ) (at least : ℕ) where
   pub records_end : record_at bytes at least ≡ End → records_from bytes at least ≡ Records.whole []
   records_end e = records_unfold bytes at least ∙ ap (onward (records_from bytes)) e
 
-  pub records-fault : {p : ℕ} → record_at bytes at least ≡ Fault p → records_from bytes at least ≡ Records.damaged p
-  records-fault e = records_unfold bytes at least ∙ ap (onward (records_from bytes)) e
+  pub records_fault : {p : ℕ} → record_at bytes at least ≡ Fault p → records_from bytes at least ≡ Records.damaged p
+  records_fault e = records_unfold bytes at least ∙ ap (onward (records_from bytes)) e
 
   pub records-whole : {r : Record} → record_at bytes at least ≡ Whole r
       → records_from bytes at least ≡ behind r (records_from bytes (r.start + r.size) (r.number + 1))

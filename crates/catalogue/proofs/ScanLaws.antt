@@ -16,7 +16,7 @@ use Rattle.catalogue.specs.declared.Layer.TheVariants.{Overlay, Base}
 use Rattle.catalogue.specs.declared.Location.TheVariants.{Damaged}
 use Rattle.catalogue.specs.declared.Scanned.{Scanned}
 use Rattle.catalogue.specs.declared.Scanned.TheVariants.{Has, Lacks, Broken}
-use Rattle.catalogue.proofs.RecordsLaws.{records_end, records-fault, records-whole}
+use Rattle.catalogue.proofs.RecordsLaws.{records_end, records_fault, records-whole}
 
 -- ---- one record, as the code compares it
 pub kept_same : (n : ℕ) {found : Scanned} (r : Record) → found ≡ Lacks → r.number ≡ n → Has r.start r.size ≡ kept n found r
@@ -57,7 +57,7 @@ module _ (bytes : List ℕ) (n : ℕ) where
 
   pub scan_fault : {at least p : ℕ} {found : Scanned} → Scanning bytes n at least found → record_at bytes at least ≡ Fault p
       → Broken p ≡ scanned n (records bytes)
-  scan_fault {at} {least} {found = found} s e = sym (ap (gone_on n found) (records-fault bytes at least e)) ∙ s.is
+  scan_fault {at} {least} {found = found} s e = sym (ap (gone_on n found) (records_fault bytes at least e)) ∙ s.is
 
   pub scan_on : {at least : ℕ} {found now : Scanned} {r : Record} → Scanning bytes n at least found → record_at bytes at least ≡ Whole r
       → now ≡ kept n found r → Scanning bytes n (r.start + r.size) (r.number + 1) now

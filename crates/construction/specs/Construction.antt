@@ -8,7 +8,7 @@ use Rattle.base.specs.Lists.{flat_map, alike}
 use Rattle.base.specs.Search.{Item}
 use Rattle.formula.specs.Formula.{Formula}
 use Rattle.formula.specs.Table.{Table, table}
-use Rattle.formula.specs.Reading.{Reading, parse_as, parse}
+use Rattle.formula.specs.Reading.{Reading, parse}
 use Rattle.formula.specs.declared.Refusal.{Refusal}
 use Rattle.tableau.specs.Saturation.{Subset}
 use Rattle.tableau.specs.Transition.{Transition}
@@ -65,7 +65,7 @@ after_reading N workspace (Reading.accepted f) = ask_room N workspace (table f)
 
 -- The whole: the capacity, the length of the lent workspace, a formula's bytes.
 unfoldable pub construction : (N workspace : ℕ) → List ℕ → Construction
-unfolding parse_as table construct
+unfolding parse table construct
 construction N workspace bytes = after_reading N workspace (parse bytes)
 
 -- Question 36: whether K and the workspace's first 8 N bytes are what building with N gives for this table.

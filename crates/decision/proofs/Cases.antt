@@ -7,7 +7,7 @@ use Prim.Native.Nat.{ℕ}
 use Rattle.base.specs.Search.{Item}
 use Rattle.formula.specs.Formula.{Formula}
 use Rattle.formula.specs.Table.{Table, table}
-use Rattle.formula.specs.Reading.{Reading, parse_as, parse}
+use Rattle.formula.specs.Reading.{Reading, parse}
 use Rattle.formula.specs.Refusal.{unguarded}
 use Rattle.tableau.specs.Transition.{Transition}
 use Rattle.tableau.specs.Nodes.{nodes, stem_to}
@@ -168,5 +168,5 @@ words_of (Reading.refused why) = []
 words_of (Reading.accepted f) = words_in (table f) (found_in (table f))
 
 pub tied_words : map (λ (c : Told). words_of (parse c.bytes)) tied ≡ map (λ (c : Told). c.words) tied
-unfolding parse_as table nodes profiles rejecting
+unfolding parse table nodes profiles rejecting
 tied_words = refl

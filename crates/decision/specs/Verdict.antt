@@ -9,7 +9,7 @@ use Rattle.base.specs.Search.{Item, within}
 use Rattle.letters.specs.Requirements.{letter_of}
 use Rattle.formula.specs.Formula.{Formula}
 use Rattle.formula.specs.Table.{Table, table}
-use Rattle.formula.specs.Reading.{Reading, parse_as, parse}
+use Rattle.formula.specs.Reading.{Reading, parse}
 use Rattle.formula.specs.declared.Refusal.{Refusal}
 use Rattle.tableau.specs.Saturation.{Subset}
 use Rattle.tableau.specs.Transition.{Transition, letter}
@@ -106,12 +106,12 @@ after_reading on (Reading.accepted f) = on (table f)
 
 -- The decision: the capacities, the lengths of the lent workspace and witness buffer, a formula's bytes.
 unfoldable pub verdict : (N M workspace buffer : ℕ) → List ℕ → Verdict
-unfolding parse_as table decide
+unfolding parse table decide
 verdict N M workspace buffer bytes = after_reading (λ (t : Table). ask_capacities N M workspace buffer (decide N M t)) (parse bytes)
 
 -- The search: K, the capacities, what the workspace holds, the length of the witness buffer, a formula's bytes.
 unfoldable pub search_verdict : (K N M : ℕ) (workspace : List ℕ) (buffer : ℕ) → List ℕ → Verdict
-unfolding parse_as table search
+unfolding parse table search
 search_verdict K N M workspace buffer bytes =
     after_reading (λ (t : Table). ask_capacities N M (length workspace) buffer (search K N M workspace t)) (parse bytes)
 

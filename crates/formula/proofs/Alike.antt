@@ -4,7 +4,7 @@
 -- a place in the one to that in the other, and goes on with it from byte to byte; their scopes differ by the same. Assumes nothing.
 use mathlib.Core.Path.{◌≡◌, refl, ap, subst, ◌∙◌}
 use mathlib.Core.Logic.{◌⊎◌, inl, inr, ⊎_elim}
-use mathlib.Core.Bool.{Bool, true, false, cond}
+use mathlib.Core.Bool.{Bool, true, false}
 use mathlib.Core.List.{List, [], ◌∷◌, map}
 use Prim.Native.Nat.{ℕ, zero, suc, ◌+◌, ◌-◌, ◌≤◌, ◌<◌}
 use native.Mathlib.Omega.{arith}
@@ -17,11 +17,12 @@ use Rattle.formula.specs.Reading.{Opcode, opcode, Head, Read, Reader, and_then, 
 use Rattle.formula.specs.Reading.{one_more, counted, Scope, outside, entered, behind_next, depth_asked, operands, questions}
 use Rattle.formula.specs.Reading.{formula}
 use Rattle.formula.proofs.ScopeLaws.{moved_scope, moved_length, moved_at, moved_next}
-use Rattle.formula.proofs.Commands.{or_command, next-command, fix-command, one_if, counted_is, behind, placed, within-placed}
+use Rattle.formula.proofs.Commands.{or_command, next-command, fix-command, one_if, counted_is, behind}
 
 -- the same head at another place, over other bytes
 abbrev pub moved : (ℕ → ℕ) → Head → List ℕ → Head
-moved place h l = placed (place h.at) l h.strict h
+moved place h l =
+    record { at = place h.at; left = l; commands = h.commands; ors = h.ors; nexts = h.nexts; fixpoints = h.fixpoints }
 
 -- at the same place
 abbrev pub same : ℕ → ℕ
@@ -29,6 +30,16 @@ same i = i
 
 abbrev pub over : Head → List ℕ → Head
 over h l = moved same h l
+
+within_moved : (place : ℕ → ℕ) (op : Opcode) (h : Head) (l : List ℕ) → within op (moved place h l) ≡ within op h
+within_moved place Opcode.unknown h l = refl
+within_moved place (Opcode.constant b) h l = refl
+within_moved place (Opcode.signal b) h l = refl
+within_moved place Opcode.variable h l = refl
+within_moved place (Opcode.pair true) h l = refl
+within_moved place (Opcode.pair false) h l = refl
+within_moved place Opcode.next h l = refl
+within_moved place (Opcode.fix g) h l = refl
 
 -- the refusals that a question about a byte gives, by the byte's place
 pub data OfByte : (ℕ → Refusal) → Type 0 where
@@ -147,8 +158,7 @@ module _ (P : Refusal → Type 0) where
           (code_alike h (ltb d (length scope)) 7 _ _ OfByte.depth r λ t.
           let b = get_or scope d outside in
           rw (moved_at place scope d (ltb→lt d (length scope) t))
-          (ask-alike h (cond h.strict b.guarded true) (unguarded b.place) (unguarded (place b.place)) _ _ OfByte.guard
-          (λ i. refl) r λ t. Alike.got r))
+          (ask-alike h b.guarded (unguarded b.place) (unguarded (place b.place)) _ _ OfByte.guard (λ i. refl) r λ t. Alike.got r))
 
       -- the head stands behind the byte of the command
       operands-alike : (scope : Scope) (op : Opcode) (h : Head) (l : List ℕ) → place (h.at - 1) ≡ place h.at - 1 → Near R n m 2 h l
@@ -182,7 +192,7 @@ module _ (P : Refusal → Type 0) where
           (and_then (λ u k. operands other (moved_scope place scope) op (counted op k))
           (answered (within op (moved place (behind h x) y)) (at_byte 4) (moved place (behind h x) y)))
       limits-alike scope op h x y c r =
-          rw (within-placed op (place (h.at + 1)) y h.strict (behind h x))
+          rw (within_moved place op (behind h x) y)
           (code_alike h (within op (behind h x)) 4 _ _ OfByte.limits r λ t.
           counted-alike scope op (behind h x) y c (back h.at) r)
 

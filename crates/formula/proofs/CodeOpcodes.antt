@@ -100,7 +100,6 @@ pub counted-head : (op : ℕ) (h : Head) (o n f : ℕ) → RoomFor op h →
       ors = h.ors + o;
       nexts = h.nexts + n;
       fixpoints = h.fixpoints + f;
-      strict = h.strict;
     })
 counted-head op h o n f room a b c =
     let x = point [] h in

@@ -1,16 +1,16 @@
 -- The code's answers to the questions 1 to 8 are the definition's: each test of the code settles one question, and with it the
 -- definition computes to the answer that the code returns. Assumes nothing.
 use mathlib.Core.Path.{◌≡◌, refl, sym, ap, subst, ◌∙◌}
-use mathlib.Core.Bool.{Bool, true, false, cond, ◌&&◌}
+use mathlib.Core.Bool.{Bool, true, false}
 use mathlib.Core.List.{List, ◌∷◌}
 use Prim.Native.Nat.{ℕ, zero, suc, ◌+◌, ◌-◌, ◌≤◌, ◌<◌}
 use native.Mathlib.Omega.{arith}
 use native.Mathlib.Numerals.{add-one}
 use native.Mathlib.Decide.{dec_lt}
-use lib.Dec.{eqb, ltb, leb}
+use lib.Dec.{eqb}
 use lib.ListN.{length, get_or, drop, drop_of_length-le}
 use lib.Seq.{drop-cons}
-use borrow.Author.Tests.{lt-ltb, le-ltb, le-leb, lt-leb, leb-true, leb-false}
+use borrow.Author.Tests.{lt-ltb, le-ltb, le-leb, lt-leb}
 use Rattle.formula.specs.Formula.{Leaf, Formula}
 use Rattle.formula.specs.Table.{Operator}
 use Rattle.formula.specs.Refusal.{at_byte, unguarded}
@@ -107,16 +107,6 @@ module _ (s : List ℕ) (h : Head) where
                 (sym (c.stands s ∙ ap (λ (q : Head). counted (opcode next-byte) (point s q)) e)));
           }
 
--- the code's test for question 8, answered by no,
-asked-no : (strict : Bool) (n m : ℕ) → (strict && leb n m) ≡ true → (strict ≡ true) × (n ≤ m)
-asked-no true n m e = (refl, leb-true n m e)
-asked-no false n m e = absurd (let z : ◌≡◌ {A = ℕ} 0 1 = cc in omega arith)
-
--- and not by no
-passed_on : (strict : Bool) (n m : ℕ) → (strict && leb n m) ≡ false → cond strict (ltb m n) true ≡ true
-passed_on true n m e = lt-ltb m n (leb-false n m e)
-passed_on false n m e = refl
-
 -- the argument of a signal or a variable
 module _ (s : List ℕ) (h : Head) (op : ℕ) (scope : Scope) (self : Enclosing → Reader Formula) where
   abbrev answer : Read Formula
@@ -159,10 +149,9 @@ module _ (s : List ℕ) (h : Head) (op : ℕ) (scope : Scope) (self : Enclosing 
 
       module _ (bound : next-byte s h < scope.depth) where
         -- question 8
-        pub not_guarded : (up : ℕ) → up ≡ next-byte s h → (h.strict && leb scope.guarded (scope.depth - 1 - up)) ≡ true
-            → answer ≡ Read.refused (unguarded (get_or scope.places (scope.depth - 1 - up) 0) h.at)
-        not_guarded up same no' =
-            let found = asked-no h.strict scope.guarded (scope.depth - 1 - up) no' in
+        pub not_guarded : (up : ℕ) → up ≡ next-byte s h → scope.guarded ≤ scope.depth - 1 - up →
+            answer ≡ Read.refused (unguarded (get_or scope.places (scope.depth - 1 - up) 0) h.at)
+        not_guarded up same l =
             rw (
               variable,
               here s h inside,
@@ -170,15 +159,14 @@ module _ (s : List ℕ) (h : Head) (op : ℕ) (scope : Scope) (self : Enclosing 
               lt-ltb (next-byte s h) scope.depth bound,
               inward-at (enclosing_at scope) scope.depth (next-byte s h) outside bound,
               ← same,
-              le-ltb (scope.depth - 1 - up) scope.guarded found.1,
-              found.0,
+              le-ltb (scope.depth - 1 - up) scope.guarded l,
               place,
             )
 
-        pub variable_argued : (e up : ℕ) (p : Head) → up ≡ next-byte s h
-            → (h.strict && leb scope.guarded (scope.depth - 1 - up)) ≡ false → p ≡ behind h → Limits h
-            → Argued e (binders scope) op answer s h (get_or scope.binders (scope.depth - 1 - up) 0) p
-        variable_argued e up p same go q w = record {
+        pub variable_argued : (e up : ℕ) (p : Head) → up ≡ next-byte s h → scope.depth - 1 - up < scope.guarded → p ≡ behind h
+            → Limits h →
+            Argued e (binders scope) op answer s h (get_or scope.binders (scope.depth - 1 - up) 0) p
+        variable_argued e up p same l q w = record {
           got = Formula.variable (next-byte s h);
           is = rw (
             variable,
@@ -186,8 +174,7 @@ module _ (s : List ℕ) (h : Head) (op : ℕ) (scope : Scope) (self : Enclosing 
             inward-length,
             lt-ltb (next-byte s h) scope.depth bound,
             inward-at (enclosing_at scope) scope.depth (next-byte s h) outside bound,
-            ← same,
-            passed_on h.strict scope.guarded (scope.depth - 1 - up) go,
+            lt-ltb (scope.depth - 1 - next-byte s h) scope.guarded (omega arith),
             q,
           );
           alone = record {

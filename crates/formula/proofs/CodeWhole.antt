@@ -1,7 +1,6 @@
 -- The whole formula: where the command that it begins with is read, the bytes have ended or not, and the table holds the entries of the
 -- formula. Assumes nothing.
 use mathlib.Core.Path.{◌≡◌, sym, ap, subst, ◌∙◌}
-use mathlib.Core.Bool.{true}
 use mathlib.Core.List.{List, []}
 use Prim.Native.Nat.{ℕ, ◌+◌, ◌≤◌, ◌<◌}
 use native.Mathlib.Omega.{arith}
@@ -20,7 +19,7 @@ use Rattle.formula.specs.declared.Reading as code
 use Rattle.formula.specs.declared.Parsed.{Parsed}
 use Rattle.formula.specs.declared.Refusal.{Refusal}
 use Rattle.formula.specs.declared.Outcome.TheVariants.{Accepted, Refused}
-use Rattle.formula.specs.Inner.{Agrees, ReadAs, ReadFrom}
+use Rattle.formula.specs.Inner.{Agrees, ReadFrom}
 use Rattle.formula.proofs.WellFormed.{table-size}
 use Rattle.formula.proofs.EncodedLaws.{wrote-encoded, stored-reading, stored-holds}
 use Rattle.formula.proofs.CodeFormula.{clash}
@@ -63,32 +62,32 @@ module _ {s : List ℕ} {h : Head} {p : Parsed} where
 
 -- the three answers, from the command at h, where reading begins
 module _ {s : List ℕ} {h : Head} {p : Parsed}
-    (command : (k : ℕ) → length s ≤ h.at + k → Agrees s 0 h [] empty p (formula k [] (start-at h.strict s h.at))) where
+    (command : (k : ℕ) → length s ≤ h.at + k → Agrees s 0 h [] empty p (formula k [] (start-at s h.at))) where
   abbrev first : Read Formula
-  first = formula (length (drop h.at s)) [] (start-at h.strict s h.at)
+  first = formula (length (drop h.at s)) [] (start-at s h.at)
 
   a : Agrees s 0 h [] empty p first
   a = command (length (drop h.at s)) (simp length-drop (omega arith))
 
   refused_by : {r : code.Reading} {why : Refusal} → whole first ≡ Reading.refused why →
-      (r.outcome ≡ Refused why) × (r.table ≡ no_table) → ReadAs h.strict s h.at r
+      (r.outcome ≡ Refused why) × (r.table ≡ no_table) → ReadFrom s h.at r
   refused_by {r} {why} w o = rw (reading_from-is, w) (answer r (Refused why) no_table o.0 o.1)
 
   pub refused-reading : {r : code.Reading} {why : Refusal} → p.outcome ≡ Refused why →
-      (r.outcome ≡ Refused why) × (r.table ≡ no_table) → ReadAs h.strict s h.at r
+      (r.outcome ≡ Refused why) × (r.table ≡ no_table) → ReadFrom s h.at r
   refused-reading q o = refused_by (whole-refused a q) o
 
   pub extra_reading : {r : code.Reading} → p.outcome ≡ Accepted → p.head.at < length s →
-      (r.outcome ≡ Refused (at_byte 9 p.head.at)) × (r.table ≡ no_table) → ReadAs h.strict s h.at r
+      (r.outcome ≡ Refused (at_byte 9 p.head.at)) × (r.table ≡ no_table) → ReadFrom s h.at r
   extra_reading q l o = refused_by (whole_extra a q l) o
 
   pub accepted-reading : p.outcome ≡ Accepted → length s ≤ p.head.at →
-      ReadAs h.strict s h.at (record { outcome = Accepted; table = record { count = p.head.count; rows = p.rows } })
-  accepted-reading q l = whole-accepted a q l ∙ ap stored (sym (reading_from-is h.strict s h.at))
+      ReadFrom s h.at (record { outcome = Accepted; table = record { count = p.head.count; rows = p.rows } })
+  accepted-reading q l = whole-accepted a q l ∙ ap stored (sym (reading_from-is s h.at))
 
 -- reading from byte 0, clause by clause
 pub clauses_of : (s : List ℕ) (r : code.Reading) → ReadFrom s 0 r →
     (reading_of r ≡ reading s) × TableFor r.outcome r.table × (r ≡ stored (reading s))
 clauses_of s r a =
-    let all : r ≡ stored (reading s) = a ∙ ap stored (reading_from-start true s) in
+    let all : r ≡ stored (reading s) = a ∙ ap stored (reading_from-start s) in
     (rw all (stored-reading s), rw all (stored-holds s), all)

@@ -1,27 +1,15 @@
 -- How reading moves the head: one byte further, and one command more, which counts as an or, a next or a fixpoint or as none of
--- them; and that only what was counted matters to question 4. Assumes nothing.
+-- them. Assumes nothing.
 use mathlib.Core.Path.{◌≡◌, refl}
 use mathlib.Core.Bool.{Bool, true, false, cond}
 use mathlib.Core.List.{List}
 use Prim.Native.Nat.{ℕ, ◌+◌}
-use Rattle.formula.specs.Reading.{Opcode, Head, within, one_more, counted}
-
--- another head that has counted as much
-abbrev pub placed : (at : ℕ) (left : List ℕ) (strict : Bool) → Head → Head
-placed at left strict h =
-    record {
-      at = at;
-      left = left;
-      commands = h.commands;
-      ors = h.ors;
-      nexts = h.nexts;
-      fixpoints = h.fixpoints;
-      strict = strict;
-    }
+use Rattle.formula.specs.Reading.{Opcode, Head, one_more, counted}
 
 -- the head one byte further
 abbrev pub behind : Head → List ℕ → Head
-behind h l = placed (h.at + 1) l h.strict h
+behind h l =
+    record { at = h.at + 1; left = l; commands = h.commands; ors = h.ors; nexts = h.nexts; fixpoints = h.fixpoints }
 
 -- whether a command is an or, a next, a fixpoint
 pub record Sort : Type 0 where
@@ -63,13 +51,3 @@ counted_is (Opcode.pair true) h = refl
 counted_is (Opcode.pair false) h = refl
 counted_is Opcode.next h = refl
 counted_is (Opcode.fix g) h = refl
-
-pub within-placed : (op : Opcode) (at : ℕ) (left : List ℕ) (strict : Bool) (h : Head) → within op (placed at left strict h) ≡ within op h
-within-placed Opcode.unknown at left strict h = refl
-within-placed (Opcode.constant b) at left strict h = refl
-within-placed (Opcode.signal b) at left strict h = refl
-within-placed Opcode.variable at left strict h = refl
-within-placed (Opcode.pair true) at left strict h = refl
-within-placed (Opcode.pair false) at left strict h = refl
-within-placed Opcode.next at left strict h = refl
-within-placed (Opcode.fix g) at left strict h = refl

@@ -2,7 +2,7 @@
 -- (Limits, Guarded, Spelling) go by this tree and never open the reader; that about refusal 8 (NamedBinder) goes by how it comes to such
 -- questions. Assumes nothing.
 use mathlib.Core.Path.{◌≡◌, refl, sym}
-use mathlib.Core.Bool.{Bool, true, false, cond}
+use mathlib.Core.Bool.{Bool, true, false}
 use mathlib.Core.List.{List, [], ◌∷◌, map}
 use Prim.Native.Nat.{ℕ, zero, suc, ◌-◌, ◌≤◌, ◌<◌}
 use native.Mathlib.Omega.{arith}
@@ -13,7 +13,7 @@ use Rattle.formula.specs.Refusal.{at_byte}
 use Rattle.formula.specs.declared.Refusal.{Refusal}
 use Rattle.formula.specs.Reading.{Opcode, opcode, Head, Read, Reader, and_then, byte, byte_from, answered, known, within}
 use Rattle.formula.specs.Reading.{counted, Scope, outside, entered, behind_next, guard_asked, operands, questions, formula}
-use Rattle.formula.specs.Reading.{Reading, ended, whole, start, parse_as}
+use Rattle.formula.specs.Reading.{Reading, ended, whole, start, parse}
 use Rattle.formula.proofs.Commands.{behind}
 
 -- a byte was there: reading went on from h to k
@@ -38,7 +38,7 @@ pub data Reads : Scope → Head → Formula → Head → Type 0 where
   signal : {scope : Scope} {h j k : Head} {p : Bool} {s : ℕ} → Begins (Opcode.signal p) h j → Byte s j k → s ≤ 15
       → Reads scope h (Formula.leaf (Leaf.signal p s)) k
   variable : {scope : Scope} {h j k : Head} {d : ℕ} → Begins Opcode.variable h j → Byte d j k → d < length scope
-      → T (cond k.strict (get_or scope d outside).guarded true)
+      → T (get_or scope d outside).guarded
       → Reads scope h (Formula.variable d) k
   pair : {scope : Scope} {h i j k : Head} {o : Bool} {a b : Formula} → Begins (Opcode.pair o) h i → Reads scope i a j → Reads scope j b k
       → Reads scope h (Formula.pair o a b) k
@@ -123,7 +123,7 @@ module _ (self : Scope → Reader Formula)
       done-reads (Reads.signal c b l) e
   operands-reads scope Opcode.variable h j f k c e =
       variable-past (Read.got f k) got-past (Reads scope h f k) self scope j e λ d i b l e.
-      ask-past (Read.got f k) (Reads scope h f k) _ (cond i.strict (get_or scope d outside).guarded true) _ i got_not e λ g e.
+      ask-past (Read.got f k) (Reads scope h f k) _ (get_or scope d outside).guarded _ i got_not e λ g e.
       done-reads (Reads.variable c b l g) e
   operands-reads scope (Opcode.pair o) h j f k c e =
       then_got f k (Reads scope h f k) _ (self scope j) e λ a i p e.
@@ -149,14 +149,14 @@ ended-reads f h [] g e = (cc, refl)
 ended-reads f h (b ∷ l) g e = absurd (let z : ◌≡◌ {A = ℕ} 0 1 = cc in omega arith)
 
 -- an accepted formula was read from the start, and no byte is left behind it
-pub parse-reads : (strict : Bool) (bytes : List ℕ) (f : Formula) → parse_as strict bytes ≡ Reading.accepted f
-    → (k : Head) × Reads [] (start strict bytes) f k × (k.left ≡ [])
-unfolding parse_as
-parse-reads strict bytes f e = by (formula (length bytes) [] (start strict bytes)) refl e
+pub parse-reads : (bytes : List ℕ) (f : Formula) → parse bytes ≡ Reading.accepted f
+    → (k : Head) × Reads [] (start bytes) f k × (k.left ≡ [])
+unfolding parse
+parse-reads bytes f e = by (formula (length bytes) [] (start bytes)) refl e
   where
-    by : (x : Read Formula) → formula (length bytes) [] (start strict bytes) ≡ x → whole x ≡ Reading.accepted f
-        → (k : Head) × Reads [] (start strict bytes) f k × (k.left ≡ [])
+    by : (x : Read Formula) → formula (length bytes) [] (start bytes) ≡ x → whole x ≡ Reading.accepted f
+        → (k : Head) × Reads [] (start bytes) f k × (k.left ≡ [])
     by (Read.refused why) q e = absurd (let z : ◌≡◌ {A = ℕ} 0 1 = cc in omega arith)
     by (Read.got g k) q e =
         let t = ended-reads g k k.left f e in
-        (k, rw (← t.0) (formula-reads (length bytes) [] (start strict bytes) g k q), t.1)
+        (k, rw (← t.0) (formula-reads (length bytes) [] (start bytes) g k q), t.1)

@@ -15,7 +15,7 @@ use Rattle.base.proofs.ListLaws.{get_d_map}
 use Rattle.base.proofs.NumberLaws.{values_at, values_length}
 use Rattle.formula.specs.Formula.{Leaf, Formula, size}
 use Rattle.formula.specs.Table.{Operator, Table as Operators, Entries, entries, table, ends_from, lengths}
-use Rattle.formula.specs.Reading.{opcode, Reading, parse, with_entries, reading_as, reading}
+use Rattle.formula.specs.Reading.{opcode, Reading, parse, with_entries, reading}
 use Rattle.formula.specs.Rows.{operator_of, opcode_at, operand_at, length_at, end_at, operator_at, operators_of}
 use Rattle.formula.specs.Rows.{lengths_of, entries_of}
 use Rattle.formula.specs.Rows.{opcode_byte, operand_of, column, encoded, reading_of}
@@ -180,7 +180,7 @@ module _ (bytes : List ℕ) (f : Formula) (accepted : parse bytes ≡ Reading.ac
 
 -- what reading hands back decodes to the definition
 pub stored-reading : (bytes : List ℕ) → reading_of (stored (reading bytes)) ≡ reading bytes
-unfolding reading_as table
+unfolding reading table
 stored-reading bytes = by (parse bytes) refl
   where
     by : (x : Reading Formula) → parse bytes ≡ x → reading_of (stored (with_entries x)) ≡ with_entries x
@@ -189,7 +189,7 @@ stored-reading bytes = by (parse bytes) refl
 
 -- and has a table where it must
 pub stored-holds : (bytes : List ℕ) → TableFor (stored (reading bytes)).outcome (stored (reading bytes)).table
-unfolding reading_as table
+unfolding reading table
 stored-holds bytes = by (parse bytes) refl
   where
     by : (x : Reading Formula) → parse bytes ≡ x → TableFor (stored (with_entries x)).outcome (stored (with_entries x)).table

@@ -6,7 +6,7 @@ use Prim.Native.Nat.{ℕ, zero, suc}
 use lib.ListN.{replicate}
 use Rattle.formula.specs.Formula.{Leaf, Formula}
 use Rattle.formula.specs.Refusal.{at_byte, unguarded}
-use Rattle.formula.specs.Reading.{Reading, parse_as, parse}
+use Rattle.formula.specs.Reading.{Reading, parse}
 
 pub record Example : Type 0 where
   pub bytes : List ℕ
@@ -41,5 +41,5 @@ table =
     ∷ []
 
 pub examples : map (λ (x : Example). parse x.bytes) table ≡ map (λ (x : Example). x.outcome) table
-unfolding parse_as
+unfolding parse
 examples = refl

@@ -2,14 +2,13 @@
 -- that byte's place, which is how the code does it: that and reading the bytes from there on go side by side (Alike), one so many places
 -- ahead of the other. Assumes nothing.
 use mathlib.Core.Path.{◌≡◌, refl, sym, ap, ◌∙◌}
-use mathlib.Core.Bool.{Bool}
 use mathlib.Core.List.{List, [], ◌∷◌}
 use Prim.Native.Nat.{ℕ, ◌+◌, ◌≤◌}
 use native.Mathlib.Nat.{add-zero}
 use native.Mathlib.Omega.{arith}
 use lib.ListN.{length, drop}
 use Rattle.formula.specs.Formula.{Formula}
-use Rattle.formula.specs.Reading.{Head, Read, Reading, ended, whole, formula, start, parse_as, with_entries, reading_as, counted_from}
+use Rattle.formula.specs.Reading.{Head, Read, Reading, ended, whole, formula, start, parse, with_entries, reading, counted_from}
 use Rattle.formula.specs.Reading.{reading_from}
 use Rattle.formula.proofs.RefusalLaws.{places_from_zero}
 use Rattle.formula.proofs.Alike.{Alike, Near, moved, formula-alike}
@@ -19,14 +18,13 @@ counted_from_zero : {A : Type 0} (r : Reading A) → counted_from 0 r ≡ r
 counted_from_zero (Reading.refused why) = ap Reading.refused (places_from_zero why)
 counted_from_zero (Reading.accepted a) = refl
 
-pub reading_from-start : (strict : Bool) (bytes : List ℕ) → reading_from strict bytes 0 ≡ reading_as strict bytes
+pub reading_from-start : (bytes : List ℕ) → reading_from bytes 0 ≡ reading bytes
 unfolding reading_from
-reading_from-start strict bytes = counted_from_zero (reading_as strict bytes)
+reading_from-start bytes = counted_from_zero (reading bytes)
 
 -- where reading stands that begins at a byte
-abbrev pub start-at : (strict : Bool) → List ℕ → ℕ → Head
-start-at strict bytes at =
-    record { at = at; left = drop at bytes; commands = 0; ors = 0; nexts = 0; fixpoints = 0; strict = strict }
+abbrev pub start-at : List ℕ → ℕ → Head
+start-at bytes at = record { at = at; left = drop at bytes; commands = 0; ors = 0; nexts = 0; fixpoints = 0 }
 
 entries_from : (n : ℕ) (r : Reading Formula) → with_entries (counted_from n r) ≡ counted_from n (with_entries r)
 entries_from n (Reading.refused why) = refl
@@ -48,11 +46,10 @@ formula-from n k h l =
     whole_from n
     (formula-alike (Stopped total) (◌+◌ n) (λ i. omega arith) (Same total) (looks_same total) k k [] h h.left (near k k h l l))
 
-pub reading_from-is : (strict : Bool) (bytes : List ℕ) (at : ℕ) →
-    reading_from strict bytes at ≡ with_entries (whole (formula (length (drop at bytes)) [] (start-at strict bytes at)))
-unfolding parse_as reading_as reading_from
-reading_from-is strict bytes at =
+pub reading_from-is : (bytes : List ℕ) (at : ℕ) →
+    reading_from bytes at ≡ with_entries (whole (formula (length (drop at bytes)) [] (start-at bytes at)))
+unfolding parse reading reading_from
+reading_from-is bytes at =
     let left = drop at bytes in
     sym
-    (ap with_entries (rw (add-zero at) at (formula-from at (length left) (start strict left) (omega arith)))
-    ∙ entries_from at (parse_as strict left))
+    (ap with_entries (rw (add-zero at) at (formula-from at (length left) (start left) (omega arith))) ∙ entries_from at (parse left))

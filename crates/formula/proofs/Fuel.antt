@@ -4,7 +4,6 @@
 -- beside itself (Alike). Assumes nothing.
 use mathlib.Core.Path.{◌≡◌, refl, sym, ap, subst, ◌∙◌}
 use mathlib.Core.Logic.{◌⊎◌, inl, inr, ⊎_elim}
-use mathlib.Core.Bool.{Bool, true}
 use mathlib.Core.List.{List, [], ◌∷◌}
 use mathlib.Core.Option.{none}
 use Prim.Native.Nat.{ℕ, suc, ◌+◌, ◌≤◌, ◌<◌}
@@ -13,7 +12,7 @@ use lib.ListN.{length}
 use Rattle.formula.specs.Formula.{Formula}
 use Rattle.formula.specs.Refusal.{at_byte, unguarded, code_of, place_of, binder_place_of}
 use Rattle.formula.specs.declared.Refusal.{Refusal}
-use Rattle.formula.specs.Reading.{Head, Read, Reader, Scope, questions, formula, Reading, ended, whole, start, parse, parse_as}
+use Rattle.formula.specs.Reading.{Head, Read, Reader, Scope, questions, formula, Reading, ended, whole, start, parse}
 use Rattle.formula.proofs.RefusalLaws.{moved_nowhere}
 use Rattle.formula.proofs.ScopeLaws.{moved_scope, scope_nowhere}
 use Rattle.formula.proofs.Alike.{OfByte, AtEnd, Alike, Look, Looks, Near, same, over, questions-alike, formula-alike}
@@ -154,15 +153,12 @@ formula_unfolds scope h = by h.left
         scope g (b ∷ x) (near (suc n) (suc n) g (omega arith) (omega arith))))
 
 -- the places of MEANING 1.4: the length for 1 and 5, else a byte that is there
-pub stopped_as : (strict : Bool) (bytes : List ℕ) {why : Refusal} → parse_as strict bytes ≡ Reading.refused why → Stopped (length bytes) why
-unfolding parse_as
-stopped_as strict bytes e =
-    whole_stopped (length bytes)
-    (kept (length bytes) (length bytes) (length bytes) [] (start strict bytes) bytes
-    (record { alike = record { same = refl; sum = omega arith }; first = omega arith; second = omega arith })) e
-
 pub parse_stopped : (bytes : List ℕ) {why : Refusal} → parse bytes ≡ Reading.refused why → Stopped (length bytes) why
-parse_stopped = stopped_as true
+unfolding parse
+parse_stopped bytes e =
+    whole_stopped (length bytes)
+    (kept (length bytes) (length bytes) (length bytes) [] (start bytes) bytes
+    (record { alike = record { same = refl; sum = omega arith }; first = omega arith; second = omega arith })) e
 
 pub short_at_length : (bytes : List ℕ) {why : Refusal} → (code_of why ≡ 1) ⊎ (code_of why ≡ 5) → parse bytes ≡ Reading.refused why
     → place_of why ≡ length bytes

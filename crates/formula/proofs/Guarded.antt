@@ -1,9 +1,9 @@
--- An accepted formula is closed: each variable has a binder (MEANING 1.4, question 7); and where reading is strict it is guarded: a next
--- stands between (question 8). Read off the derivation. Fixpoints further out change nothing for a formula that names none of them, so it
--- is guarded inside them exactly if it is without them; and whether it names one of them can be found out. Assumes nothing.
-use mathlib.Core.Path.{◌≡◌, refl, ap, subst, subst⁻¹, ◌∙◌}
+-- An accepted formula is closed and guarded: each variable has a binder, and a next between it and the binder (MEANING 1.4, questions 7
+-- and 8). Read off the derivation. Fixpoints further out change nothing for a formula that names none of them, so it is guarded inside
+-- them exactly if it is without them; and whether it names one of them can be found out. Assumes nothing.
+use mathlib.Core.Path.{◌≡◌, subst, subst⁻¹}
 use mathlib.Core.Logic.{◌⊎◌, inl, inr}
-use mathlib.Core.Bool.{Bool, true, false, cond}
+use mathlib.Core.Bool.{true, false}
 use mathlib.Core.List.{List, [], ◌∷◌, ◌++◌, map, map-append}
 use Prim.Native.Nat.{ℕ, suc, ◌-◌, ◌<◌}
 use native.Mathlib.Decide.{dec_lt}
@@ -11,43 +11,22 @@ use native.Mathlib.Omega.{arith}
 use lib.Dec.{T}
 use lib.ListN.{length, length-append, length-map, get_or-append}
 use Rattle.formula.specs.Formula.{Formula}
-use Rattle.formula.specs.Reading.{Head, Scope, entered, behind_next, Reading, parse, parse_as}
+use Rattle.formula.specs.Reading.{Head, Scope, entered, behind_next, Reading, parse}
 use Rattle.formula.specs.Occurrence.{Guards, Guarded, Closed}
 use Rattle.formula.proofs.ScopeLaws.{guards, guards-length, guards-at, guards-next}
 use Rattle.formula.proofs.Derivation.{Reads, parse-reads}
-use Rattle.formula.proofs.Spelling.{begins_went, byte_went, reads_went}
 
--- the answer to question 8, where it was asked
-asked : (strict guarded : Bool) → strict ≡ true → T (cond strict guarded true) → T guarded
-asked strict guarded e t = subst (λ (s : Bool). T (cond s guarded true)) e t
-
-reads-guarded : (scope : Scope) {h k : Head} (f : Formula) → h.strict ≡ true → Reads scope h f k → Guarded (guards scope) f
-reads-guarded scope f s (Reads.constant b) = tt
-reads-guarded scope f s (Reads.signal b y i) = tt
-reads-guarded scope f s (Reads.variable {k = k} {d = d} b x i g) =
-    let still = (byte_went x).strict ∙ (begins_went b).strict ∙ s in
-    (omega (arith, guards-length scope), subst⁻¹ T (guards-at scope d i) (asked k.strict _ still g))
-reads-guarded scope f s (Reads.pair {a = x} {b = y} b p q) =
-    let first = (begins_went b).strict ∙ s in
-    (reads-guarded scope x first p, reads-guarded scope y ((reads_went x p).strict ∙ first) q)
-reads-guarded scope f s (Reads.next {a = x} b p) =
-    subst (λ (l : Guards). Guarded l x) (guards-next scope) (reads-guarded (map behind_next scope) x ((begins_went b).strict ∙ s) p)
-reads-guarded scope f s (Reads.fix {j = j} {a = x} b p) = reads-guarded (entered (j.at - 1) ∷ scope) x ((begins_went b).strict ∙ s) p
+reads-guarded : (scope : Scope) {h k : Head} (f : Formula) → Reads scope h f k → Guarded (guards scope) f
+reads-guarded scope f (Reads.constant b) = tt
+reads-guarded scope f (Reads.signal b s i) = tt
+reads-guarded scope f (Reads.variable {d = d} b x i g) = (omega (arith, guards-length scope), subst⁻¹ T (guards-at scope d i) g)
+reads-guarded scope f (Reads.pair {a = x} {b = y} b p q) = (reads-guarded scope x p, reads-guarded scope y q)
+reads-guarded scope f (Reads.next {a = x} b p) =
+    subst (λ (l : Guards). Guarded l x) (guards-next scope) (reads-guarded (map behind_next scope) x p)
+reads-guarded scope f (Reads.fix {j = j} {a = x} b p) = reads-guarded (entered (j.at - 1) ∷ scope) x p
 
 pub parse-guarded : (bytes : List ℕ) (f : Formula) → parse bytes ≡ Reading.accepted f → Guarded [] f
-parse-guarded bytes f e = reads-guarded [] f refl (parse-reads true bytes f e).1
-
--- m: how many fixpoints are around
-reads-closed : (scope : Scope) (m : ℕ) → length scope ≡ m → {h k : Head} (f : Formula) → Reads scope h f k → Closed m f
-reads-closed scope m l f (Reads.constant b) = tt
-reads-closed scope m l f (Reads.signal b y i) = tt
-reads-closed scope m l f (Reads.variable b x i g) = omega arith
-reads-closed scope m l f (Reads.pair {a = x} {b = y} b p q) = (reads-closed scope m l x p, reads-closed scope m l y q)
-reads-closed scope m l f (Reads.next {a = x} b p) = reads-closed (map behind_next scope) m (length-map scope behind_next ∙ l) x p
-reads-closed scope m l f (Reads.fix {j = j} {a = x} b p) = reads-closed (entered (j.at - 1) ∷ scope) (suc m) (ap suc l) x p
-
-pub closed_as : (strict : Bool) (bytes : List ℕ) (f : Formula) → parse_as strict bytes ≡ Reading.accepted f → Closed 0 f
-closed_as strict bytes f e = reads-closed [] 0 refl f (parse-reads strict bytes f e).1
+parse-guarded bytes f e = reads-guarded [] f (parse-reads bytes f e).1
 
 pub guarded-closed : (guards : Guards) (f : Formula) → Guarded guards f → Closed (length guards) f
 guarded-closed guards (Formula.leaf l) g = tt

@@ -10,7 +10,6 @@ pub mod Derivation
 pub mod Spelling
 pub mod NamedBinder
 pub mod Early
-pub mod Unasked
 pub mod Limits
 pub mod Measure
 pub mod Guarded

@@ -11,7 +11,7 @@ use lib.ListN.{length, get_or}
 use Rattle.base.specs.Lists.{filter}
 use Rattle.formula.specs.Formula.{Leaf, Formula, size}
 use Rattle.formula.specs.Table.{Operator, Table, table_from, table, is_or, is_next, is_fix}
-use Rattle.formula.specs.Reading.{Opcode, Head, Scope, within, counted, Reading, parse_as, parse}
+use Rattle.formula.specs.Reading.{Opcode, Head, Scope, within, counted, Reading, parse}
 use Rattle.formula.specs.Occurrence.{Ranged}
 use Rattle.formula.proofs.Commands.{Sort, sort, or_command, next-command, fix-command, one_if, counted_is, behind}
 use Rattle.formula.proofs.Derivation.{Byte, Begins, Reads, parse-reads}
@@ -169,9 +169,9 @@ pub record WithinLimits (f : Formula) : Type 0 where
   pub fixpoints : fixpoints f ≤ 7
   pub signals : Ranged f
 
-pub limited_as : (strict : Bool) (bytes : List ℕ) (f : Formula) → parse_as strict bytes ≡ Reading.accepted f → WithinLimits f
-limited_as strict bytes f e =
-    let (k, r, l) = parse-reads strict bytes f e in
+pub parse-limited : (bytes : List ℕ) (f : Formula) → parse bytes ≡ Reading.accepted f → WithinLimits f
+parse-limited bytes f e =
+    let (k, r, l) = parse-reads bytes f e in
     record {
       some = size-some f;
       commands = omega (arith, size_tally f, at_most count-commands f refl r);
@@ -180,9 +180,6 @@ limited_as strict bytes f e =
       fixpoints = at_most count-fixpoints f refl r;
       signals = reads-ranged f r;
     }
-
-pub parse-limited : (bytes : List ℕ) (f : Formula) → parse bytes ≡ Reading.accepted f → WithinLimits f
-parse-limited = limited_as true
 
 -- The same numbers in the table.
 abbrev pub opcode_of : Operator → Opcode

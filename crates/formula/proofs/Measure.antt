@@ -1,15 +1,14 @@
 -- How many bytes a formula has: at least one, and at most two for each operator. So what reading accepts has 1 to 96. Assumes nothing.
 use mathlib.Core.Path.{◌≡◌, ap}
-use mathlib.Core.Bool.{Bool, true}
 use mathlib.Core.List.{List}
 use Prim.Native.Nat.{ℕ, ◌*◌, ◌≤◌, ◌<◌}
 use native.Mathlib.Omega.{arith}
 use lib.ListN.{length, length-append}
 use Rattle.formula.specs.Formula.{Leaf, Formula, size}
-use Rattle.formula.specs.Reading.{Reading, parse_as, parse}
+use Rattle.formula.specs.Reading.{Reading, parse}
 use Rattle.formula.specs.Ways.{spelled}
-use Rattle.formula.proofs.Spelling.{spelled_as}
-use Rattle.formula.proofs.Limits.{limited_as}
+use Rattle.formula.proofs.Spelling.{parse-spelled}
+use Rattle.formula.proofs.Limits.{parse-limited}
 
 -- an operator has one byte or two
 pub spelled-length : (f : Formula) → (0 < length (spelled f)) × (length (spelled f) ≤ 2 * size f)
@@ -22,11 +21,8 @@ spelled-length (Formula.next a) = (omega arith, omega (arith, (spelled-length a)
 spelled-length (Formula.fix g a) = (omega arith, omega (arith, (spelled-length a).1))
 
 -- and at most 48 are accepted
-pub length_as : (strict : Bool) (b : List ℕ) {f : Formula} → parse_as strict b ≡ Reading.accepted f → (0 < length b) × (length b ≤ 96)
-length_as strict b {f} e =
-    let n = spelled-length f in
-    let same = ap length (spelled_as strict b f e) in
-    (omega (arith, n.0, same), omega (arith, n.1, same, (limited_as strict b f e).commands))
-
 pub accepted-length : (b : List ℕ) {f : Formula} → parse b ≡ Reading.accepted f → (0 < length b) × (length b ≤ 96)
-accepted-length = length_as true
+accepted-length b {f} e =
+    let n = spelled-length f in
+    let same = ap length (parse-spelled b f e) in
+    (omega (arith, n.0, same), omega (arith, n.1, same, (parse-limited b f e).commands))

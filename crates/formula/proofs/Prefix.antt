@@ -1,7 +1,6 @@
 -- MEANING 1.6: 97 bytes decide the outcome. Every operator has at most two bytes and at most 48 are read, so reading never looks at a
 -- place above 96: two inputs that agree so far are read alike (Alike). Assumes nothing.
 use mathlib.Core.Path.{◌≡◌, refl, sym, ap}
-use mathlib.Core.Bool.{Bool, true}
 use mathlib.Core.List.{List, [], ◌∷◌}
 use Prim.Native.Nat.{ℕ, suc, ◌+◌, ◌-◌, ◌*◌, ◌≤◌}
 use native.Mathlib.Omega.{arith}
@@ -9,7 +8,7 @@ use lib.ListN.{length, take}
 use lib.Seq.{take-take}
 use Rattle.formula.specs.Formula.{Formula}
 use Rattle.formula.specs.declared.Refusal.{Refusal}
-use Rattle.formula.specs.Reading.{Head, Read, Reading, ended, whole, start, parse_as, parse, reading_as, reading, with_entries}
+use Rattle.formula.specs.Reading.{Head, Read, Reading, ended, whole, start, parse, reading, with_entries}
 use Rattle.formula.proofs.RefusalLaws.{moved_nowhere}
 use Rattle.formula.proofs.Alike.{Alike, Look, Looks, Near, same, over, formula-alike}
 
@@ -55,18 +54,15 @@ whole-alike (Alike.refused {why} p) = ap Reading.refused (sym (moved_nowhere why
 whole-alike (Alike.got {a} {h} {l} r) = ended-alike a h (looks_in.look 0 h l r.alike)
 
 -- what agrees in the first 97 bytes is the same formula, or refused alike
-pub parse-alike : (strict : Bool) (a b : List ℕ) → take 97 a ≡ take 97 b → parse_as strict a ≡ parse_as strict b
-unfolding parse_as
-parse-alike strict a b e =
-    whole-alike (formula-alike Any same (λ i. refl) Window looks_in (length a) (length b) [] (start strict a) b
+pub parse-alike : (a b : List ℕ) → take 97 a ≡ take 97 b → parse a ≡ parse b
+unfolding parse
+parse-alike a b e =
+    whole-alike (formula-alike Any same (λ i. refl) Window looks_in (length a) (length b) [] (start a) b
     (record { alike = record { place = omega arith; few = omega arith; agree = e }; first = omega arith; second = omega arith }))
 
-pub prefix_as : (strict : Bool) (bytes : List ℕ) → parse_as strict (take 97 bytes) ≡ parse_as strict bytes
-prefix_as strict bytes = parse-alike strict (take 97 bytes) bytes (take-take 97 97 bytes (omega arith))
-
 pub parse_prefix : (bytes : List ℕ) → parse (take 97 bytes) ≡ parse bytes
-parse_prefix = prefix_as true
+parse_prefix bytes = parse-alike (take 97 bytes) bytes (take-take 97 97 bytes (omega arith))
 
 pub reading_prefix : (bytes : List ℕ) → reading (take 97 bytes) ≡ reading bytes
-unfolding reading_as
+unfolding reading
 reading_prefix bytes = ap with_entries (parse_prefix bytes)

@@ -5,7 +5,7 @@
 -- not over the limits before. Assumes nothing.
 use mathlib.Core.Path.{◌≡◌, refl, sym, ap, subst, subst⁻¹, ◌∙◌}
 use mathlib.Core.Logic.{◌⊎◌, inl, inr}
-use mathlib.Core.Bool.{Bool, true, false, cond}
+use mathlib.Core.Bool.{Bool, true, false}
 use mathlib.Core.List.{List, [], ◌∷◌, ◌++◌, append_assoc, append-nil, map, map-append}
 use Prim.Native.Nat.{ℕ, suc, ◌+◌, ◌-◌, ◌≤◌, ◌<◌}
 use native.Mathlib.Decide.{dec_lt}
@@ -17,7 +17,7 @@ use Rattle.formula.specs.Formula.{Leaf, Formula}
 use Rattle.formula.specs.Refusal.{at_byte}
 use Rattle.formula.specs.declared.Refusal.{Refusal}
 use Rattle.formula.specs.Reading.{Opcode, opcode, byte_of, Head, Read, Reader, done, and_then, answered, known, within, one_more}
-use Rattle.formula.specs.Reading.{Scope, outside, entered, behind_next, operands, Reading, whole, start, parse, parse_as}
+use Rattle.formula.specs.Reading.{Scope, outside, entered, behind_next, operands, Reading, whole, start, parse}
 use Rattle.formula.specs.Occurrence.{Guards, Guarded, Closed, Ranged}
 use Rattle.formula.specs.Ways.{spelled}
 use Rattle.formula.proofs.Commands.{or_command, next-command, fix-command, one_if, counted_is, behind}
@@ -117,11 +117,6 @@ both o second (Comes.unbound place p) go = Comes.unbound place (λ c. p c.0)
 answered-yes : {A : Type 0} (t : Bool) → T t → (why : ℕ → Refusal) (f : Unit {0} → Reader A) (h : Head)
     → and_then f (answered t why h) ≡ f tt h
 answered-yes true s why f h = refl
-
--- an answer by yes, whether the question is asked or not
-unasked_too : (strict t : Bool) → T t → T (cond strict t true)
-unasked_too true t s = s
-unasked_too false t s = tt
 
 -- and one whose answer is no
 answered-no : {A : Type 0} (t : Bool) → t ≡ false → (why : ℕ → Refusal) (f : Unit {0} → Reader A) (h : Head)
@@ -225,7 +220,7 @@ formula_comes (Formula.variable d) scope outer m l h rest g r = by (dec_lt d (le
         let at = get_or-append (guards scope) outer false d (omega (arith, guards-length scope)) ∙ guards-at scope d i in
         alone (d < m) scope Opcode.variable _ h (d ∷ rest) rest tt (λ i. i + 1)
         (answered-yes (ltb d (length scope)) (lt→ltb d (length scope) i) (at_byte 7) _ _
-        ∙ answered-yes (cond h.strict (get_or scope d outside).guarded true) (unasked_too h.strict _ (subst T at g.1)) _ _ _)
+        ∙ answered-yes (get_or scope d outside).guarded (subst T at g.1) _ _ _)
     by (no i) =
         unnamed (d < m) scope Opcode.variable _ h (d ∷ rest) rest tt _
         (answered-no (ltb d (length scope)) (le-ltb d (length scope) (omega arith)) (at_byte 7) _ _) (λ j. i (omega arith))
@@ -247,60 +242,52 @@ formula_comes (Formula.fix t a) scope outer m l h rest g r =
     (made (Formula.fix t) (λ c. c) (formula_comes a (entered (j.at - 1) ∷ scope) outer (suc m) (ap suc l) j rest g r))
 
 -- the same of a formula's own bytes
-spelled_comes : (strict : Bool) (f : Formula) (outer : Guards) → Guarded outer f → Ranged f
-    → Comes (load f) (Closed 0 f) f (start strict (spelled f)) [] (formula-at [] (start strict (spelled f)))
-spelled_comes strict f outer g r =
-    subst (λ (l : List ℕ). Comes (load f) (Closed 0 f) f (start strict l) [] (formula-at [] (start strict l))) (append-nil (spelled f))
-    (formula_comes f [] outer 0 refl (start strict (spelled f ++ [])) [] g r)
+spelled_comes : (f : Formula) (outer : Guards) → Guarded outer f → Ranged f
+    → Comes (load f) (Closed 0 f) f (start (spelled f)) [] (formula-at [] (start (spelled f)))
+spelled_comes f outer g r =
+    subst (λ (l : List ℕ). Comes (load f) (Closed 0 f) f (start l) [] (formula-at [] (start l))) (append-nil (spelled f))
+    (formula_comes f [] outer 0 refl (start (spelled f ++ [])) [] g r)
 
 -- what reading comes to on the spelling of a formula
 pub data Reread (f : Formula) : Reading Formula → Type 0 where
   accepted : Reread f (Reading.accepted f)
   too_large : (code place : ℕ) → (code ≡ 3) ⊎ (code ≡ 4) → (WithinLimits f → ⊥) → Reread f (Reading.refused (at_byte code place))
 
-limits-fit : (strict : Bool) (f : Formula) (bytes : List ℕ) → WithinLimits f → Fits (start strict bytes) (load f)
-limits-fit strict f bytes l = record { each = by }
+limits-fit : (f : Formula) (bytes : List ℕ) → WithinLimits f → Fits (start bytes) (load f)
+limits-fit f bytes l = record { each = by }
   where
-    by : (c : Kind) → count c (start strict bytes) + load f c ≤ limit c
+    by : (c : Kind) → count c (start bytes) + load f c ≤ limit c
     by Kind.commands = omega (arith, l.commands, size_tally f)
     by Kind.ors = omega (arith, l.ors)
     by Kind.nexts = omega (arith, l.nexts)
     by Kind.fixpoints = omega (arith, l.fixpoints)
 
-whole_comes : {strict : Bool} {f : Formula} {bytes : List ℕ} {x : Read Formula} → Closed 0 f
-    → Comes (load f) (Closed 0 f) f (start strict bytes) [] x → Reread f (whole x)
+whole_comes : {f : Formula} {bytes : List ℕ} {x : Read Formula} → Closed 0 f → Comes (load f) (Closed 0 f) f (start bytes) [] x
+    → Reread f (whole x)
 whole_comes c (Comes.got k g) = Reread.accepted
-whole_comes {strict} {f} {bytes} c (Comes.too_large code place w large) =
-    Reread.too_large code place w (λ l. large (limits-fit strict f bytes l))
+whole_comes {f} {bytes} c (Comes.too_large code place w large) = Reread.too_large code place w (λ l. large (limits-fit f bytes l))
 whole_comes c (Comes.unbound place o) = absurd (o c)
 
--- by strict reading and, as question 8 has nothing to say, with it left out
-reread_as : (strict : Bool) (f : Formula) → Guarded [] f → Ranged f → Reread f (parse_as strict (spelled f))
-unfolding parse_as
-reread_as strict f g r = whole_comes (guarded-closed [] f g) (spelled_comes strict f [] g r)
-
 pub spelled_read : (f : Formula) → Guarded [] f → Ranged f → Reread f (parse (spelled f))
-spelled_read = reread_as true
+unfolding parse
+spelled_read f g r = whole_comes (guarded-closed [] f g) (spelled_comes f [] g r)
 
 -- within the limits nothing is refused
-pub accepted_as : (strict : Bool) (f : Formula) → Guarded [] f → WithinLimits f → parse_as strict (spelled f) ≡ Reading.accepted f
-accepted_as strict f g l = by (reread_as strict f g l.signals)
+pub limited_read : (f : Formula) → Guarded [] f → WithinLimits f → parse (spelled f) ≡ Reading.accepted f
+limited_read f g l = by (spelled_read f g l.signals)
   where
     by : {x : Reading Formula} → Reread f x → x ≡ Reading.accepted f
     by Reread.accepted = refl
     by (Reread.too_large code place c large) = absurd (large l)
 
-pub limited_read : (f : Formula) → Guarded [] f → WithinLimits f → parse (spelled f) ≡ Reading.accepted f
-limited_read = accepted_as true
-
 -- but a formula that names a fixpoint which its bytes do not have
 pub open_read : (guards : Guards) (f : Formula) → Guarded guards f → WithinLimits f → (Closed 0 f → ⊥)
     → (place : ℕ) × (parse (spelled f) ≡ Reading.refused (at_byte 7 place))
-unfolding parse_as
-open_read guards f g l free = by (spelled_comes true f guards g l.signals) refl
+unfolding parse
+open_read guards f g l free = by (spelled_comes f guards g l.signals) refl
   where
-    by : {x : Read Formula} → Comes (load f) (Closed 0 f) f (start true (spelled f)) [] x → parse (spelled f) ≡ whole x
+    by : {x : Read Formula} → Comes (load f) (Closed 0 f) f (start (spelled f)) [] x → parse (spelled f) ≡ whole x
         → (place : ℕ) × (parse (spelled f) ≡ Reading.refused (at_byte 7 place))
     by (Comes.got k grown) e = absurd (free (guarded-closed [] f (parse-guarded (spelled f) f e)))
-    by (Comes.too_large code place c large) e = absurd (large (limits-fit true f (spelled f) l))
+    by (Comes.too_large code place c large) e = absurd (large (limits-fit f (spelled f) l))
     by (Comes.unbound place o) e = (place, e)

@@ -1,7 +1,6 @@
 -- Rows that hold the table of an accepted formula are well formed: what code that walks them may count on. Through the decoding the rows'
 -- operators and ends are the formula's, so they have its shape (WellFormed). Assumes nothing.
 use mathlib.Core.Path.{◌≡◌, refl, sym, ap, ◌∙◌}
-use mathlib.Core.Bool.{Bool}
 use mathlib.Core.List.{List, [], map}
 use Prim.Native.Nat.{ℕ, ◌+◌, ◌≤◌, ◌<◌}
 use native.Mathlib.Omega.{arith}
@@ -12,10 +11,9 @@ use Rattle.base.proofs.ListLaws.{length-range}
 use Rattle.base.proofs.NumberLaws.{values_at, values_length}
 use Rattle.formula.specs.Formula.{Formula, size}
 use Rattle.formula.specs.Table.{Entries, entries, table, ends_from, lengths}
-use Rattle.formula.specs.Reading.{Reading, parse_as, parse, with_entries, reading_as, reading}
+use Rattle.formula.specs.Reading.{Reading, parse, with_entries, reading}
 use Rattle.formula.specs.Rows.{length_at, operator_at, end_at, operators_of, lengths_of, ends_of, entries_of}
 use Rattle.formula.specs.Rows.{reading_by, reading_of}
-use Rattle.formula.specs.Contract.{stored}
 use Rattle.formula.specs.declared.Table.{Table}
 use Rattle.formula.specs.declared.Outcome.{Outcome}
 use Rattle.formula.specs.declared.Outcome.TheVariants.{Accepted, Refused}
@@ -63,7 +61,7 @@ pub record HoldsFormula (bytes : List ℕ) (t : Table) : Type 0 where
 -- what reading accepts is a formula, with its subformulas
 pub reading-parsed : (bytes : List ℕ) {x : Entries} → reading bytes ≡ Reading.accepted x
     → (f : Formula) × (parse bytes ≡ Reading.accepted f) × (entries f ≡ x)
-unfolding reading_as
+unfolding reading
 reading-parsed bytes {x} e = by (parse bytes) refl e
   where
     by : (p : Reading Formula) → parse bytes ≡ p → with_entries p ≡ Reading.accepted x
@@ -73,7 +71,7 @@ reading-parsed bytes {x} e = by (parse bytes) refl e
 
 -- what it refuses is none
 pub reading-unread : (bytes : List ℕ) {why : Refusal} → reading bytes ≡ Reading.refused why → parse bytes ≡ Reading.refused why
-unfolding reading_as
+unfolding reading
 reading-unread bytes {why} e = by (parse bytes) e
   where
     by : (x : Reading Formula) → with_entries x ≡ Reading.refused why → x ≡ Reading.refused why
@@ -118,32 +116,3 @@ module _ {bytes : List ℕ} {t : Table} (h : HoldsFormula bytes t) where
 
   pub held-few : t.count ≤ 48
   held-few = omega (arith, held-count, (parse-limited bytes h.formula h.parsed).commands)
-
--- What a caller of either reading has by the outcome that is handed back: the formula,
-pub stored-accepted : (strict : Bool) (bytes : List ℕ) (r : code.Reading) → r ≡ stored (reading_as strict bytes) → r.outcome ≡ Accepted
-    → (f : Formula) × (parse_as strict bytes ≡ Reading.accepted f)
-unfolding reading_as
-stored-accepted strict bytes r e o = by (parse_as strict bytes) refl
-  where
-    by : (x : Reading Formula) → parse_as strict bytes ≡ x → (f : Formula) × (parse_as strict bytes ≡ Reading.accepted f)
-    by (Reading.accepted f) q = (f, q)
-    by (Reading.refused why) q =
-        let told : Refused why ≡ Accepted = ap (λ (x : Reading Formula). (stored (with_entries x)).outcome) (sym q)
-        ∙ sym (ap (λ (x : code.Reading). x.outcome) e) ∙ o in
-        absurd (let z : ◌≡◌ {A = ℕ} 0 1 = cc in omega arith)
-
--- or the refusal
-pub stored_refused : (strict : Bool) (bytes : List ℕ) (r : code.Reading) {why : Refusal} → r ≡ stored (reading_as strict bytes)
-    → r.outcome ≡ Refused why → parse_as strict bytes ≡ Reading.refused why
-unfolding reading_as
-stored_refused strict bytes r {why} e o = by (parse_as strict bytes) refl
-  where
-    told : (x : Reading Formula) → parse_as strict bytes ≡ x → (stored (with_entries x)).outcome ≡ Refused why
-    told x q =
-        ap (λ (x : Reading Formula). (stored (with_entries x)).outcome) (sym q) ∙ sym (ap (λ (x : code.Reading). x.outcome) e) ∙ o
-
-    by : (x : Reading Formula) → parse_as strict bytes ≡ x → parse_as strict bytes ≡ Reading.refused why
-    by (Reading.refused w) q = let t = told (Reading.refused w) q in q ∙ cc
-    by (Reading.accepted f) q =
-        let t = told (Reading.accepted f) q in
-        absurd (let z : ◌≡◌ {A = ℕ} 0 1 = cc in omega arith)

@@ -1,14 +1,13 @@
 -- The bytes that reading goes through. From where a formula begins to where reading has come behind it stand the bytes that spell the
--- formula, the place grows by as many, and reading stays strict or not; so an accepted input is the formula's spelling. Assumes nothing.
+-- formula, and the place grows by as many; so an accepted input is the formula's spelling. Assumes nothing.
 use mathlib.Core.Path.{◌≡◌, refl, sym, ap, ◌∙◌}
-use mathlib.Core.Bool.{Bool, true}
 use mathlib.Core.List.{List, [], ◌∷◌, ◌++◌, append_assoc, append-nil}
 use Prim.Native.Nat.{ℕ, ◌+◌}
 use native.Mathlib.Omega.{arith}
 use lib.Dec.{T}
 use lib.ListN.{length, length-append}
 use Rattle.formula.specs.Formula.{Formula}
-use Rattle.formula.specs.Reading.{Opcode, opcode, byte_of, known, Head, Scope, Reading, parse_as, parse}
+use Rattle.formula.specs.Reading.{Opcode, opcode, byte_of, known, Head, Scope, Reading, parse}
 use Rattle.formula.specs.Ways.{spelled}
 use Rattle.formula.proofs.AccessLaws.{by_opcode}
 use Rattle.formula.proofs.Commands.{behind, counted_is}
@@ -18,13 +17,11 @@ use Rattle.formula.proofs.Derivation.{Byte, Begins, Reads, parse-reads}
 pub record Went (h : Head) (bytes : List ℕ) (k : Head) : Type 0 where
   pub left : h.left ≡ bytes ++ k.left
   pub at : k.at ≡ h.at + length bytes
-  pub strict : k.strict ≡ h.strict
 
 pub went_on : {h j k : Head} {a b : List ℕ} → Went h a j → Went j b k → Went h (a ++ b) k
 went_on {k = k} {a = a} {b = b} p q = record {
   left = p.left ∙ ap (◌++◌ a) q.left ∙ sym (append_assoc a b k.left);
   at = omega (arith, p.at, q.at, length-append a b);
-  strict = q.strict ∙ p.strict;
 }
 
 -- the byte of a known opcode
@@ -43,14 +40,12 @@ begins_went {op} {h} {k} b =
     record {
       left = b.left ∙ (λ i. byte i ∷ b.rest) ∙ ap (λ (x : Head). byte_of op ∷ x.left) (sym moved);
       at = ap (λ (x : Head). x.at) moved;
-      strict = ap (λ (x : Head). x.strict) moved;
     }
 
 pub byte_went : {b : ℕ} {h k : Head} → Byte b h k → Went h (b ∷ []) k
 byte_went {b} y = record {
   left = y.left ∙ ap (λ (x : Head). b ∷ x.left) (sym y.moved);
   at = ap (λ (x : Head). x.at) y.moved;
-  strict = ap (λ (x : Head). x.strict) y.moved;
 }
 
 pub reads_went : {scope : Scope} {h k : Head} (f : Formula) → Reads scope h f k → Went h (spelled f) k
@@ -62,10 +57,7 @@ reads_went f (Reads.next {a = x} b p) = went_on (begins_went b) (reads_went x p)
 reads_went f (Reads.fix {a = x} b p) = went_on (begins_went b) (reads_went x p)
 
 -- MEANING 1.1 and 1.5: what is accepted is spelled by all of its bytes
-pub spelled_as : (strict : Bool) (bytes : List ℕ) (f : Formula) → parse_as strict bytes ≡ Reading.accepted f → bytes ≡ spelled f
-spelled_as strict bytes f e =
-    let r = parse-reads strict bytes f e in
-    (reads_went f r.1).left ∙ ap (◌++◌ (spelled f)) r.2 ∙ append-nil (spelled f)
-
 pub parse-spelled : (bytes : List ℕ) (f : Formula) → parse bytes ≡ Reading.accepted f → bytes ≡ spelled f
-parse-spelled = spelled_as true
+parse-spelled bytes f e =
+    let r = parse-reads bytes f e in
+    (reads_went f r.1).left ∙ ap (◌++◌ (spelled f)) r.2 ∙ append-nil (spelled f)

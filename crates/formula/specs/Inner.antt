@@ -1,6 +1,6 @@
 -- What the inner functions of reading promise, in terms of the definitions. A reader of the public contract need not read it.
 -- Assumes nothing.
-use Rattle.std.specs.Prelude.{◌≡◌, Bool, true, List, [], ◌∷◌, map, ℕ, zero, suc, ◌+◌, ◌-◌, ◌≤◌, ◌<◌, ltb, length, get_or, drop}
+use Rattle.std.specs.Prelude.{◌≡◌, true, List, [], ◌∷◌, map, ℕ, zero, suc, ◌+◌, ◌-◌, ◌≤◌, ◌<◌, ltb, length, get_or, drop}
 use Rattle.base.specs.Lists.{range}
 use Rattle.formula.specs.Formula.{Formula, size}
 use Rattle.formula.specs.Table.{Operator, Table as Operators, table_from, lengths}
@@ -19,16 +19,7 @@ use Rattle.formula.specs.declared.Taken.TheVariants as taken
 
 -- Where reading of the bytes s stands.
 abbrev pub point : List ℕ → Head → Point
-point s h =
-    record {
-      at = h.at;
-      left = drop h.at s;
-      commands = h.count;
-      ors = h.ors;
-      nexts = h.nexts;
-      fixpoints = h.fixpoints;
-      strict = h.strict;
-    }
+point s h = record { at = h.at; left = drop h.at s; commands = h.count; ors = h.ors; nexts = h.nexts; fixpoints = h.fixpoints }
 
 -- One element for each enclosing fixpoint, innermost first; the argument of `of` counts them from outside.
 abbrev pub inward : {A : Type 0} → (ℕ → A) → ℕ → List A
@@ -63,8 +54,7 @@ pub record Further (h x : Head) : Type 0 where
 
 -- Where reading stands behind the byte at h.
 abbrev pub behind : Head → Head
-behind h =
-    record { at = h.at + 1; count = h.count; ors = h.ors; nexts = h.nexts; fixpoints = h.fixpoints; strict = h.strict }
+behind h = record { at = h.at + 1; count = h.count; ors = h.ors; nexts = h.nexts; fixpoints = h.fixpoints }
 
 -- For the opcode op the answer to the questions 3 and 4 is yes.
 pub record RoomFor (op : ℕ) (h : Head) : Type 0 where
@@ -247,10 +237,6 @@ pub record OperandScope (scope : Scope) (e place op : ℕ) (x : Scope) : Type 0 
   pub guarded : x.guarded ≤ x.depth
   pub depth : (n : ℕ) → scope.depth ≤ n → (8 < op → scope.depth < n) → x.depth ≤ n
 
--- The answer r is the definition's of reading from the byte at a place, strictly or not,
-abbrev pub ReadAs : (strict : Bool) → List ℕ → ℕ → code.Reading → Type 0
-ReadAs strict s at r = r ≡ stored (reading_from strict s at)
-
--- and strictly
+-- The answer r is the definition's of reading from the byte at a place.
 abbrev pub ReadFrom : List ℕ → ℕ → code.Reading → Type 0
-ReadFrom = ReadAs true
+ReadFrom s at r = r ≡ stored (reading_from s at)

@@ -34,8 +34,7 @@ byte_of (Opcode.pair o) = cond o 6 7
 byte_of Opcode.next = 8
 byte_of (Opcode.fix g) = cond g 10 9
 
--- What reading has come to: a place, the bytes from there on, and how many operators, or, next and fixpoints it has counted. Strict reading
--- asks all questions; other reading leaves out question 8. Which of the two it is stays as it was at the start.
+-- What reading has come to: a place, the bytes from there on, and how many operators, or, next and fixpoints it has counted.
 pub record Head : Type 0 where
   pub at : ℕ
   pub left : List ℕ
@@ -43,7 +42,6 @@ pub record Head : Type 0 where
   pub ors : ℕ
   pub nexts : ℕ
   pub fixpoints : ℕ
-  pub strict : Bool
 
 -- Reading a part of the bytes: a refusal, or what was read, and where reading has come to.
 pub data Read (A : Type 0) : Type 0 where
@@ -72,16 +70,7 @@ abbrev pub ◌>>=◌ : {A B : Type 0} → Reader A → (A → Reader B) → Read
 abbrev pub byte_from : ℕ → Head → List ℕ → Read ℕ
 byte_from code h [] = Read.refused (at_byte code h.at)
 byte_from code h (b ∷ bs) =
-    Read.got b
-    (record {
-      at = h.at + 1;
-      left = bs;
-      commands = h.commands;
-      ors = h.ors;
-      nexts = h.nexts;
-      fixpoints = h.fixpoints;
-      strict = h.strict;
-    })
+    Read.got b (record { at = h.at + 1; left = bs; commands = h.commands; ors = h.ors; nexts = h.nexts; fixpoints = h.fixpoints })
 
 -- The same, from where reading has come to.
 abbrev pub byte : ℕ → Reader ℕ
@@ -124,15 +113,7 @@ within (Opcode.fix g) h = ltb h.fixpoints 7
 -- One operator more, and so many or, next and fixpoints.
 abbrev pub one_more : (ors nexts fixpoints : ℕ) → Head → Head
 one_more o n f h =
-    record {
-      at = h.at;
-      left = h.left;
-      commands = h.commands + 1;
-      ors = h.ors + o;
-      nexts = h.nexts + n;
-      fixpoints = h.fixpoints + f;
-      strict = h.strict;
-    }
+    record { at = h.at; left = h.left; commands = h.commands + 1; ors = h.ors + o; nexts = h.nexts + n; fixpoints = h.fixpoints + f }
 
 -- The operator is counted.
 abbrev pub counted : Opcode → Head → Head
@@ -170,11 +151,10 @@ entered place = record { place = place; guarded = false }
 abbrev pub behind_next : Binder → Binder
 behind_next b = record { place = b.place; guarded = true }
 
--- Question 8, about a variable whose depth was just read and names a fixpoint. The refusal has the place of that fixpoint too. Only strict
--- reading asks.
+-- Question 8, about a variable whose depth was just read and names a fixpoint. The refusal has the place of that fixpoint too.
 abbrev pub guard_asked : Scope → (depth : ℕ) → Reader Formula
 guard_asked scope d = do
-  _ ← ask_here (λ h. cond h.strict (get_or scope d outside).guarded true) (unguarded (get_or scope d outside).place)
+  _ ← ask_here (λ h. (get_or scope d outside).guarded) (unguarded (get_or scope d outside).place)
   done (Formula.variable d)
 
 -- The questions 7 and 8.
@@ -237,34 +217,22 @@ whole (Read.refused why) = Reading.refused why
 whole (Read.got f h) = ended f h h.left
 
 -- Reading begins at place 0 with nothing counted.
-abbrev pub start : (strict : Bool) → List ℕ → Head
-start strict bytes = record { at = 0; left = bytes; commands = 0; ors = 0; nexts = 0; fixpoints = 0; strict = strict }
+abbrev pub start : List ℕ → Head
+start bytes = record { at = 0; left = bytes; commands = 0; ors = 0; nexts = 0; fixpoints = 0 }
 
--- The formula that the bytes are, or the refusal, by strict reading or with question 8 left out.
-unfoldable pub parse_as : (strict : Bool) → List ℕ → Reading Formula
-parse_as strict bytes = whole (formula (length bytes) [] (start strict bytes))
-
--- The formula by strict reading.
-abbrev pub parse : List ℕ → Reading Formula
-parse = parse_as true
-
--- The formula with question 8 left out: one that is closed, and need not be guarded (MEANING 12.2).
-abbrev pub parse_closed : List ℕ → Reading Formula
-parse_closed = parse_as false
+-- The formula that the bytes are, or the refusal.
+unfoldable pub parse : List ℕ → Reading Formula
+parse bytes = whole (formula (length bytes) [] (start bytes))
 
 -- The outcome with the subformulas in place of the tree.
 abbrev pub with_entries : Reading Formula → Reading Entries
 with_entries (Reading.refused why) = Reading.refused why
 with_entries (Reading.accepted f) = Reading.accepted (entries f)
 
--- Either reading with its subformulas.
-unfoldable pub reading_as : (strict : Bool) → List ℕ → Reading Entries
-unfolding parse_as
-reading_as strict bytes = with_entries (parse_as strict bytes)
-
 -- Reading: MEANING 1.5.
-abbrev pub reading : List ℕ → Reading Entries
-reading = reading_as true
+unfoldable pub reading : List ℕ → Reading Entries
+unfolding parse
+reading bytes = with_entries (parse bytes)
 
 -- The outcome, a refusal's places counted from n bytes earlier.
 abbrev pub counted_from : {A : Type 0} → ℕ → Reading A → Reading A
@@ -273,6 +241,6 @@ counted_from n (Reading.accepted a) = Reading.accepted a
 
 -- A reader that has come to some place of the bytes reads from there, and counts places from the first byte. Behind the last byte
 -- nothing is left to read: the refusal is 1, where the reader is.
-unfoldable pub reading_from : (strict : Bool) → List ℕ → ℕ → Reading Entries
-unfolding reading_as
-reading_from strict bytes at = counted_from at (reading_as strict (drop at bytes))
+unfoldable pub reading_from : List ℕ → ℕ → Reading Entries
+unfolding reading
+reading_from bytes at = counted_from at (reading (drop at bytes))

@@ -14,7 +14,7 @@ pub record Told : Type 0 where
 -- Of each kind: 8 has the place of the variable's operand and that of its binder's byte, any other its number and one place.
 abbrev pub told : Refusal → Told
 told (AtByte code at) = record { code = code; place = at; binder_place = none }
-told (Unguarded at binder_at) = record { code = 8; place = at; binder_place = some binder_at }
+told (Unguarded at binder-at) = record { code = 8; place = at; binder_place = some binder-at }
 
 -- its number
 abbrev pub code_of : Refusal → ℕ
@@ -33,13 +33,13 @@ abbrev pub at_byte : (code place : ℕ) → Refusal
 at_byte code place = AtByte code place
 
 -- the refusal 8 of the operand at a place, for the binder whose byte is at another
-abbrev pub unguarded : (binder_at place : ℕ) → Refusal
-unguarded binder_at place = Unguarded place binder_at
+abbrev pub unguarded : (binder-at place : ℕ) → Refusal
+unguarded binder-at place = Unguarded place binder-at
 
 -- the same refusal, its places taken to others
 abbrev pub moved_to : (ℕ → ℕ) → Refusal → Refusal
 moved_to place (AtByte code at) = AtByte code (place at)
-moved_to place (Unguarded at binder_at) = Unguarded (place at) (place binder_at)
+moved_to place (Unguarded at binder-at) = Unguarded (place at) (place binder-at)
 
 -- the same refusal, its places counted from n bytes earlier
 abbrev pub places_from : ℕ → Refusal → Refusal
@@ -48,4 +48,4 @@ places_from n = moved_to (◌+◌ n)
 -- no place of it is above n
 abbrev pub PlacesWithin : (n : ℕ) → Refusal → Type 0
 PlacesWithin n (AtByte code at) = at ≤ n
-PlacesWithin n (Unguarded at binder_at) = (at ≤ n) × (binder_at ≤ n)
+PlacesWithin n (Unguarded at binder-at) = (at ≤ n) × (binder-at ≤ n)

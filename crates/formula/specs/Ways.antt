@@ -55,10 +55,10 @@ fixpoints_on way = length (filter from_fixpoint way)
 abbrev pub through : (outer : List Descent) (greatest : Bool) (inner : List Descent) → List Descent
 through outer greatest inner = outer ++ (Descent.body greatest ∷ inner)
 
--- The byte at `place` is the depth of a variable, the one at `binder_at` that of a fixpoint which the variable lies in. On the way in from
+-- The byte at `place` is the depth of a variable, the one at `binder-at` that of a fixpoint which the variable lies in. On the way in from
 -- that fixpoint to the variable are as many further fixpoints as the depth says (MEANING 1.2), and no next. (`behind`: the bytes behind
 -- the depth.)
-pub record NamesUnguarded (bytes : List ℕ) (place binder_at : ℕ) : Type 0 where
+pub record NamesUnguarded (bytes : List ℕ) (place binder-at : ℕ) : Type 0 where
   pub outer : List Descent
   pub greatest : Bool
   pub inner : List Descent
@@ -66,6 +66,6 @@ pub record NamesUnguarded (bytes : List ℕ) (place binder_at : ℕ) : Type 0 wh
   pub behind : List ℕ
   pub bytes_are : bytes ≡ way_bytes (through outer greatest inner) ++ (byte_of Opcode.variable ∷ depth ∷ behind)
   pub place_is : place ≡ length (way_bytes (through outer greatest inner)) + 1
-  pub binder_at_is : binder_at ≡ length (way_bytes outer)
+  pub binder_at_is : binder-at ≡ length (way_bytes outer)
   pub depth_is : depth ≡ fixpoints_on inner
   pub no_next : any from_next inner ≡ false

@@ -1,7 +1,7 @@
 // Reading a formula: bytes into its table of subformulas, or a refusal.
-ghost use Rattle.std.specs.Prelude.{◌≡◌, false, List, ℕ, ◌+◌, ◌≤◌, ◌<◌, length};
+ghost use Rattle.std.specs.Prelude.{◌≡◌, List, ℕ, ◌+◌, ◌≤◌, ◌<◌, length};
 ghost use Rattle.formula.specs.Refusal.{code_of, place_of};
-ghost use Rattle.formula.specs.Reading.{opcode, reading, reading_as, within as allowed};
+ghost use Rattle.formula.specs.Reading.{opcode, reading, within as allowed};
 ghost use Rattle.formula.specs.Table as definitions;
 ghost use Rattle.formula.specs.Table.{is_or, is_next, is_fix, width};
 ghost use Rattle.formula.specs.Rows.{operator_of, opcode_at, operator_at, end_at, opcode_byte, reading_of};
@@ -10,7 +10,7 @@ ghost use Rattle.formula.specs.Contract.{TableFor, no_table, stored};
 ghost use Rattle.formula.specs.Inner.{point, behind, Limits, RoomFor, OperatorCounted, Opening, ScopeReady, OperandReady};
 ghost use Rattle.formula.specs.Inner.{LeafReady};
 ghost use Rattle.formula.specs.Inner.{InsideReady, OperandScope, RowPlaced, Unpaired, ReadBehind, Finished, Completed};
-ghost use Rattle.formula.specs.Inner.{Argues, Leaves, Command, ReadAs, ReadFrom};
+ghost use Rattle.formula.specs.Inner.{Argues, Leaves, Command, ReadFrom};
 
 // The opcodes: MEANING 1.1.
 const TRUE: u8 = 1;
@@ -109,8 +109,7 @@ pub struct Reading {
     pub table: Table,
 }
 
-// Where reading stands: the byte's place, and how many operators, or, next and fixpoints were read; and whether reading is strict, which
-// asks question 8.
+// Where reading stands: the byte's place, and how many operators, or, next and fixpoints were read.
 #[derive(Drop)]
 struct Head {
     at: usize,
@@ -118,7 +117,6 @@ struct Head {
     ors: usize,
     nexts: usize,
     fixpoints: usize,
-    strict: bool,
 }
 
 // The enclosing fixpoints, outermost first, by their numbers and by the places of their bytes, and how many of them have a next inside.
@@ -173,7 +171,6 @@ fn passed(s: &[u8], h: Head) -> Head
         ors: h.ors,
         nexts: h.nexts,
         fixpoints: h.fixpoints,
-        strict: h.strict,
     }
 }
 
@@ -188,7 +185,6 @@ fn counted(op: u8, h: Head) -> Head
         ors: h.ors + base::one_if(op == OR),
         nexts: h.nexts + base::one_if(op == NEXT),
         fixpoints: h.fixpoints + base::one_if(NEXT < op),
-        strict: h.strict,
     }
 }
 
@@ -218,7 +214,7 @@ fn opcode_at(s: &[u8], h: Head) -> Taken
     Taken::Refused(Refusal::AtByte { code: 4, at: at })
 }
 
-// The argument of a signal, or of a variable, which is its binder: the questions 5 to 7, and 8 where reading is strict.
+// The argument of a signal, or of a variable, which is its binder: the questions 5 to 8.
 fn argument_at(s: &[u8], h: Head, op: u8, scope: Scope) -> Taken
     requires { OperandReady op h scope }
     ensures { Argues s.now h op scope result }
@@ -241,7 +237,7 @@ fn argument_at(s: &[u8], h: Head, op: u8, scope: Scope) -> Taken
         return Taken::Refused(Refusal::AtByte { code: 7, at: at });
     }
     let outer = depth - 1 - up;
-    if h.strict & (scope.guarded <= outer) {
+    if scope.guarded <= outer {
         let binder_at = scope.places[outer];
         return Taken::Refused(Refusal::Unguarded { at, binder_at });
     }
@@ -362,9 +358,9 @@ fn refused(why: Refusal) -> Reading
     }
 }
 
-// Reads a whole formula that begins at a byte, strictly or with question 8 left out.
-fn read_as(s: &[u8], at: usize, strict: bool) -> Reading
-    ensures { ReadAs strict s.now at result }
+// Reads a whole formula that begins at a byte.
+fn read_at(s: &[u8], at: usize) -> Reading
+    ensures { ReadFrom s.now at result }
 {
     let start = Head {
         at: at,
@@ -372,7 +368,6 @@ fn read_as(s: &[u8], at: usize, strict: bool) -> Reading
         ors: 0,
         nexts: 0,
         fixpoints: 0,
-        strict: strict,
     };
     let outside = Scope {
         depth: 0,
@@ -399,13 +394,6 @@ fn read_as(s: &[u8], at: usize, strict: bool) -> Reading
             }
         }
     }
-}
-
-// Reads a whole formula that begins at a byte.
-fn read_at(s: &[u8], at: usize) -> Reading
-    ensures { ReadFrom s.now at result }
-{
-    read_as(s, at, true)
 }
 
 // The bytes of a formula together with the place of the byte that reading begins at.
@@ -436,13 +424,6 @@ pub fn read(s: &[u8]) -> Reading
     ensures determined { result ≡ stored (reading s.now) }
 {
     read_from(new(s))
-}
-
-// Reads a whole formula that need not be guarded: question 8 is left out.
-pub fn read_closed(s: &[u8]) -> Reading
-    ensures determined { result ≡ stored (reading_as false s.now) }
-{
-    read_as(s, 0, false)
 }
 
 // The layout of the rows, known to the functions from here on and to no others. Of subformula e byte e is the opcode; byte 48 + e is what

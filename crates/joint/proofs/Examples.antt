@@ -6,7 +6,7 @@ use Prim.Native.Nat.{ℕ, ◌+◌}
 use lib.ListN.{replicate}
 use Rattle.formula.specs.Refusal.{at_byte, unguarded}
 use Rattle.formula.specs.Table.{table}
-use Rattle.formula.specs.Reading.{parse_as}
+use Rattle.formula.specs.Reading.{parse}
 use Rattle.catalogue.specs.Catalogue.{Entry, written}
 use Rattle.catalogue.specs.Records.{records_from}
 use Rattle.decision.specs.Verdict.{Verdict, decide, workspace_size, witness_size}
@@ -80,5 +80,5 @@ decided_jointly e =
     joint e.nodes e.profiles (workspace_size e.nodes e.profiles) (witness_size e.nodes e.profiles) e.sheet
 
 pub examples_decided : map decided_jointly examples ≡ map (λ (e : Example). e.outcome) examples
-unfolding joint records_from parse_as table decide
+unfolding joint records_from parse table decide
 examples_decided = refl

@@ -15,7 +15,7 @@ use Rattle.base.proofs.FillLaws.{set_at}
 use Rattle.catalogue.specs.Records.{Records, record_at, behind, record_of, records_from, records}
 use Rattle.catalogue.specs.declared.Record.{Record}
 use Rattle.catalogue.specs.declared.Due.TheVariants.{End, Fault, Whole}
-use Rattle.catalogue.proofs.RecordsLaws.{records_end, records-fault, records-whole}
+use Rattle.catalogue.proofs.RecordsLaws.{records_end, records_fault, records-whole}
 use Rattle.catalogue.proofs.RunLaws.{WholeRun, whole_run}
 use Rattle.joint.specs.Joint.{max_formulas, bytes_of, formulas}
 use Rattle.joint.specs.Inner.{no_places, slot, noted_at, noted, noted_all, Collection, collected_on}
@@ -53,7 +53,7 @@ module _ (bytes : List ℕ) where
   collect_fault {at} {least} {place} {p} {c} h e q =
       subst⁻¹ (Collects (collected (records bytes))) q
       (subst (λ (x : Collection). Collects x (given (ending.Broken place) p))
-      (sym (ap (collected_on p) (records-fault bytes at least e)) ∙ h.is) refl)
+      (sym (ap (collected_on p) (records_fault bytes at least e)) ∙ h.is) refl)
 
   pub collect_on : {at least k : ℕ} (p : Places) {r : Record} → Collecting bytes at least p → record_at bytes at least ≡ Whole r
       → k ≡ slot p.count → Collecting bytes (r.start + r.size) (r.number + 1) (noted_at p r k)

@@ -3,7 +3,6 @@
 pub mod capacities;
 pub mod edits;
 pub mod greatest;
-pub mod mends;
 pub mod sets;
 pub mod sheets;
 

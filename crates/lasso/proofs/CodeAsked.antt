@@ -14,7 +14,7 @@ use Rattle.base.proofs.AskLaws.{Asked, first_refusal, passed}
 use Rattle.letters.specs.Alphabet.{in_alphabet}
 use Rattle.formula.specs.Formula.{Formula, size}
 use Rattle.formula.specs.Table.{Operator}
-use Rattle.formula.specs.Reading.{Reading, parse_as, parse, reading}
+use Rattle.formula.specs.Reading.{Reading, parse, reading}
 use Rattle.formula.specs.Rows.{operator_at, end_at, reading_of}
 use Rattle.formula.specs.declared.Table.{Table}
 use Rattle.formula.specs.declared.Refusal.{Refusal}
@@ -121,11 +121,11 @@ module _ (bytes : List ℕ) (c : Lasso) (w : List ℕ) where
   Promised a v = (a ≡ answer outcome) × (v ≡ written outcome w)
 
   outcome-accepted : (f : Formula) → parse bytes ≡ Reading.accepted f → outcome ≡ asked c (length w) f
-  unfolding truth parse_as over_alphabet labelling meets
+  unfolding truth parse over_alphabet labelling meets
   outcome-accepted f q = ap (after_reading c (length w)) q
 
   outcome-refused : {why : Refusal} → parse bytes ≡ Reading.refused why → outcome ≡ Truth.unread why
-  unfolding truth parse_as over_alphabet labelling meets
+  unfolding truth parse over_alphabet labelling meets
   outcome-refused q = ap (after_reading c (length w)) q
 
   module _ (r : read.Reading) (q : reading_of r ≡ reading bytes) where

@@ -2,7 +2,7 @@
 use Rattle.std.specs.Prelude.{Bool, List, ◌++◌, ℕ, ltb, leb, length, drop}
 use Rattle.base.specs.Ask.{ask}
 use Rattle.formula.specs.Formula.{Formula}
-use Rattle.formula.specs.Reading.{Reading, parse_as, parse}
+use Rattle.formula.specs.Reading.{Reading, parse}
 use Rattle.formula.specs.declared.Refusal.{Refusal}
 use Rattle.lasso.specs.Lasso.{Lasso, over_alphabet, labelling, meets}
 
@@ -31,7 +31,7 @@ after_reading c room (Reading.accepted f) = asked c room f
 
 -- The whole: a formula's bytes, a lasso, and how many words are lent.
 unfoldable pub truth : List ℕ → Lasso → (room : ℕ) → Truth
-unfolding parse_as over_alphabet labelling meets
+unfolding parse over_alphabet labelling meets
 truth bytes c room = after_reading c room (parse bytes)
 
 -- The lent words afterwards: the words of the positions and then what was there; after a refusal what was there.

@@ -84,7 +84,7 @@ pub fn zeros(area: &[u8]) -> usize {
 }
 
 // How many at the end are as they were.
-pub fn kept_bytes(area: &[u8]) -> usize {
+fn kept_bytes(area: &[u8]) -> usize {
     let mut n = area.len();
     while 0 < n {
         if area[n - 1] != 165 {
@@ -150,17 +150,6 @@ pub fn note_rest(area: &[u8]) {
 pub fn note_nodes(before: &[u8], area: &[u8]) {
     put(b" | nodes: kept");
     kept(alike(before, area), before.len());
-}
-
-pub fn note_buffer(area: &[u8]) {
-    put(b" | buffer: kept");
-    kept(kept_bytes(area), area.len());
-}
-
-// How many bytes behind those of a list are zero, from the first on, and how many there are.
-pub fn note_list(area: &[u8]) {
-    put(b" | list: zero");
-    kept(zeros(area), area.len());
 }
 
 pub fn note_letters(area: &[u16]) {

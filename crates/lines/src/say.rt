@@ -37,10 +37,6 @@ pub fn refused(code: u8) {
 
 pub fn refused_at(code: u8, place: usize) {
     refused(code);
-    at(place);
-}
-
-pub fn at(place: usize) {
     worded(b" at", place);
 }
 
@@ -51,7 +47,7 @@ pub fn unread(why: Refusal) {
 
 // A refusal of reading has a place, and that of a binder where it names one.
 pub fn places(why: Refusal) {
-    at(formula::place_of(why));
+    worded(b" at", formula::place_of(why));
     match why {
         Refusal::AtByte { code: _, at: _ } => {}
         Refusal::Unguarded { at: _, binder_at } => worded(b" from", binder_at),

@@ -10,7 +10,7 @@ use Rattle.base.specs.Lists.{any, filter}
 use Rattle.base.specs.Search.{Item}
 use Rattle.formula.specs.Formula.{Leaf, Formula}
 use Rattle.formula.specs.Table.{Table, table, operator}
-use Rattle.formula.specs.Reading.{Reading, parse_as, parse}
+use Rattle.formula.specs.Reading.{Reading, parse}
 use Rattle.tableau.specs.Saturation.{same_subset}
 use Rattle.tableau.specs.Transition.{Transition}
 use Rattle.tableau.specs.Nodes.{nodes}
@@ -24,12 +24,12 @@ formula_of (Reading.accepted f) = f
 
 -- case I of MEANING 5.9, where two triples lead from 4 to 5 and back
 abbrev pub I : Formula
-unfolding parse_as
+unfolding parse
 I = formula_of (parse (0x0A ∷ 0x07 ∷ 0x09 ∷ 0x08 ∷ 0x08 ∷ 0x05 ∷ 0x00 ∷ 0x08 ∷ 0x05 ∷ 0x00 ∷ []))
 
 -- its case `ours`, where a least fixpoint waits for the position after: always, two positions on, signal 0
 abbrev pub waits : Formula
-unfolding parse_as
+unfolding parse
 waits = formula_of (parse (0x0A ∷ 0x07 ∷ 0x08 ∷ 0x09 ∷ 0x08 ∷ 0x03 ∷ 0x00 ∷ 0x08 ∷ 0x05 ∷ 0x00 ∷ []))
 
 -- one lap: a cycle none of whose triples goes back to where it began with a least fixpoint
@@ -52,5 +52,5 @@ lengths f test = map (λ (x : Item Transition Profile). length x.way) (filter (t
 pub judged :
     map (lengths I) (after_one_lap ∷ accepting ∷ []) ∷ map (lengths waits) (nothing-waits ∷ accepting ∷ []) ∷ []
     ≡ ((1 ∷ 3 ∷ []) ∷ [] ∷ []) ∷ ((2 ∷ []) ∷ (1 ∷ 2 ∷ []) ∷ []) ∷ []
-unfolding parse_as table nodes profiles rejecting
+unfolding parse table nodes profiles rejecting
 judged = refl

@@ -17,7 +17,7 @@ use Rattle.base.proofs.SpreadLaws.{AfterTurns, turns-start, turns_next, turns-le
 use Rattle.profile_tables.specs.Triples.{Triples, join}
 use Rattle.profile_tables.specs.Runs.{FoundProfile, same_profile, follow, longer, layer}
 use Rattle.triples.specs.Inner.{triples_in}
-use Rattle.triples.proofs.CellLaws.{triples-copied}
+use Rattle.triples.proofs.CellLaws.{triples_copied}
 use Rattle.profile_search.specs.declared.Header.{Header}
 use Rattle.profile_search.specs.declared.Store.{Store}
 use Rattle.profile_search.specs.Stored.{found_of, record_start, record_of, stored, first_of, HeaderOf, Chained, Grown}
@@ -76,8 +76,8 @@ module _ (s : Store) (count : ℕ) (a : List ℕ) (p q : ℕ) where
         (triples_in s.n t) ∷ [])
         → After r b
     longer-one {x = x} {y = y} u v t h m ex ey cu cv j g =
-        let du = triples-copied s.n a u x h cu ∙ triple_set-at s a p ex in
-        let dv = triples-copied s.n a v y h cv ∙ triple_set-at s a q ey in
+        let du = triples_copied s.n a u x h cu ∙ triple_set-at s a p ex in
+        let dv = triples_copied s.n a v y h cv ∙ triple_set-at s a q ey in
         grown-same (ap (adds same_profile (stored s a count))
         (joins s.n p (record_of s a p) (record_of s a q) ds es m (j ∙ (λ i. join s.n (du i) (dv i))))) g
 

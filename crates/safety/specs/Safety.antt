@@ -9,7 +9,7 @@ use Rattle.base.specs.Search.{Item, search_from}
 use Rattle.letters.specs.Requirements.{letter_of}
 use Rattle.formula.specs.Formula.{Formula}
 use Rattle.formula.specs.Table.{Table, table, width}
-use Rattle.formula.specs.Reading.{Reading, parse_as, parse}
+use Rattle.formula.specs.Reading.{Reading, parse}
 use Rattle.formula.specs.declared.Refusal.{Refusal}
 use Rattle.tableau.specs.Saturation.{Subset, same_subset}
 use Rattle.tableau.specs.Transition.{Transition, letter, transitions}
@@ -99,5 +99,5 @@ after_reading N workspace buffer (Reading.accepted f) =
 
 -- The whole: the capacity, the lengths of the lent workspace and witness buffer, a formula's bytes.
 unfoldable pub verdict : (N workspace buffer : ℕ) → List ℕ → Verdict
-unfolding parse_as table decide
+unfolding parse table decide
 verdict N workspace buffer bytes = after_reading N workspace buffer (parse bytes)

@@ -6,7 +6,7 @@ use lib.ListN.{replicate}
 use Rattle.base.specs.Lists.{range, flat_map}
 use Rattle.formula.specs.Table.{table}
 use Rattle.formula.specs.Refusal.{at_byte, unguarded}
-use Rattle.formula.specs.Reading.{parse_as, reading_as}
+use Rattle.formula.specs.Reading.{parse, reading}
 use Rattle.formula.specs.declared.Refusal.{Refusal}
 use Rattle.substitution.specs.Substitution.{Substitution, substitution}
 
@@ -80,5 +80,5 @@ examples =
 
 pub examples_substituted : map (λ (x : Example). told (substitution x.old x.number x.new)) examples
     ≡ map (λ (x : Example). x.outcome) examples
-unfolding substitution reading_as parse_as table
+unfolding substitution reading parse table
 examples_substituted = refl

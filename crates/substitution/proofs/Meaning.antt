@@ -14,7 +14,7 @@ use Rattle.formula.specs.Formula.{Formula, size}
 use Rattle.formula.specs.Table.{Entries, entries}
 use Rattle.formula.specs.Refusal.{at_byte}
 use Rattle.formula.specs.Occurrence.{Closed}
-use Rattle.formula.specs.Reading.{Reading, parse, reading_as, reading, with_entries}
+use Rattle.formula.specs.Reading.{Reading, parse, reading, with_entries}
 use Rattle.formula.proofs.Guarded.{parse-guarded, guarded-closed}
 use Rattle.formula.proofs.Limits.{size-some}
 use Rattle.formula.proofs.Spelling.{parse-spelled}
@@ -76,7 +76,7 @@ module _ (old new : List ℕ) (c : Context) (a g : Formula) (p : parse old ≡ R
 module _ (old : List ℕ) (e : ℕ) (new : List ℕ) where
   by_spliced : (f g : Formula) → parse old ≡ Reading.accepted f → parse new ≡ Reading.accepted g → e < size f
       → Tells old e new (of_number old (entries f) e new true)
-  unfolding reading_as
+  unfolding reading
   by_spliced f g p q l =
       let (c, a, is, n) = contexts.located f e l in
       let at = p ∙ ap Reading.accepted is in
@@ -101,18 +101,18 @@ module _ (old : List ℕ) (e : ℕ) (new : List ℕ) where
   by_new f p (Reading.accepted g) q = by_number f g p q (ltb e (length (entries f).operators)) refl
 
   by_old : (r : Reading Formula) → parse old ≡ r → Tells old e new (of_old old e new (with_entries r))
-  unfolding reading_as
+  unfolding reading
   by_old (Reading.refused why) p = p
   by_old (Reading.accepted f) p = by_new f p (parse new) refl
 
 -- Theorem: each outcome says what is so.
 pub substitution_tells : (old : List ℕ) (e : ℕ) (new : List ℕ) → Tells old e new (substitution old e new)
-unfolding substitution reading_as
+unfolding substitution reading
 substitution_tells old e new = by_old old e new (parse old) refl
 
 -- ---- a subformula's own bytes in its place
 read_is : (bytes : List ℕ) {r : Reading Formula} → parse bytes ≡ r → reading bytes ≡ with_entries r
-unfolding reading_as
+unfolding reading
 read_is bytes e = ap with_entries e
 
 module _ (old : List ℕ) (c : Context) (a : Formula) (p : parse old ≡ Reading.accepted (plugged c a)) where

@@ -6,21 +6,21 @@ use mathlib.Core.Bool.{true, false}
 use mathlib.Core.List.{List, [], ◌∷◌, map}
 use Prim.Native.Nat.{ℕ}
 use Rattle.formula.specs.Formula.{Formula}
-use Rattle.formula.specs.Reading.{parse_as, parse}
+use Rattle.formula.specs.Reading.{parse}
 use Rattle.lasso.specs.Lasso.{Lasso, meets}
 use Rattle.profile.proofs.Examples.{formula_of}
 
 -- the cases F, J and L of MEANING 5.9
 abbrev pub F : Formula
-unfolding parse_as
+unfolding parse
 F = formula_of (parse (0x0A ∷ 0x07 ∷ 0x09 ∷ 0x06 ∷ 0x03 ∷ 0x00 ∷ 0x08 ∷ 0x05 ∷ 0x00 ∷ 0x08 ∷ 0x05 ∷ 0x00 ∷ []))
 
 abbrev pub J : Formula
-unfolding parse_as
+unfolding parse
 J = formula_of (parse (0x0A ∷ 0x09 ∷ 0x06 ∷ 0x07 ∷ 0x03 ∷ 0x00 ∷ 0x08 ∷ 0x05 ∷ 0x01 ∷ 0x08 ∷ 0x05 ∷ 0x00 ∷ []))
 
 abbrev pub L : Formula
-unfolding parse_as
+unfolding parse
 L = formula_of (parse (0x09 ∷ 0x0A ∷ 0x06 ∷ 0x07 ∷ 0x03 ∷ 0x00 ∷ 0x08 ∷ 0x05 ∷ 0x01 ∷ 0x08 ∷ 0x05 ∷ 0x00 ∷ []))
 
 -- a cycle of these letters, without stem
@@ -29,7 +29,7 @@ cycle letters = record { letters = letters; stem = 0 }
 
 -- A least fixpoint that still waits: F is true although its signal is absent at every other position.
 pub pending : meets (cycle (0x4000 ∷ 0x4001 ∷ [])) F ≡ true
-unfolding parse_as meets
+unfolding parse meets
 pending = refl
 
 -- A least fixpoint on the way. Where signal 0 is present for ever J may pass its inner least fixpoint for ever, since the outer greatest
@@ -37,5 +37,5 @@ pending = refl
 pub outer_decides :
     map (λ (f : Formula). map (λ (letters : List ℕ). meets (cycle letters) f) ((0x4001 ∷ []) ∷ (0x4000 ∷ []) ∷ [])) (J ∷ L ∷ [])
     ≡ (true ∷ false ∷ []) ∷ (true ∷ true ∷ []) ∷ []
-unfolding parse_as meets
+unfolding parse meets
 outer_decides = refl

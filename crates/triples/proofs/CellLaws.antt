@@ -20,9 +20,9 @@ use Rattle.triples.specs.Inner.{bytes, bytes_from, bits, triples_in, triples_at,
 use Rattle.triples.proofs.ByteLaws.{met, met_some}
 
 -- bytes copied from a place
-pub triples-copied : (n : ℕ) (l t : List ℕ) (at : ℕ) → n ≤ 12 → ((i : ℕ) → i < 144 → get_or t i 0 ≡ get_or l (at + i) 0)
+pub triples_copied : (n : ℕ) (l t : List ℕ) (at : ℕ) → n ≤ 12 → ((i : ℕ) → i < 144 → get_or t i 0 ≡ get_or l (at + i) 0)
     → triples_in n t ≡ triples_at n l at
-triples-copied n l t at k h =
+triples_copied n l t at k h =
     those-same n (bits (bytes t)) (bits (bytes_from l at)) (λ f x g hf hx hg. ap (λ (w : ℕ). bit w x) (h (f * 12 + g) (omega arith)))
 
 pub copied_more : (l t : List ℕ) (at i v : ℕ) → i < length t → ((j : ℕ) → j < i → get_or t j 0 ≡ get_or l (at + j) 0) → v ≡ get_or l (at + i) 0

@@ -18,7 +18,7 @@ use Rattle.profile_tables.proofs.TriplesLaws.{Test, some_of, some_in, some_same,
 use Rattle.profile_tables.proofs.LapsLaws.{rounds_sub, rounds_row}
 use Rattle.triples.specs.Inner.{bytes, bytes_from, bits, triples_in, triples_at, one_way, by_way, RowWith, comes_back, leads_back}
 use Rattle.triples.proofs.ByteLaws.{met}
-use Rattle.triples.proofs.CellLaws.{triples-copied, SameBelow, comes_those, found_some}
+use Rattle.triples.proofs.CellLaws.{triples_copied, SameBelow, comes_those, found_some}
 use Rattle.triples.proofs.JoinLaws.{either-join}
 
 pub square : (n : ℕ) → n ≤ 12 → n * n ≤ 144
@@ -46,10 +46,10 @@ row-lap n a r t h p =
     ∙ sym (either-join n (row-bits r) (row-bits r) (bits (bytes a)))
 
 -- a copy of the bytes is rejecting exactly if they are
-pub rejecting-copied : (least : ℕ → Bool) (n : ℕ) (l t : List ℕ) (at : ℕ) → n ≤ 12
+pub rejecting_copied : (least : ℕ → Bool) (n : ℕ) (l t : List ℕ) (at : ℕ) → n ≤ 12
     → ((i : ℕ) → i < 144 → get_or t i 0 ≡ get_or l (at + i) 0)
     → rejecting least n (triples_in n t) ≡ rejecting least n (triples_at n l at)
-rejecting-copied least n l t at h e = ap (rejecting least n) (triples-copied n l t at h e)
+rejecting_copied least n l t at h e = ap (rejecting least n) (triples_copied n l t at h e)
 
 -- an operand that leads back in a set leads back in a larger one
 comes_more : (least : ℕ → Bool) (s t : Triples) (f : ℕ) → ((x : ℕ) → x < 8 → T (holds s f x f) → T (holds t f x f))

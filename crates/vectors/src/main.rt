@@ -7,7 +7,7 @@ mod read;
 mod search;
 mod truth;
 
-use kinds::{edits, greatest, mends, sets, sheets};
+use kinds::{edits, greatest, sets, sheets};
 use lines::area::start_bytes;
 use lines::field::{BROKEN, bytes, part, same};
 use lines::{line, say};
@@ -48,7 +48,6 @@ fn told(line: &[u8]) {
         7 => sheets::outcome(line, s),
         8 => sets::outcome(line, s),
         9 => edits::outcome(line, s),
-        10 => mends::outcome(line, s),
         _ => say::malformed(),
     }
 }
@@ -81,9 +80,6 @@ fn kind(name: &[u8]) -> u8 {
     }
     if same(name, b"edit") {
         return 9;
-    }
-    if same(name, b"mend") {
-        return 10;
     }
     0
 }

@@ -32,7 +32,7 @@ placed_text code place = refused_text code ++ worded_text (32 ∷ 97 ∷ 116 ∷
 -- the place of a binder behind it, if there is one,
 abbrev pub from_text : Option ℕ → List ℕ
 from_text none = []
-from_text (some binder_at) = worded_text (32 ∷ 102 ∷ 114 ∷ 111 ∷ 109 ∷ []) binder_at
+from_text (some binder-at) = worded_text (32 ∷ 102 ∷ 114 ∷ 111 ∷ 109 ∷ []) binder-at
 
 -- and so that of a refusal of reading;
 abbrev pub unread_text : Refusal → List ℕ

@@ -2,7 +2,6 @@
 -- the answer was made of. So the number says as much as the answer. Assumes nothing.
 use mathlib.Core.Path.{◌≡◌, refl, sym, ap, subst, ◌∙◌}
 use mathlib.Core.Logic.{◌↔◌}
-use mathlib.Core.Bool.{Bool, true, false}
 use mathlib.Core.List.{List}
 use mathlib.Core.Option.{Option, none, some}
 use Prim.Native.Nat.{ℕ, ◌+◌, ◌*◌, ◌/◌, ◌%◌, ◌≤◌, ◌<◌}
@@ -11,20 +10,19 @@ use native.Mathlib.Nat.{mod-eq_of_lt, div-eq_of_lt, add-mul-mod_self_left, add-m
 use Rattle.formula.specs.Table.{Operator}
 use Rattle.formula.specs.Rows.{opcode_byte}
 use Rattle.formula.specs.Refusal.{code_of, place_of, binder_place_of}
-use Rattle.formula.specs.Reading.{Reading, parse_as, parse, parse_closed}
+use Rattle.formula.specs.Reading.{Reading, parse}
 use Rattle.formula.specs.declared.Refusal.{Refusal}
 use Rattle.formula.specs.declared.Refusal.TheVariants.{AtByte, Unguarded}
-use Rattle.formula.proofs.Fuel.{Stopped, stopped_as, parse_stopped}
-use Rattle.formula.proofs.Early.{early_as, parse-early}
+use Rattle.formula.proofs.Fuel.{Stopped, parse_stopped}
+use Rattle.formula.proofs.Early.{parse-early}
 use Rattle.joint.specs.declared.Joint.TheVariants.{Unread, Untried, Unsatisfiable}
 use Rattle.substitution.specs.declared.Source.{Source}
 use Rattle.substitution.specs.declared.Answer.TheVariants as substitution
-use Rattle.guarding.specs.declared.Answer.TheVariants as guarding
 use Rattle.catalogue.specs.Contract.{code, layer_told}
 use Rattle.catalogue.specs.declared.Location.{Location}
 use Rattle.catalogue.specs.declared.Location.TheVariants.{Found, Damaged, Missing}
 use Rattle.yuktrob_c.specs.Numbers.{number, refusal_number, found, location_number, joint_number, Letters16, Early}
-use Rattle.yuktrob_c.specs.Numbers.{source_number, edit_number, guarding_number}
+use Rattle.yuktrob_c.specs.Numbers.{source_number, edit_number}
 use Rattle.yuktrob_c.proofs.JointFit.{refusal_small}
 use Rattle.yuktrob_c.specs.Entry.{argument_of, packed}
 
@@ -69,38 +67,23 @@ apart_by (AtByte code at) above s e =
       place_is = part n code 256 at 256 (256 * above) (omega arith) small (omega arith);
       binder_is = part n (code + 256 * at) 65536 0 256 above (omega arith) (omega arith) (omega arith);
     }
-apart_by (Unguarded at binder_at) above s (h, k) =
-    let n = number 8 (at + 256 * binder_at) + 16777216 * above in
+apart_by (Unguarded at binder-at) above s (h, k) =
+    let n = number 8 (at + 256 * binder-at) + 16777216 * above in
     let refusal : n % 256 ≡ 8 =
-    ap (λ (x : ℕ). x % 256) {x = n} {y = 8 + 256 * (at + 256 * (binder_at + 256 * above))} (omega arith)
-    ∙ low 8 256 (at + 256 * (binder_at + 256 * above)) (omega arith) in
+    ap (λ (x : ℕ). x % 256) {x = n} {y = 8 + 256 * (at + 256 * (binder-at + 256 * above))} (omega arith)
+    ∙ low 8 256 (at + 256 * (binder-at + 256 * above)) (omega arith) in
     record {
       refusal = refusal;
       eight = (λ _. s.binder refl, λ _. refusal);
-      place_is = part n 8 256 at 256 (binder_at + 256 * above) (omega arith) (omega arith) (omega arith);
-      binder_is = part n (8 + 256 * at) 65536 binder_at 256 above (omega arith) (omega arith) (omega arith);
+      place_is = part n 8 256 at 256 (binder-at + 256 * above) (omega arith) (omega arith) (omega arith);
+      binder_is = part n (8 + 256 * at) 65536 binder-at 256 above (omega arith) (omega arith) (omega arith);
     }
 
 -- Theorem: the number of a refusal of reading is taken apart into what the refusal says.
-apart_as : (strict : Bool) (bytes : List ℕ) (why : Refusal) → parse_as strict bytes ≡ Reading.refused why
-    → RefusalApart (refusal_number why) why
-apart_as strict bytes why e =
-    subst (λ (n : ℕ). RefusalApart n why) {x = refusal_number why + 16777216 * 0} {y = refusal_number why} (omega arith)
-    (apart_by why 0 (stopped_as strict bytes e) (early_as strict bytes why e))
-
 pub refusal_apart : (bytes : List ℕ) (why : Refusal) → parse bytes ≡ Reading.refused why → RefusalApart (refusal_number why) why
-refusal_apart = apart_as true
-
--- Theorem: so is that of a guarded form's reading,
-pub unguarded-apart : (bytes : List ℕ) (why : Refusal) → parse_closed bytes ≡ Reading.refused why
-    → RefusalApart (guarding_number (guarding.Unread why)) why
-unguarded-apart = apart_as false
-
--- the number of 33, by yuktrob_refusal and yuktrob_place,
-pub entangled-apart : (place : ℕ) → place ≤ 97
-    → (guarding_number (guarding.Entangled place) % 256 ≡ 33) × (guarding_number (guarding.Entangled place) / 256 % 256 ≡ place)
-entangled-apart place h =
-    (low 33 256 place (omega arith), part (number 33 place) 33 256 place 256 0 (omega arith) (omega arith) (omega arith))
+refusal_apart bytes why e =
+    subst (λ (n : ℕ). RefusalApart n why) {x = refusal_number why + 16777216 * 0} {y = refusal_number why} (omega arith)
+    (apart_by why 0 (parse_stopped bytes e) (parse-early bytes why e))
 
 -- and so it is if something stands above it, which a shift by 24 bits gives
 above_apart : (bytes : List ℕ) (why : Refusal) → parse bytes ≡ Reading.refused why → (above : ℕ)
@@ -137,10 +120,6 @@ edit_apart long count l c =
       long-is = part n 0 256 long 256 count (omega arith) (omega arith) (omega arith);
       count_is = part n (256 * long) 65536 count 256 0 (omega arith) (omega arith) (omega arith);
     }
-
--- Theorem: a guarded form, by yuktrob_mended_len and yuktrob_altered_count, which are the same shifts.
-pub mend_apart : (size count : ℕ) → size ≤ 96 → count ≤ 48 → EditApart (guarding_number (guarding.Formed size count)) size count
-mend_apart size count l c = edit_apart size count (omega arith) c
 
 -- Theorem: 35 is taken apart by yuktrob_refusal and yuktrob_tried, a core by yuktrob_clash: shifts by 8 and 9 bits.
 pub tried_apart : (s : ℕ) → s < 256 → (joint_number (Untried s) % 256 ≡ 35) × (joint_number (Untried s) / 256 % 256 ≡ s)

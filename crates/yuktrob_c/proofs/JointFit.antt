@@ -15,7 +15,7 @@ use Rattle.yuktrob_c.proofs.VerdictFit.{small}
 
 pub refusal_small : (why : Refusal) → code_of why ≤ 9 → Early why → refusal_number why < 16777216
 refusal_small (AtByte code at) c e = omega arith
-refusal_small (Unguarded at binder_at) c (h, k) = omega arith
+refusal_small (Unguarded at binder-at) c (h, k) = omega arith
 
 -- a core in place of a stem
 with_core : {K P core : ℕ} → Letters16 0 0 K P → core < 256 → Letters16 core 0 K P

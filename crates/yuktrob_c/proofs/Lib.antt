@@ -4,5 +4,4 @@ pub mod TruthFit
 pub mod VerdictFit
 pub mod JointFit
 pub mod EditFit
-pub mod MendFit
 pub mod Apart

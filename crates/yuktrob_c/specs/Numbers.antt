@@ -1,5 +1,5 @@
 -- The number that stands for each answer: its lowest byte is the number of a refusal (MEANING 1.4, 2.5, 5.2, 5.11, 5.12, 5.14, 9.3, 10.2,
--- 11.3, 12.3), or 0, and what the answer carries stands above it. include/yuktrob.h says the same in C. Assumes nothing.
+-- 11.3), or 0, and what the answer carries stands above it. include/yuktrob.h says the same in C. Assumes nothing.
 use Rattle.std.specs.Prelude.{cond, List, ℕ, ◌+◌, ◌*◌, ◌≤◌, ◌<◌, length}
 use Rattle.std.proofs.Math.Option.{Option, none, some}
 use Rattle.formula.specs.Table.{Entries}
@@ -29,10 +29,6 @@ use Rattle.substitution.specs.declared.Source.{Source}
 use Rattle.substitution.specs.declared.Source.TheVariants.{Old, New, Spliced}
 use Rattle.substitution.specs.declared.Answer.{Answer}
 use Rattle.substitution.specs.declared.Answer.TheVariants as substitution
-use Rattle.guarding.specs.Guarding.{Guarding}
-use Rattle.guarding.specs.Contract.{listed}
-use Rattle.guarding.specs.declared.Answer as guarding-code
-use Rattle.guarding.specs.declared.Answer.TheVariants as guarding
 use Rattle.catalogue.specs.declared.Location.{Location}
 use Rattle.catalogue.specs.Contract.{code, layer_told}
 
@@ -43,7 +39,7 @@ number code carried = code + 256 * carried
 -- a place, and above 8 bits for it that of a binder, if there is one
 abbrev pub places_carried : ℕ → Option ℕ → ℕ
 places_carried place none = place
-places_carried place (some binder_at) = place + 256 * binder_at
+places_carried place (some binder-at) = place + 256 * binder-at
 
 -- a refusal of reading carries its places
 abbrev pub refusal_number : Refusal → ℕ
@@ -113,21 +109,6 @@ abbrev pub edit_number : (count : ℕ) → Answer → ℕ
 edit_number count (substitution.Unread source why) = refusal_number why + 16777216 * source_number source
 edit_number count substitution.Missing = number 37 0
 edit_number count (substitution.Substituted long) = number 0 (long + 256 * count)
-
--- A guarded form: how many bytes it has, and above 8 bits for them how many subformulas are altered. A refusal of reading carries its place,
--- 33 its own, and 42 nothing.
-abbrev pub guarding_number : guarding-code.Answer → ℕ
-guarding_number (guarding.Unread why) = refusal_number why
-guarding_number (guarding.Entangled place) = number 33 place
-guarding_number guarding.Short = number 42 0
-guarding_number (guarding.Formed size count) = number 0 (size + 256 * count)
-
--- what the array for the alterations holds afterwards: these, where there is a guarded form, else what it held
-abbrev pub alterations_left : Guarding → List ℕ → List ℕ
-alterations_left (Guarding.unread why) held = held
-alterations_left (Guarding.entangled place) held = held
-alterations_left Guarding.short held = held
-alterations_left (Guarding.formed bytes xs) held = listed xs
 
 -- the definition's verdict, by the formula's bytes, the capacities and the lent areas
 abbrev pub verdict_of : (bytes : List ℕ) (N M : ℕ) (workspace buffer : List ℕ) → meaning.Verdict
@@ -202,10 +183,3 @@ abbrev pub EditFits : Answer → Type 0
 EditFits (substitution.Unread source why) = (code_of why ≤ 9) × Early why
 EditFits substitution.Missing = Unit {0}
 EditFits (substitution.Substituted long) = long ≤ 97
-
--- and of a guarded form, which has at most 96 bytes
-abbrev pub GuardingFits : guarding-code.Answer → Type 0
-GuardingFits (guarding.Unread why) = Early why
-GuardingFits (guarding.Entangled place) = place ≤ 97
-GuardingFits guarding.Short = Unit {0}
-GuardingFits (guarding.Formed size count) = (size ≤ 96) × (count ≤ 48)

@@ -1,6 +1,6 @@
 // The operations with the C calling convention: a slice comes as a pointer and a length, an array as a pointer, and each answer is one
 // number. What can be any place in memory does not fit beside a refusal, and is put into words that the caller lends; the bytes and the
-// table of an edit, and what a mend altered, go into arrays.
+// table of an edit go into arrays.
 ghost use Rattle.std.specs.Prelude.{◌≡◌, ◌≤◌, ◌<◌, length};
 ghost use Rattle.formula.specs.Reading.{Reading, reading};
 ghost use Rattle.formula.specs.Rows.{entries_of};
@@ -21,9 +21,6 @@ ghost use Rattle.yuktrob_c.specs.Numbers.{location_number};
 ghost use Rattle.substitution.specs.Substitution.{substitution};
 ghost use Rattle.substitution.specs.Contract as edited;
 ghost use Rattle.yuktrob_c.specs.Numbers.{source_number, edit_number, EditFits};
-ghost use Rattle.guarding.specs.Guarding.{guarding};
-ghost use Rattle.guarding.specs.Contract as guarded;
-ghost use Rattle.yuktrob_c.specs.Numbers.{guarding_number, alterations_left};
 ghost use Rattle.joint.specs.Contract as joined;
 ghost use Rattle.yuktrob_c.specs.Numbers.{joint_number, joint_of, JointFits};
 
@@ -384,28 +381,4 @@ pub extern "C" fn yuktrob_edit(
     *spliced = bytes;
     *rows = entries;
     edit_number(answer, table.count)
-}
-
-// The guarded form of a formula: its bytes, and the list of alterations.
-#[unsafe(no_mangle)]
-pub extern "C" fn yuktrob_mend(rule: &[u8], mended: &mut [u8], altered: &mut [u8; 96]) -> u64
-    ensures numbered { result ≡ guarding_number
-        (guarded.handed (guarding rule.now (length mended.old))).answer }
-    ensures mended { mended.new ≡ guarded.leaves (guarding rule.now (length mended.old))
-        mended.old }
-    ensures altered { altered.new ≡ alterations_left (guarding rule.now (length mended.old))
-        altered.old }
-{
-    let r = guarding::guarded_form(rule, mended);
-    let answer = r.answer;
-    let list = r.altered;
-    match answer {
-        guarding::Answer::Unread(why) => refusal_number(why),
-        guarding::Answer::Entangled(place) => number(33, place),
-        guarding::Answer::Short => number(42, 0),
-        guarding::Answer::Formed { size, count } => {
-            *altered = list;
-            number(0, size + 256 * count)
-        }
-    }
 }

@@ -2,14 +2,12 @@
 
 mod building;
 mod edit;
-mod mend;
 mod safety;
 mod set;
 mod sheet;
 
 pub use building::{Buildings, Changed};
 pub use edit::{edit, proved_edit, Edits};
-pub use mend::{mend, proved_mend, Mends};
 pub use safety::{safety, Safeties};
 pub use set::{proved_set, set, Sets};
 pub use sheet::{lookup, proved_lookup, Faults, Lookups};

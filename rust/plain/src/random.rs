@@ -1,13 +1,11 @@
-//! Random rules, sets of rules, sheets, whole and damaged, edits, old rules, and random courses, for comparing and timing. The same seed
-//! gives the same ones.
+//! Random rules, sets of rules, sheets, whole and damaged, edits, and random courses, for comparing and timing. The same seed gives the same
+//! ones.
 
 mod edits;
-mod mends;
 mod sets;
 mod sheets;
 
 pub use edits::Replacement;
-pub use mends::Old;
 pub(crate) use sets::commands;
 pub use sheets::Sheets;
 

@@ -48,8 +48,6 @@ struct Wanted {
 
 struct Reader<'a> {
     bytes: &'a [u8],
-    /// Whether question 8 is asked.
-    nexts_asked: bool,
     at: usize,
     entries: Vec<Command>,
     ors: usize,
@@ -60,17 +58,8 @@ struct Reader<'a> {
 
 /// Reads a rule into its entries.
 pub fn read(bytes: &[u8]) -> Result<Vec<Command>, Unreadable> {
-    read_asking(bytes, true)
-}
-
-/// The same with question 8 left out: variables may lack a next.
-pub fn read_unguarded(bytes: &[u8]) -> Result<Vec<Command>, Unreadable> {
-    read_asking(bytes, false)
-}
-
-fn read_asking(bytes: &[u8], nexts_asked: bool) -> Result<Vec<Command>, Unreadable> {
-    let wanted = vec![Wanted { scope: Vec::new(), parent: None }];
-    let mut reader = Reader { bytes, nexts_asked, at: 0, entries: Vec::new(), ors: 0, nexts: 0, fixpoints: 0, wanted };
+    let whole = Wanted { scope: Vec::new(), parent: None };
+    let mut reader = Reader { bytes, at: 0, entries: Vec::new(), ors: 0, nexts: 0, fixpoints: 0, wanted: vec![whole] };
     while let Some(Wanted { scope, parent }) = reader.wanted.pop() {
         let byte = reader.opcode()?;
         reader.settle(parent);
@@ -155,7 +144,7 @@ impl Reader<'_> {
         let depth = self.operand()? as usize;
         match scope.iter().rev().nth(depth) {
             None => refuse(7, self.at - 1),
-            Some(f) if self.nexts_asked && !f.guarded => Err(Unreadable { number: 8, place: self.at - 1, fixpoint: Some(f.place) }),
+            Some(f) if !f.guarded => Err(Unreadable { number: 8, place: self.at - 1, fixpoint: Some(f.place) }),
             Some(f) => Ok(f.entry),
         }
     }

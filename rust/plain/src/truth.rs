@@ -17,12 +17,7 @@ pub enum Truth {
 
 /// Truth by rounds; `room` is the number of words lent.
 pub fn by_rounds(rule: &[u8], places: &[u16], lead_len: usize, room: usize) -> Truth {
-    asked(rule, places, lead_len, room, |entries| words_by_rounds(entries, places, lead_len))
-}
-
-/// The word of each place by rounds, for entries of which question 8 need not have been asked.
-pub fn words_by_rounds(entries: &[Command], places: &[u16], lead_len: usize) -> Vec<u64> {
-    Rounds::new(entries, places, lead_len).words()
+    asked(rule, places, lead_len, room, |entries| Rounds::new(entries, places, lead_len).words())
 }
 
 /// Truth by laps, in a time that grows with the places no faster than they do.

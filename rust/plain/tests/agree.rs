@@ -1,7 +1,7 @@
 //! The proved library and the independent implementation agree.
 
 use yuktrob_plain::compared::{self, Areas, Input};
-use yuktrob_plain::compared::{Buildings, Courses, Decisions, Edits, Lookups, Mends, Rooms, Safeties, Sets, Signals, Truths, Unguarded};
+use yuktrob_plain::compared::{Buildings, Courses, Decisions, Edits, Lookups, Rooms, Safeties, Sets, Signals, Truths, Unguarded};
 use yuktrob_plain::random::Random;
 
 /// Courses are kept this short, so that the test takes seconds; `compare` draws longer ones.
@@ -64,15 +64,6 @@ fn on_some_thousands_of_edits() {
         assert_eq!(compared::edit(&mut random, &mut edits), Ok(()));
     }
     check_edits(&edits);
-}
-
-#[test]
-fn on_some_thousands_of_mends() {
-    let (mut random, mut mends) = (Random::new(42), Mends::default());
-    for _ in 0..20_000 {
-        assert_eq!(compared::mend(&mut random, &mut mends), Ok(()));
-    }
-    check_mends(&mends);
 }
 
 /// Each count is above the number behind it.
@@ -240,12 +231,8 @@ fn check_sets(sets: &Sets) {
     ]);
 }
 
-/// The least of some counts.
-fn fewest(counts: &[u64]) -> u64 {
-    counts.iter().copied().min().unwrap_or(0)
-}
-
 fn check_edits(edits: &Edits) {
+    let fewest = |counts: &[u64]| counts.iter().copied().min().unwrap_or(0);
     check_counts(&[
         (edits.edited, 6000, "edits"),
         (edits.whole, 2000, "whole rules replaced"),
@@ -276,40 +263,5 @@ fn check_edits(edits: &Edits) {
         (edits.excess_behind, 1200, "spliced rules refused behind the new rule"),
         (edits.excess_both[0], 150, "spliced rules refused with 3 that have too many of others"),
         (edits.excess_both[1], 700, "spliced rules refused with 4 that have too many commands"),
-    ]);
-}
-
-fn check_mends(mends: &Mends) {
-    let [unread, behind_8] = [mends.unread, mends.behind_8].map(|counts| fewest(&[&counts[..7], &counts[8..]].concat()));
-    assert_eq!(mends.unread[7], 0, "no mend is refused with 8");
-    check_counts(&[
-        (mends.mended, 8000, "mends"),
-        (mends.unchanged, 3000, "rules that come back"),
-        (mends.several, 3000, "mends of several entries"),
-        (mends.many, 500, "mends of ten entries or more"),
-        (mends.both, 1000, "mends with true and with false"),
-        (mends.next_outside, 1000, "mends with a next outside the fixpoint"),
-        (mends.behind_ended, 1500, "mends behind a fixpoint that has ended"),
-        (mends.last_of_48, 200, "mends of the last of 48 entries"),
-        (mends.beside_kept, 1500, "mends beside a variable that stays"),
-        (mends.kept_across, 1000, "mends beside a variable that stays inside another fixpoint"),
-        (mends.exact, 3000, "buffers that are just long enough"),
-        (mends.shrunk, 2000, "buffers that are shorter than the old rule"),
-        (mends.longer, 4000, "buffers that are longer than the old rule"),
-        (mends.told_apart, 500, "altered rules that are true at some places and not at others"),
-        (unread, 150, "rules refused with some number of reading"),
-        (behind_8, 80, "rules refused with some number of reading behind a variable without a next"),
-        (mends.behind_33, 30, "rules refused by reading behind an entangled variable"),
-        (mends.unread_unlent, 700, "rules refused by reading without a byte lent"),
-        (mends.entangled, 1000, "rules refused with 33"),
-        (mends.entangled_behind_altered, 400, "rules refused with 33 behind a variable that could be mended"),
-        (mends.entangled_behind_kept, 350, "rules refused with 33 behind a variable that has a next"),
-        (mends.entangled_again, 350, "rules refused with 33 before another such variable"),
-        (mends.entangled_far, 400, "rules refused with 33 for a variable with several fixpoints between"),
-        (mends.entangled_unlent, 300, "rules refused with 33 without a byte lent"),
-        (mends.short, 2000, "buffers refused with 42"),
-        (mends.short_by_one, 1000, "buffers refused with 42 for one byte"),
-        (mends.short_unlent, 700, "buffers refused with 42 that have none"),
-        (mends.short_unchanged, 1000, "buffers refused with 42 for a rule that comes back"),
     ]);
 }

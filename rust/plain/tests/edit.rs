@@ -1,8 +1,6 @@
 //! Entries of rules replaced: the lines of the test runner, refusals in order with their tables, and every limit at its edge, through both
 //! ways of the independent implementation and through the proved library; and that both ways come to the same on random edits.
 
-mod runner;
-
 use std::collections::HashMap;
 use yuktrob_plain::compared::proved_edit;
 use yuktrob_plain::edit::{by_reading, by_rows, laid_out, Answer, Edit, Row, Source};
@@ -43,12 +41,26 @@ fn table_told(edit: &Edit) -> String {
     format!("{} {}", edit.table.len(), written(&laid_out(edit).1))
 }
 
+/// The lines that the test runner runs, each with what it comes to: it passes over comments and blank lines, and answers all others.
+fn runner_lines() -> Vec<(String, String)> {
+    let read = |name: &str| {
+        let path = format!("{}/../../crates/vectors/{name}", env!("CARGO_MANIFEST_DIR"));
+        String::from_utf8_lossy(&std::fs::read(path).expect("the runner's lines")).into_owned()
+    };
+    let (stdin, stdout) = (read("stdin"), read("stdout"));
+    let blank = [' ', '\t', '\r'];
+    let lines = stdin.split('\n').map(|line| line.trim_matches(blank)).filter(|line| !line.is_empty() && !line.starts_with('#'));
+    let (lines, outcomes): (Vec<&str>, Vec<&str>) = (lines.collect(), stdout.lines().collect());
+    assert_eq!(lines.len(), outcomes.len(), "lines that are run, and what they come to");
+    lines.into_iter().zip(outcomes).map(|(line, outcome)| (line.into(), outcome.into())).collect()
+}
+
 /// `edit | OLD | ENTRY | NEW`, among them the vectors of request T-09; where a line asks for the table, that is in the outcome too.
 #[test]
 fn vectors() {
     let bytes = |text: &str| if text == "-" { Vec::new() } else { hex::bytes(text) };
     let mut run = 0;
-    for (line, outcome) in runner::lines() {
+    for (line, outcome) in runner_lines() {
         let ["edit", old, e, new, ..] = line.split('|').map(str::trim).collect::<Vec<_>>()[..] else { continue };
         if outcome == "MALFORMED" {
             continue;

@@ -1,9 +1,8 @@
-//! The independent implementation's reading: the places that it refuses with, random rules that it refuses with 8, and what it says if 8 is
-//! not asked.
+//! The independent implementation's reading: the places that it refuses with, and random rules that it refuses with 8.
 
 use yuktrob_plain::compared::Unguarded;
-use yuktrob_plain::random::{Old, Random};
-use yuktrob_plain::reading::{read, read_unguarded, Unreadable};
+use yuktrob_plain::random::Random;
+use yuktrob_plain::reading::{read, Unreadable};
 
 #[test]
 fn only_8_names_a_fixpoint() {
@@ -58,26 +57,4 @@ fn many_unguarded_rules_name_a_fixpoint_between() {
     }
     assert_eq!(unguarded.all, 5000);
     assert!((1000..4000).contains(&unguarded.between), "{} of 5,000 are between", unguarded.between);
-}
-
-/// Without question 8 the same, but for rules that it refuses: these are accepted, or refused for what comes behind the variable.
-#[test]
-fn the_other_questions_are_asked_as_before() {
-    let (mut random, mut accepted, mut behind, mut same) = (Random::new(23), 0, 0, 0);
-    for _ in 0..20_000 {
-        let Old { rule, .. } = random.old();
-        let without = read_unguarded(&rule);
-        match (read(&rule), &without) {
-            (Err(Unreadable { number: 8, .. }), Ok(_)) => accepted += 1,
-            (Err(Unreadable { number: 8, place, .. }), Err(why)) => {
-                assert!(why.number != 8 && why.place > place && why.fixpoint.is_none(), "{rule:02x?}: {why:?}");
-                behind += 1;
-            }
-            (with, _) => {
-                assert_eq!(with, without, "{rule:02x?}");
-                same += 1;
-            }
-        }
-    }
-    assert!(accepted > 5000 && behind > 1000 && same > 5000, "accepted {accepted}, refused behind 8 {behind}, the same {same}");
 }

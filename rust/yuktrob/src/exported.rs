@@ -1,10 +1,10 @@
 //! The exported functions of the proved library, called with Rust's slices: the one module with `unsafe`.
 //!
 //! Why each call is sound. The library asks two things of its caller (`include/yuktrob.h`): that each pointer has as many elements as the
-//! length behind it says, or, where no length stands behind it, one, of an edit's two areas 97 and 144, and of a mend's list 96, and that
-//! what is written overlaps nothing else. A slice's pointer has its length's elements, all initialised; it is aligned and not null, even
-//! where the slice is empty; an array has as many as its type says; and a `&mut` overlaps nothing. The library is proved to stay inside its
-//! slices and arrays, for any values in them. It keeps no pointer after it returns, and it does not unwind: it has no panics.
+//! length behind it says, or, where no length stands behind it, one, and of an edit's two areas 97 and 144, and that what is written
+//! overlaps nothing else. A slice's pointer has its length's elements, all initialised; it is aligned and not null, even where the slice is
+//! empty; an array has as many as its type says; and a `&mut` overlaps nothing. The library is proved to stay inside its slices and arrays,
+//! for any values in them. It keeps no pointer after it returns, and it does not unwind: it has no panics.
 
 use crate::Refusal;
 
@@ -12,17 +12,6 @@ use crate::Refusal;
 pub const MOST_ENTRIES: usize = 48;
 pub const SPLICED_LEN: usize = 97;
 pub const TABLE_LEN: usize = 3 * MOST_ENTRIES;
-
-/// How many bytes the list of a mend's alterations has: two of each entry that a rule can have.
-///
-/// ```
-/// let mut list = [9; yuktrob::ALTERED_LEN];
-/// yuktrob::mend_into(&[0x09, 0x05, 0x00], &mut [0; 2], &mut list)?;
-/// assert_eq!((list.len(), &list[..2]), (96, &[1, 2][..]));
-/// assert!(list[2..].iter().all(|&byte| byte == 0));
-/// # Ok::<(), yuktrob::Refusal>(())
-/// ```
-pub const ALTERED_LEN: usize = 2 * MOST_ENTRIES;
 
 extern "C" {
     fn yuktrob_read(rule: *const u8, rule_len: usize) -> u64;
@@ -96,7 +85,6 @@ extern "C" {
         spliced: *mut u8,
         table: *mut u8,
     ) -> u64;
-    fn yuktrob_mend(rule: *const u8, rule_len: usize, mended: *mut u8, mended_len: usize, altered: *mut u8) -> u64;
 }
 
 /// What an answer carries, or the refusal: the lowest byte is the number of a refusal, or 0; the rest stands above it.
@@ -172,11 +160,6 @@ pub fn decide_set(sheet: &[u8], nodes: usize, profiles: usize, work: &mut [u8], 
 pub fn edit(old: &[u8], e: usize, new: &[u8], spliced: &mut [u8; SPLICED_LEN], table: &mut [u8; TABLE_LEN]) -> u64 {
     // SAFETY: pointers and lengths are those of slices, and those without a length of arrays of just as many bytes; see above.
     unsafe { yuktrob_edit(old.as_ptr(), old.len(), e, new.as_ptr(), new.len(), spliced.as_mut_ptr(), table.as_mut_ptr()) }
-}
-
-pub fn mend(rule: &[u8], mended: &mut [u8], altered: &mut [u8; ALTERED_LEN]) -> Result<u64, Refusal> {
-    // SAFETY: pointers and lengths are those of slices, and the one without a length of an array of just as many bytes; see above.
-    carried(unsafe { yuktrob_mend(rule.as_ptr(), rule.len(), mended.as_mut_ptr(), mended.len(), altered.as_mut_ptr()) })
 }
 
 #[cfg(test)]
@@ -286,47 +269,5 @@ mod tests {
         // 49 commands, of which the last two have a next and a variable; then 13 nexts
         assert_eq!(told(always, 2, &[vec![7; 22], vec![1; 23]].concat()), refused(3 + (48 << 8) + (2 << 24), rows));
         assert_eq!(told(always, 2, &[vec![8; 12], vec![1]].concat()), refused(4 + (15 << 8) + (2 << 24), rows));
-    }
-
-    /// Mended, the bytes and the altered entries are counted; the buffer has the rule and behind it what it held, the list zeros behind its
-    /// last entry. A refusal has its place or, 42, nothing, and leaves both areas as they were.
-    #[test]
-    fn numbers_of_mends() {
-        let told = |rule: &[u8], room: usize| {
-            let (mut buffer, mut list) = (vec![0x5a; room], [0xa5; ALTERED_LEN]);
-            // SAFETY: as in `mend`, whose refusal would not show what stands above a 42.
-            let answer = unsafe { yuktrob_mend(rule.as_ptr(), rule.len(), buffer.as_mut_ptr(), room, list.as_mut_ptr()) };
-            (answer, buffer, list.to_vec())
-        };
-        let mended = |bytes: &[u8], altered: &[u8], room: usize| {
-            let buffer = [bytes, &vec![0x5a; room - bytes.len()]].concat();
-            let list = [altered, &vec![0; ALTERED_LEN - altered.len()]].concat();
-            ((bytes.len() as u64) << 8 | (altered.len() as u64 / 2) << 16, buffer, list)
-        };
-        let refused = |number: u64, place: u64, room: usize| (number + (place << 8), vec![0x5a; room], vec![0xa5; ALTERED_LEN]);
-        // a next outside; a greatest fixpoint in a least one, each with a variable that lacks a next and one that does not
-        let both: &[u8] = &[8, 9, 6, 5, 0, 7, 8, 5, 0, 10, 7, 5, 0, 8, 6, 5, 0, 5, 1];
-        let (bytes, altered): (&[u8], &[u8]) = (&[8, 9, 6, 2, 7, 8, 5, 0, 10, 7, 1, 8, 6, 5, 0, 5, 1], &[3, 2, 9, 1]);
-        // as many as can be altered, in the longest rule
-        let longest = [&[10][..], &[7; 23], &[5, 0].repeat(24)].concat();
-        let (most, all) = ([&[10][..], &[7; 23], &[1; 24]].concat(), (24..48).flat_map(|e| [e, 1]).collect::<Vec<u8>>());
-        for room in [17, 18, 19, 96, 300] {
-            assert_eq!(told(both, room), mended(bytes, altered, room));
-            assert_eq!(told(bytes, room), mended(bytes, &[], room));
-        }
-        for room in [48, 49, 72, 300] {
-            assert_eq!(told(&longest, room), mended(&most, &all, room));
-        }
-        for room in [0, 1, 16] {
-            assert_eq!(told(both, room), refused(42, 0, room));
-            assert_eq!(told(&longest, 47 - room), refused(42, 0, 47 - room));
-        }
-        for room in [0, 1, 300] {
-            assert_eq!(told(&[], room), refused(1, 0, room));
-            assert_eq!(told(&[9, 5, 0, 1], room), refused(9, 3, room));
-            assert_eq!(told(&[10, 9, 7, 5, 0, 5, 1], room), refused(33, 6, room));
-            // no 33 stands behind this one
-            assert_eq!(told(&[[7, 3, 0].repeat(22), vec![9, 10, 5, 1]].concat(), room), refused(33, 69, room));
-        }
     }
 }

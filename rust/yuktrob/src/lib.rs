@@ -1,7 +1,7 @@
 //! Rules of tractor-guidance terminals: reading a rule, its truth on a repeating course, and the decision whether any course meets it,
 //! with a short example, the same one each time; finding a rule by its number in the sheets of a dealer and of the factory; the decision
-//! whether one course meets all rules of a sheet; replacing a part of a rule; and mending old rules, whose variables lack a next. A rule is
-//! a formula of the linear-time mu-calculus in bytes; `docs/FORMULAS.md` shows how to write one.
+//! whether one course meets all rules of a sheet; and replacing a part of a rule. A rule is a formula of the linear-time mu-calculus in
+//! bytes; `docs/FORMULAS.md` shows how to write one.
 //!
 //! The work is done by a library whose every function is proved to meet its contract. This crate wraps its exported functions and takes
 //! their numbers apart.
@@ -88,27 +88,14 @@
 //! let mut areas = Areas::new(256, 300);
 //! assert_eq!(rule.decide(&mut areas)?, Verdict::Not { nodes: 2, profiles: 1 });
 //! // signal 1 for the absence of signal 0, which is entry 8
-//! let edited = rule.edit(8, [0x03, 0x01])?;
-//! assert!(matches!(edited.decide(&mut areas)?, Verdict::Met { course: &[0x4003, 0x4001], .. }));
+//! let mended = rule.edit(8, [0x03, 0x01])?;
+//! assert!(matches!(mended.decide(&mut areas)?, Verdict::Met { course: &[0x4003, 0x4001], .. }));
 //! # Ok::<(), Box<dyn std::error::Error>>(())
 //! ```
 //!
-//! A rule that reading refuses with 8, for a variable without a next, is mended where that can be done without a change of what it says:
-//!
-//! ```
-//! use yuktrob::{mend, Mended, Rule};
-//! // always signal 0, and that again
-//! let old = [0x0A, 0x07, 0x07, 0x03, 0x00, 0x08, 0x05, 0x00, 0x05, 0x00];
-//! assert_eq!(Rule::read(&old).unwrap_err().number, 8);
-//! let Mended { rule, altered } = mend(&old)?;
-//! assert_eq!(rule.as_bytes(), [0x0A, 0x07, 0x07, 0x03, 0x00, 0x08, 0x05, 0x00, 0x01]);
-//! assert_eq!((altered[0].entry, altered[0].became), (6, true));
-//! # Ok::<(), yuktrob::Refusal>(())
-//! ```
-//!
 //! [`truth`], [`decide`], [`build`], [`search`] and [`decide_safety`] take the rule's bytes and areas that the caller lends, as the
-//! functions of `include/yuktrob.h` do, and so do [`decide_set`] with a sheet's and [`mend_into`]. [`edit`] takes the bytes of both rules,
-//! and gives the entries of the one that comes of it too.
+//! functions of `include/yuktrob.h` do, and so does [`decide_set`] with a sheet's. [`edit`] takes the bytes of both rules, and gives the
+//! entries of the one that comes of it too.
 
 #![deny(unsafe_code, missing_docs)]
 
@@ -117,7 +104,6 @@ mod decision;
 mod edit;
 #[allow(unsafe_code)]
 mod exported;
-mod mend;
 mod refusal;
 mod rule;
 mod safety;
@@ -128,8 +114,6 @@ mod truth;
 pub use building::{build, nodes_len, search, Built};
 pub use decision::{course_len, decide, work_len, Areas, Verdict, MOST_NODES, MOST_PROFILES};
 pub use edit::{edit, EditRefusal, Edited, Row, Source, Table};
-pub use exported::ALTERED_LEN;
-pub use mend::{mend, mend_into, Alteration, Mended, MendedInto};
 pub use refusal::Refusal;
 pub use rule::{Command, Entry, Rule};
 pub use safety::{decide_safety, SafetyVerdict};

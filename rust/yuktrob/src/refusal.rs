@@ -22,7 +22,7 @@ use std::fmt;
 pub struct Refusal {
     /// The refusal's number.
     pub number: u8,
-    /// Of a refusal of reading, 1 to 9, and of 33 and 43 the byte's place in the rule, counted from 0.
+    /// Of a refusal of reading, 1 to 9, and of 43 the byte's place in the rule, counted from 0.
     pub place: Option<usize>,
     /// Of refusal 8, where the variable's fixpoint begins: the place of its byte 09 or 0A.
     pub fixpoint: Option<usize>,
@@ -34,7 +34,7 @@ impl Refusal {
         let [place, fixpoint, ..] = carried.to_le_bytes();
         Refusal {
             number,
-            place: matches!(number, 1..=9 | 33 | 43).then_some(place.into()),
+            place: matches!(number, 1..=9 | 43).then_some(place.into()),
             fixpoint: (number == 8).then_some(fixpoint.into()),
         }
     }
@@ -67,12 +67,10 @@ impl Refusal {
             19 => "a place with both scale flags or neither; it must have either signal 14 or signal 15",
             30 => "another byte than the 20 of a record, a number that does not rise, or, at the sheet's length, a record that lacks bytes",
             31 => "neither sheet has a rule with this number",
-            33 => "no next, but another fixpoint, between the fixpoint and its variable",
             34 => "the sheet has no rules, or more than eight",
             35 => "as one rule these have more commands, or, next or fixpoints than 3 and 4 allow, or need more room than 14 and 15 find",
             36 => "K or the first 8 N bytes of the work area are not what building with N leaves for this rule",
             37 => "the old rule has no entry with this number",
-            42 => "the buffer has fewer bytes than the mended rule",
             43 => "a least fixpoint, where safety rules have greatest ones alone",
             _ => "a refusal that has no words here",
         }
@@ -115,10 +113,10 @@ mod tests {
 
     #[test]
     fn one_place_or_none_otherwise() {
-        for number in (1..=7).chain([9, 33, 43]) {
+        for number in (1..=7).chain([9, 43]) {
             assert_eq!(parts(number, 48), (number, Some(48), None));
         }
-        for number in (10..=255).filter(|number| ![33, 43].contains(number)) {
+        for number in (10..=255).filter(|&number| number != 43) {
             assert_eq!(parts(number, 0), (number, None, None));
         }
         assert!(Refusal::new(43, 0).to_string().starts_with("refused 43 at byte 0: "));

@@ -1,9 +1,9 @@
 //! Every line of the ```rules blocks of docs/FORMULAS.md, run; its words for each refusal, held beside the crate's; and a rule that is
 //! searched with more and more room.
 
-use yuktrob::{build, course_len, decide, decide_safety, decide_set, edit, lookup, mend, mend_into, nodes_len, search, truth, work_len};
-use yuktrob::{Alteration, Areas, Edited, Found, NotFound, Refusal, Rule, SafetyVerdict, SetRefusal, SetVerdict, Sheet, Source, Verdict};
-use yuktrob::{ALTERED_LEN, MOST_NODES, PREVIOUS_SCALE};
+use yuktrob::{build, course_len, decide, decide_safety, decide_set, edit, lookup, nodes_len, search, truth, work_len};
+use yuktrob::{Areas, Edited, Found, NotFound, Refusal, Rule, SafetyVerdict, SetRefusal, SetVerdict, Sheet, Source, Verdict};
+use yuktrob::{MOST_NODES, PREVIOUS_SCALE};
 
 fn document() -> String {
     std::fs::read_to_string(concat!(env!("CARGO_MANIFEST_DIR"), "/../../docs/FORMULAS.md")).expect("docs/FORMULAS.md")
@@ -190,26 +190,9 @@ fn edited(old: &[u8], e: usize, new: &[u8]) -> String {
     }
 }
 
-/// An old rule mended: the bytes and what is altered. With areas of its own, or in a buffer as `lent BYTES` says.
-fn mended(rule: &[u8], lent: With) -> String {
-    let told = |bytes: &[u8], altered: &[Alteration]| {
-        let digits: String = bytes.iter().map(|byte| format!("{byte:02x}")).collect();
-        altered.iter().fold(format!("MENDED {digits}"), |told, one| format!("{told} {one}"))
-    };
-    let answer = match lent.number("lent") {
-        None => mend(rule).map(|mended| told(mended.rule.as_bytes(), &mended.altered)),
-        Some(room) => {
-            let (mut buffer, mut list) = (vec![0; room], [0; ALTERED_LEN]);
-            mend_into(rule, &mut buffer, &mut list).map(|left| told(left.bytes, &left.altered().collect::<Vec<_>>()))
-        }
-    };
-    answer.unwrap_or_else(refused)
-}
-
 /// What a line comes to: `RULE on COURSE`, `RULE built`, `RULE searched`, `RULE searched over RULE`, or a rule alone, which is decided. All
 /// but the first may be followed by ` with ` and numbers. Or, as the test runner has them, `safety | RULE | N`, and perhaps
-/// ` | lent WORK COURSE`; `sheet | DEALER | FACTORY | NUMBER`; `set | SHEET | N M`; `edit | OLD | ENTRY | NEW`; and `mend | RULE`, perhaps
-/// with ` | lent BYTES`.
+/// ` | lent WORK COURSE`; `sheet | DEALER | FACTORY | NUMBER`; `set | SHEET | N M`; and `edit | OLD | ENTRY | NEW`.
 fn found(input: &str) -> String {
     match input.split(" | ").collect::<Vec<_>>()[..] {
         ["safety", rule, nodes, ref lent @ ..] => {
@@ -217,7 +200,6 @@ fn found(input: &str) -> String {
         }
         ["sheet", dealer, factory, number] => return looked_up([dealer, factory], number.parse().expect("a rule's number")),
         ["set", sheet, room] => return decided_at_once(&bytes_or_none(sheet), room),
-        ["mend", rule, ref lent @ ..] => return mended(&bytes_or_none(rule), With(lent.first().unwrap_or(&""))),
         ["edit", old, e, new] => return edited(&bytes_or_none(old), e.parse().expect("an entry"), &bytes_or_none(new)),
         _ => {}
     }
@@ -236,7 +218,7 @@ fn found(input: &str) -> String {
 #[test]
 fn every_line_of_the_document() {
     let mut inside = false;
-    let (mut lines, mut sheets, mut sets, mut edits, mut mends) = (0, 0, 0, 0, 0);
+    let (mut lines, mut sheets, mut sets, mut edits) = (0, 0, 0, 0);
     for line in document().lines() {
         match line {
             "```rules" => inside = true,
@@ -248,13 +230,12 @@ fn every_line_of_the_document() {
                 sheets += input.starts_with("sheet | ") as u32;
                 sets += input.starts_with("set | ") as u32;
                 edits += input.starts_with("edit | ") as u32;
-                mends += input.starts_with("mend | ") as u32;
             }
             _ => {}
         }
     }
-    let told = format!("only {lines} lines were found, {sheets} with two sheets, {sets} with a set, {edits} edits, {mends} mends");
-    assert!(lines >= 30 && [sheets, sets, edits, mends].iter().all(|&count| count >= 10), "{told}");
+    let told = format!("only {lines} lines were found, {sheets} with two sheets, {sets} with a set, {edits} with an edit");
+    assert!(lines >= 30 && sheets >= 10 && sets >= 10 && edits >= 10, "{told}");
 }
 
 /// The trainers' use: nodes that are built once are searched with more and more room, lent or with their rule.
@@ -287,10 +268,8 @@ fn refusal(number: u8) -> Refusal {
         17 => truth(&[1], &[PREVIOUS_SCALE; 8193], 0, &mut [0; 8193]).unwrap_err(),
         18 => truth(&[1], &[PREVIOUS_SCALE; 2], 1, &mut [0]).unwrap_err(),
         19 => truth(&[1], &[0], 0, &mut [0]).unwrap_err(),
-        33 => mend(&[9, 10, 5, 1]).unwrap_err(),
         36 => search(&often, 3, 256, 300, &mut work, &mut buffer).unwrap_err(),
         37 => edit(&[1], 1, &[1]).unwrap_err().refusal,
-        42 => mend_into(&[9, 5, 0], &mut [0], &mut [0; ALTERED_LEN]).unwrap_err(),
         43 => decide_safety(&often, 256, &mut work, &mut buffer).unwrap_err(),
         _ => panic!("the document has a refusal {number} that no input is known for"),
     }
@@ -323,7 +302,7 @@ fn every_refusal_has_the_words_of_the_document() {
         Some((number.parse::<u8>().ok()?, words.to_string()))
     };
     let rows: Vec<(u8, String)> = document.lines().skip_while(|line| *line != "## Refusals").filter_map(row).collect();
-    assert_eq!(rows.len(), 27);
+    assert_eq!(rows.len(), 25);
     for (number, words) in rows {
         if let Some(why) = not_found(number) {
             let place = if number == 30 { " at byte 5 of the dealer's sheet" } else { "" };
@@ -338,7 +317,7 @@ fn every_refusal_has_the_words_of_the_document() {
         let why = refusal(number);
         let place = why.place.map_or(String::new(), |place| format!(" at byte {place}"));
         let fixpoint = why.fixpoint.map_or(String::new(), |fixpoint| format!(", for the fixpoint at byte {fixpoint}"));
-        assert_eq!((why.number, why.place.is_some(), why.fixpoint.is_some()), (number, matches!(number, 1..=9 | 33 | 43), number == 8));
+        assert_eq!((why.number, why.place.is_some(), why.fixpoint.is_some()), (number, number <= 9 || number == 43, number == 8));
         assert_eq!(why.to_string(), format!("refused {number}{place}{fixpoint}: {words}"));
     }
 }

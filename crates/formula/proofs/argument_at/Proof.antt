@@ -50,20 +50,19 @@ element-copy-out-binder-at c = search rules
 
 returns-5 : tie.Need-returns-5
 returns-5 c = λ e self.
-    let u = c.before.before.before.before.before.before.before.before.before.before in
-    let up = c.before.before.before.before.wide.ensures in
-    not_guarded _ u.args.h u.args.op u.args.t4 self (omega arith) (omega arith) (omega arith) _ up c.before.if5.true
+    let u = c.before.before.before.before.before.before.before.before.before in
+    let up = c.before.before.before.wide.ensures in
+    not_guarded _ u.args.h u.args.op u.args.t4 self (omega arith) (omega arith) (omega arith) _ up (omega arith)
 
 element-copy-out-binder : tie.Need-element-copy-out-binder
 element-copy-out-binder c = search rules
 
 returns-6 : tie.Need-returns-6
 returns-6 c = λ e self.
-    let u = c.before.before.before.before.before.before.before.before.before.before in
-    let up = c.before.before.before.before.wide.ensures in
-    let goes_on = c.before.if5.false in
-    variable_argued _ u.args.h u.args.op u.args.t4 self (omega arith) (omega arith) (omega arith) e _ _ up goes_on
-    c.before.before.before.before.before.before.passed.ensures u.requires.ready.limits
+    let u = c.before.before.before.before.before.before.before.before.before in
+    let up = c.before.before.before.wide.ensures in
+    variable_argued _ u.args.h u.args.op u.args.t4 self (omega arith) (omega arith) (omega arith) e _ _ up (omega arith)
+    c.before.before.before.before.before.passed.ensures u.requires.ready.limits
 
 pub argument-at-spec : {M : Type 1} → statement M
 argument-at-spec =

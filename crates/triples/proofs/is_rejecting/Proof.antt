@@ -10,7 +10,7 @@ use Rattle.base.specs.Bits.{bit}
 use Rattle.profile_tables.specs.Triples.{laps}
 use Rattle.triples.specs.Inner.{triples_in, comes_back, leads_back}
 use Rattle.triples.proofs.CellLaws.{none_more}
-use Rattle.triples.proofs.RowLaws.{rejecting-copied, back_rejects, row_rejects, none_rejects}
+use Rattle.triples.proofs.RowLaws.{rejecting_copied, back_rejects, row_rejects, none_rejects}
 use Rattle.triples.proofs.is_rejecting.Statement.{statement}
 use Rattle.triples.proofs.is_rejecting.Tie as tie
 
@@ -31,7 +31,7 @@ returns c =
     let copied = c.before.before.before.copied in
     let args = c.before.before.before.before.before.args in
     back_rejects args.n copied.result (bit args.mask) (sym c.before.leads_back.ensures ∙ c.if1.true)
-    ∙ rejecting-copied (bit args.mask) args.n args.area.now copied.result args.at (omega arith) copied.ensures
+    ∙ rejecting_copied (bit args.mask) args.n args.area.now copied.result args.at (omega arith) copied.ensures
 
 loop-holds : tie.Need-loop-init invariant-loop decreases-loop
 loop-holds c = (omega arith, refl)
@@ -46,7 +46,7 @@ returns-2 c =
     let args = at.before.before.before.before.before.before.args in
     row_rejects args.n copied.result (bit args.mask) at.loop.f (omega arith)
     (sym c.before.comes_back.ensures ∙ c.if2.true)
-    ∙ rejecting-copied (bit args.mask) args.n args.area.now copied.result args.at (omega arith) copied.ensures
+    ∙ rejecting_copied (bit args.mask) args.n args.area.now copied.result args.at (omega arith) copied.ensures
 
 add-f : tie.Need-overflow-add-f invariant-loop decreases-loop
 add-f c = search rules
@@ -70,7 +70,7 @@ returns-3 c =
     let copied = c.before.before.before.before.before.copied in
     let args = c.before.before.before.before.before.before.before.args in
     none_rejects args.n copied.result (bit args.mask) (rw (le_antisymm loop.invariant.0 c.loop-test.false) at loop.invariant.1)
-    ∙ rejecting-copied (bit args.mask) args.n args.area.now copied.result args.at (omega arith) copied.ensures
+    ∙ rejecting_copied (bit args.mask) args.n args.area.now copied.result args.at (omega arith) copied.ensures
 
 pub is-rejecting-spec : {M : Type 1} → statement M
 is-rejecting-spec =

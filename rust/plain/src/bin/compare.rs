@@ -1,16 +1,15 @@
 //! Runs the proved library and the independent implementation on the same random inputs, and reports every difference.
 //!
-//! - `compare [INPUTS [SEED [LONGEST]]]`: readings, truths, decisions, decisions of safety rules, lookups, decisions of sets, edits and
-//!   mends in turn, where no course that both work out is longer than LONGEST places, 60 at least and 8,192 at most.
+//! - `compare [INPUTS [SEED [LONGEST]]]`: readings, truths, decisions, decisions of safety rules, lookups, decisions of sets and edits in
+//!   turn, where no course that both work out is longer than LONGEST places, 60 at least and 8,192 at most.
 //! - `compare safety [INPUTS [SEED]]`: decisions of safety rules alone.
 //! - `compare sheet [INPUTS [SEED]]`: lookups alone.
 //! - `compare set [INPUTS [SEED]]`: decisions of sets alone.
 //! - `compare edit [INPUTS [SEED]]`: edits alone.
-//! - `compare mend [INPUTS [SEED]]`: mends alone.
 
 use std::time::Instant;
 use yuktrob_plain::compared::{self, Areas, Input, LONG};
-use yuktrob_plain::compared::{Buildings, Changed, Courses, Decisions, Edits, Faults, Lookups, Mends, Rooms, Safeties, Sets, Signals};
+use yuktrob_plain::compared::{Buildings, Changed, Courses, Decisions, Edits, Faults, Lookups, Rooms, Safeties, Sets, Signals};
 use yuktrob_plain::compared::{Truths, Unguarded};
 use yuktrob_plain::random::Random;
 
@@ -21,7 +20,6 @@ fn main() {
         Some("sheet") => Some(sheet),
         Some("set") => Some(set),
         Some("edit") => Some(edit),
-        Some("mend") => Some(mend),
         _ => None,
     };
     words.drain(..alone.is_some() as usize);
@@ -78,29 +76,20 @@ fn edit(inputs: u64, seed: u64) -> u64 {
     differences
 }
 
-fn mend(inputs: u64, seed: u64) -> u64 {
-    let (mut random, mut mends) = (Random::new(seed), Mends::default());
-    let differences = differing(inputs, "mends", || compared::mend(&mut random, &mut mends));
-    report_mends(&mends);
-    differences
-}
-
 /// How many of so many inputs differ.
 fn all(inputs: u64, seed: u64, longest: usize) -> u64 {
     let mut random = Random::new(seed);
     let (mut unguarded, mut signals) = (Unguarded::default(), Signals::default());
     let (mut areas, mut truths, mut decisions) = (Areas::new(), Truths::default(), Decisions::default());
-    let (mut safeties, mut lookups, mut sets) = (Safeties::default(), Lookups::default(), Sets::default());
-    let (mut edits, mut mends) = (Edits::default(), Mends::default());
+    let (mut safeties, mut lookups, mut sets, mut edits) = (Safeties::default(), Lookups::default(), Sets::default(), Edits::default());
     let mut differences = 0u64;
     let start = Instant::now();
     for i in 0..inputs {
-        differences += reported(match i % 8 {
+        differences += reported(match i % 7 {
             3 => compared::safety(&mut random, &mut areas, &mut safeties),
             4 => compared::lookup(&mut random, &mut lookups),
             5 => compared::set(&mut random, &mut areas, &mut sets),
             6 => compared::edit(&mut random, &mut edits),
-            7 => compared::mend(&mut random, &mut mends),
             share => {
                 let input = Input::new(&mut random);
                 let rule = &input.rule;
@@ -115,9 +104,9 @@ fn all(inputs: u64, seed: u64, longest: usize) -> u64 {
         });
     }
     let seconds = start.elapsed().as_secs_f64();
-    let [readings, decided, safely, found, at_once, edited, mended] = [7, 5, 4, 3, 2, 1, 0].map(|more| (inputs + more) / 8);
-    println!("compared: {readings} readings, {} truths, {decided} decisions, {safely} of safety rules, {found} lookups,", truths.all);
-    println!("{at_once} sets, {edited} edits, {mended} mends in {seconds:.1} s");
+    let [readings, decided, safely, found, at_once, edited] = [6, 4, 3, 2, 1, 0].map(|more| (inputs + more) / 7);
+    let (all, rest) = (truths.all, format!("{safely} of safety rules, {found} lookups, {at_once} sets, {edited} edits in {seconds:.1} s"));
+    println!("compared: {readings} readings, {all} truths, {decided} decisions, {rest}");
     println!("truths of rules with alternating fixpoints: {}, of these on {LONG} places or more: {}", truths.alternating, truths.long);
     let Unguarded { all, between } = unguarded;
     println!("rules refused with 8: {all}, of these for a fixpoint that is neither the innermost nor at byte 0: {between}");
@@ -128,7 +117,6 @@ fn all(inputs: u64, seed: u64, longest: usize) -> u64 {
     report_lookups(&lookups);
     report_sets(&sets);
     report_edits(&edits);
-    report_mends(&mends);
     differences
 }
 
@@ -250,26 +238,4 @@ fn report_edits(edits: &Edits) {
     println!("with 4 for ors: {ors}, nexts: {nexts}, fixpoints: {fixpoints}, of these for one too many: {or}, {next}, {fixpoint}");
     let Edits { excess_inside, excess_behind, excess_both: [by_3, by_4], .. } = edits;
     println!("in the new rule: {excess_inside}, behind it: {excess_behind}; with 3 where 4 is due too: {by_3}, with 4 where 3 is: {by_4}");
-}
-
-fn report_mends(mends: &Mends) {
-    let Mends { mended, unchanged, several, many, both, .. } = mends;
-    println!("mended: {mended}, of these with nothing altered: {unchanged}, with several entries: {several}, with ten or more: {many}");
-    println!("with some that became true and some that became false: {both}");
-    let Mends { next_outside, behind_ended, last_of_48, beside_kept, kept_across, .. } = mends;
-    println!("with a next outside: {next_outside}, behind a fixpoint that has ended: {behind_ended}, the last of 48 entries: {last_of_48}");
-    println!("beside a variable that stays: {beside_kept}, with another fixpoint between it and its own: {kept_across}");
-    let Mends { exact, shrunk, longer, told_apart, .. } = mends;
-    println!("in a buffer of just as many bytes: {exact}, of fewer than the old rule has: {shrunk}, of more: {longer}");
-    println!("altered, and true at some places of the course and not at others: {told_apart}");
-    let Mends { unread, behind_8, behind_33, unread_unlent, .. } = mends;
-    println!("refused with 1 to 9: {unread:?}, of these without a byte lent: {unread_unlent}");
-    println!("behind a variable that lacks a next: {behind_8:?}, of these entangled: {behind_33}");
-    let Mends { entangled, entangled_behind_altered, entangled_behind_kept, .. } = mends;
-    println!("refused with 33: {entangled}");
-    println!("behind a variable that could be mended: {entangled_behind_altered}, behind one that has a next: {entangled_behind_kept}");
-    let Mends { entangled_again, entangled_far, entangled_unlent, .. } = mends;
-    println!("before another such: {entangled_again}, with several fixpoints between: {entangled_far}, no byte lent: {entangled_unlent}");
-    let Mends { short, short_by_one, short_unlent, short_unchanged, .. } = mends;
-    println!("refused with 42: {short}, for one byte: {short_by_one}, without any: {short_unlent}, without a fault: {short_unchanged}");
 }

@@ -15,13 +15,13 @@ pub struct Replacement {
 }
 
 /// What a limit is on, the most that there may be, and what can stand before a rule so that it has one more, or two more commands.
-pub(super) struct Limit {
+struct Limit {
     counted: &'static [u8],
-    pub(super) most: usize,
-    pub(super) before: [&'static [u8]; 2],
+    most: usize,
+    before: [&'static [u8]; 2],
 }
 
-pub(super) const LIMITS: [Limit; 4] = [
+const LIMITS: [Limit; 4] = [
     Limit { counted: &[1, 2, 3, 4, 5, 6, 7, 8, 9, 10], most: 48, before: [&[7, 1], &[7, 2]] },
     Limit { counted: &[6], most: 12, before: [&[6, 2], &[6, 1]] },
     Limit { counted: &[8], most: 12, before: [&[8], &[8]] },
@@ -29,7 +29,7 @@ pub(super) const LIMITS: [Limit; 4] = [
 ];
 
 impl Limit {
-    pub(super) fn count(&self, rule: &[u8]) -> usize {
+    fn count(&self, rule: &[u8]) -> usize {
         commands(rule).filter(|command| self.counted.contains(command)).count()
     }
 }
@@ -51,7 +51,7 @@ impl Random {
     }
 
     /// One that reading accepts, of any size.
-    pub(super) fn any_rule(&mut self) -> Vec<u8> {
+    fn any_rule(&mut self) -> Vec<u8> {
         loop {
             let most = [3, 10, 20, 44][self.below(4)];
             let size = 1 + self.below(most);

@@ -7,7 +7,6 @@
 //! - `bench sheets`: the tables of lookups.
 //! - `bench sets [COUNT SEED]`: the tables of sets; or which of so many random ones take longest.
 //! - `bench edits [COUNT SEED]`: the tables of edits; or which of so many random ones have the largest ratios.
-//! - `bench mends [COUNT SEED]`: the tables of mends; or the same of these.
 //! - `bench alternating [SHORT LONG]`: the table of truth with alternating fixpoints, at these numbers of places.
 //! - `bench search COUNT SEED [PLACES]`: which of so many random rules with fixpoints that cross, most of which alternate, take the proved
 //!   library longest, and on which course.
@@ -21,7 +20,6 @@ mod building;
 mod decisions;
 mod early;
 mod edits;
-mod mends;
 mod readings;
 mod safety;
 mod sets;
@@ -45,7 +43,6 @@ fn all() {
     sheets::tables();
     sets::tables();
     edits::tables();
-    mends::tables();
     truths::tables();
     alternating::table(1024, 8192);
 }
@@ -64,10 +61,8 @@ fn main() {
         Some("sets") => sets::tables(),
         Some("edits") if words.len() > 1 => edits::search(number(1, 1000), number(2, 1) as u64),
         Some("edits") => edits::tables(),
-        Some("mends") if words.len() > 1 => mends::search(number(1, 1000), number(2, 1) as u64),
-        Some("mends") => mends::tables(),
         Some("alternating") => alternating::table(number(1, 1024), number(2, 8192)),
         Some("search") => alternating::search(number(1, 3000), number(2, 1) as u64, number(3, 1024)),
-        Some(other) => panic!("{other}: not known; early, building, safety, sheets, sets, edits, mends, alternating or search, or nothing"),
+        Some(other) => panic!("{other}: not known; early, building, safety, sheets, sets, edits, alternating or search, or nothing"),
     }
 }

@@ -55,7 +55,7 @@ fn chain(links: u8, nexts: usize) -> Vec<Vec<u8>> {
 
 fn by_rules() -> Vec<Named> {
     let (f, never) = (eventually(&[3, 0]), always(&[4, 0]));
-    let [right, clashing] = [vec![10, 6, 3, 1, 7, 3, 14, 8, 5, 0], infinitely_often(&[3, 14])].map(handover);
+    let [mended, clashing] = [vec![10, 6, 3, 1, 7, 3, 14, 8, 5, 0], infinitely_often(&[3, 14])].map(handover);
     let often = |j: u8| infinitely_often(&[3, j]);
     vec![
         ("1 rule: F s0", sheet(std::slice::from_ref(&f))),
@@ -64,7 +64,7 @@ fn by_rules() -> Vec<Named> {
         ("2 rules: F s0, G not s0", sheet(&[f.clone(), never.clone()])),
         ("4 rules: G F s0, s1 U s2, X s3, s4", sheet(&[often(0), until(&[3, 1], &[3, 2]), vec![8, 3, 3], vec![3, 4]])),
         ("4 rules: F s0, s1 U s2, X s3, G not s0", sheet(&[f, until(&[3, 1], &[3, 2]), vec![8, 3, 3], never])),
-        ("5 rules: the handover file, put right (FORMULAS)", sheet(&right)),
+        ("5 rules: the handover file, mended (FORMULAS)", sheet(&mended)),
         ("5 rules: the handover file (FORMULAS)", sheet(&clashing)),
         ("8 rules: signals 0 to 7", signals(7, &[3, 7])),
         ("8 rules: signals 0 to 6, and signal 0 absent", signals(7, &[4, 0])),
