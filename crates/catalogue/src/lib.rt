@@ -1,5 +1,7 @@
 // Formulas kept by number in catalogues, an overlay before a base catalogue (MEANING 9; document 02: the dealer's sheet and the factory's).
 // A catalogue is gone through once, record by record, to its end or its first fault: damage is told though the number be found before it.
+#![tactic(auto)]
+
 ghost use Rattle.std.specs.Prelude.{◌≡◌, ◌+◌, ◌≤◌, length};
 ghost use Rattle.catalogue.specs.Records.{record_at, records};
 ghost use Rattle.catalogue.specs.Location.{location};
@@ -8,7 +10,7 @@ ghost use Rattle.catalogue.specs.Inner.{Small, kept, scanned, told};
 ghost use Rattle.catalogue.specs.declared.Scanned.TheVariants.{Has, Lacks};
 
 // A formula's number, and where its bytes stand in the catalogue.
-#[derive(Drop)]
+#[derive(Clone, Copy)]
 pub struct Record {
     pub number: usize,
     pub start: usize,
@@ -16,7 +18,7 @@ pub struct Record {
 }
 
 // What stands where a record is due: nothing more; a fault, with its place; a record.
-#[derive(Drop)]
+#[derive(Clone, Copy)]
 pub enum Due {
     End,
     Fault(usize),
@@ -24,14 +26,14 @@ pub enum Due {
 }
 
 // One of the two catalogues.
-#[derive(Drop)]
+#[derive(Clone, Copy)]
 pub enum Layer {
     Overlay,
     Base,
 }
 
 // Where the formula of a number is: the place of its bytes in one of the catalogues; or a fault of one of them; or nowhere.
-#[derive(Drop)]
+#[derive(Clone, Copy)]
 pub enum Location {
     Found {
         layer: Layer,
@@ -46,7 +48,7 @@ pub enum Location {
 }
 
 // What one catalogue has for a number.
-#[derive(Drop)]
+#[derive(Clone, Copy)]
 enum Scanned {
     Has { start: usize, size: usize },
     Lacks,

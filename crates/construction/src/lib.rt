@@ -1,4 +1,6 @@
 // Building: the nodes of a formula in a lent workspace, so that they can be searched again and again; and whether a workspace has them.
+#![tactic(auto)]
+
 ghost use Rattle.std.specs.Prelude.{◌≡◌, true, ◌*◌, ◌≤◌, eqb, length, take};
 ghost use Rattle.base.specs.Lists.{alike};
 ghost use Rattle.tableau.specs.Inner.{table_of, Formed};
@@ -10,7 +12,7 @@ ghost use Rattle.construction.specs.Inner.{Settled};
 
 use formula::{Outcome, Refusal, Table};
 
-#[derive(Drop)]
+#[derive(Clone, Copy)]
 pub enum Construction {
     Built(usize),
     Refused(u8),

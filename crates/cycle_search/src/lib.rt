@@ -1,5 +1,7 @@
 // The search for a shortest accepting cycle. Profiles are found layer by layer, those of runs of one length at a time, and the search stops
 // behind the first layer that has an accepting one.
+#![tactic(auto)]
+
 ghost use Rattle.std.specs.Prelude.{◌≡◌, ◌-◌, ◌≤◌, ◌<◌, length};
 ghost use Rattle.base.specs.Bits.{bit};
 ghost use Rattle.base.specs.Lists.{range, first};
@@ -13,7 +15,7 @@ use profile_search::Store;
 use traces::Ranks;
 
 // The accepting cycle of the profile with this number, or none.
-#[derive(Drop)]
+#[derive(Clone, Copy)]
 enum Cycle {
     Accepting(usize),
     None,
@@ -21,7 +23,7 @@ enum Cycle {
 
 // The first accepting profile, and how many there are of runs that are no longer; none among all profiles, and how many these are; or a
 // layer that there is no room for before that is known.
-#[derive(Drop)]
+#[derive(Clone, Copy)]
 pub enum Sought {
     Accepting { profile: usize, count: usize },
     Nowhere(usize),

@@ -1,5 +1,7 @@
 // The decision: whether any lasso meets a formula, with the first of the shortest witnesses (MEANING 5.4); and the same as a search over
 // nodes that were built before.
+#![tactic(auto)]
+
 ghost use Rattle.std.specs.Prelude.{◌≡◌, ◌≤◌, length};
 ghost use Rattle.tableau.specs.Inner.{table_of};
 ghost use Rattle.construction.specs.Construction.{nodes_size};
@@ -12,7 +14,7 @@ use cycle_search::Sought;
 use formula::{Outcome, Refusal, Table};
 use profile_search::Store;
 
-#[derive(Drop)]
+#[derive(Clone, Copy)]
 pub enum Verdict {
     Satisfiable {
         stem: usize,

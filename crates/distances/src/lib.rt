@@ -1,5 +1,7 @@
 // Shortest closed walks of a relation between vertices below 1,024, and how many steps each vertex is away from one on such a walk. Sets of
 // vertices are bits of sixteen words. The search goes backwards, from a vertex to those with a step to it, level by level.
+#![tactic(auto)]
+
 ghost use Rattle.std.specs.Prelude.{◌≡◌, ℕ, ◌*◌, ◌≤◌, ◌<◌, T, length};
 ghost use Rattle.relation.specs.Relation.{linked};
 ghost use Rattle.distances.specs.Walks.{Steps, Answered};
@@ -8,7 +10,7 @@ ghost use Rattle.distances.specs.Inner.{Rows, has_vertex, in_word, Joined, Expan
 use relation::BLOCK_WORDS;
 
 // The shortest closed walk: the first vertex that has one so short, and how many steps it has.
-#[derive(Drop)]
+#[derive(Clone, Copy)]
 pub enum Cycle {
     Through { vertex: usize, length: usize },
     Nowhere,
@@ -19,7 +21,7 @@ pub const UNREACHED: u16 = 1024;
 
 // The best of the vertices passed: the first that has a closed walk of so many steps, the fewest. Until there is one, the length is
 // count + 1, which is longer than any shortest closed walk.
-#[derive(Drop)]
+#[derive(Clone, Copy)]
 struct Found {
     vertex: usize,
     length: usize,

@@ -34,7 +34,7 @@ ended-from : (n : ℕ) (f : Formula) (h : Head) (x : List ℕ) → ended f (move
 ended-from n f h [] = refl
 ended-from n f h (b ∷ x) = refl
 
-whole_from : {total d e : ℕ} {x y : Read Formula} (n : ℕ) → Alike (Stopped total) (◌+◌ n) (Near (Same total) d e 1) x y →
+whole_from : {total d e : ℕ} (n : ℕ) {x y : Read Formula} → Alike (Stopped total) (◌+◌ n) (Near (Same total) d e 1) x y →
     whole y ≡ counted_from n (whole x)
 whole_from n (Alike.refused s) = refl
 whole_from n (Alike.got {a} {h} r) = rw (← r.alike.same) (ended-from n a h h.left)

@@ -117,6 +117,7 @@ both o second (Comes.unbound place p) go = Comes.unbound place (λ c. p c.0)
 answered-yes : {A : Type 0} (t : Bool) → T t → (why : ℕ → Refusal) (f : Unit {0} → Reader A) (h : Head)
     → and_then f (answered t why h) ≡ f tt h
 answered-yes true s why f h = refl
+answered-yes {A = A} false s why f h = elim s [ ]
 
 -- and one whose answer is no
 answered-no : {A : Type 0} (t : Bool) → t ≡ false → (why : ℕ → Refusal) (f : Unit {0} → Reader A) (h : Head)
@@ -134,6 +135,7 @@ opcode-spelled (Opcode.pair false) k = refl
 opcode-spelled Opcode.next k = refl
 opcode-spelled (Opcode.fix true) k = refl
 opcode-spelled (Opcode.fix false) k = refl
+opcode-spelled Rattle.formula.specs.Reading.unknown k = elim k [ ]
 
 -- question 4 where there is room
 room : (op : Opcode) (h : Head) (l : List ℕ) → Fits h (load_of op) → T (within op (behind h l))

@@ -269,9 +269,9 @@ module _ (operator : ℕ → Operator) (end : ℕ → ℕ) (count : ℕ) where
   each {e} (Formula.leaf l) h = each_first h (none (e + 1) (e + 1) (omega arith))
   each {e} (Formula.variable d) h = each_first h (none (e + 1) (e + 1) (omega arith))
   each {e} (Formula.pair o a b) h =
-      each_to (e + (1 + (size a + size b))) (omega arith) (each_first h (each-join (each a (occurs_left h)) (each b (occurs_right h))))
-  each {e} (Formula.next a) h = each_to (e + (1 + size a)) (omega arith) (each_first h (each a (occurs_next h)))
-  each {e} (Formula.fix g a) h = each_to (e + (1 + size a)) (omega arith) (each_first h (each a (occurs_body h)))
+      each_to (e + (1 + (size a + size b))) (omega arith) (each_first h (each-join (each {e = e + 1} a (occurs_left h)) (each {e = e + 1 + size a} b (occurs_right h))))
+  each {e} (Formula.next a) h = each_to (e + (1 + size a)) (omega arith) (each_first h (each {e = e + 1} a (occurs_next h)))
+  each {e} (Formula.fix g a) h = each_to (e + (1 + size a)) (omega arith) (each_first h (each {e = e + 1} a (occurs_body h)))
 
   -- every number from e up to the end of what stands there
   pub located : {e : ℕ} {guards : Guards} {binders : List ℕ} {f : Formula} → Occurs e guards binders f → (x : ℕ) → e ≤ x → x < end e

@@ -1,4 +1,6 @@
 // Reading a formula: bytes into its table of subformulas, or a refusal.
+#![tactic(auto)]
+
 ghost use Rattle.std.specs.Prelude.{◌≡◌, List, ℕ, ◌+◌, ◌≤◌, ◌<◌, length};
 ghost use Rattle.formula.specs.Refusal.{code_of, place_of};
 ghost use Rattle.formula.specs.Reading.{opcode, reading, within as allowed};
@@ -34,19 +36,19 @@ const LEAST: u8 = 9;
 const GREATEST: u8 = 10;
 
 // The number of a subformula (document 01: an entry), kept apart from positions on a lasso.
-#[derive(Drop)]
+#[derive(Clone, Copy)]
 pub struct Subformula(pub usize);
 
 // The subformulas: how many, and their rows. The layout of the rows is said above `written`; code elsewhere asks `operator_at`, `is_or`,
 // `is_next`, `is_fixpoint` and `end`.
-#[derive(Drop)]
+#[derive(Clone, Copy)]
 pub struct Table {
     pub count: usize,
     pub rows: [u8; 144],
 }
 
 // What a subformula is: its operator with the numbers of its operands, a signal's number, or the number of a variable's binder.
-#[derive(Drop)]
+#[derive(Clone, Copy)]
 pub enum Operator {
     Constant(bool),
     Signal {
@@ -68,7 +70,7 @@ pub enum Operator {
 
 // Why reading stopped: the refusal's code and the byte's place; or, of 8, the place of the variable's operand and that of the byte of its
 // binder.
-#[derive(Drop)]
+#[derive(Clone, Copy)]
 pub enum Refusal {
     AtByte { code: u8, at: usize },
     Unguarded { at: usize, binder_at: usize },
@@ -96,21 +98,21 @@ pub fn place_of(why: Refusal) -> usize
     }
 }
 
-#[derive(Drop)]
+#[derive(Clone, Copy)]
 pub enum Outcome {
     Accepted,
     Refused(Refusal),
 }
 
 // What reading came to. With a refusal the table is empty.
-#[derive(Drop)]
+#[derive(Clone, Copy)]
 pub struct Reading {
     pub outcome: Outcome,
     pub table: Table,
 }
 
 // Where reading stands: the byte's place, and how many operators, or, next and fixpoints were read.
-#[derive(Drop)]
+#[derive(Clone, Copy)]
 struct Head {
     at: usize,
     count: usize,
@@ -120,7 +122,7 @@ struct Head {
 }
 
 // The enclosing fixpoints, outermost first, by their numbers and by the places of their bytes, and how many of them have a next inside.
-#[derive(Drop)]
+#[derive(Clone, Copy)]
 struct Scope {
     depth: usize,
     guarded: usize,
@@ -129,7 +131,7 @@ struct Scope {
 }
 
 // What reading a formula inside another one came to: where reading stands now, and the rows so far.
-#[derive(Drop)]
+#[derive(Clone, Copy)]
 struct Parsed {
     outcome: Outcome,
     head: Head,
@@ -137,7 +139,7 @@ struct Parsed {
 }
 
 // A byte that was read, with where reading stands behind it.
-#[derive(Drop)]
+#[derive(Clone, Copy)]
 enum Taken {
     Byte(u8, Head),
     Refused(Refusal),
@@ -397,7 +399,7 @@ fn read_at(s: &[u8], at: usize) -> Reading
 }
 
 // The bytes of a formula together with the place of the byte that reading begins at.
-#[derive(Drop)]
+#[derive(Clone, Copy)]
 struct Reader<'a> {
     src: &'a [u8],
     at: usize,

@@ -1,5 +1,7 @@
 // Whether one lasso meets all formulas of a catalogue (MEANING 10; document 02: a whole handover file), by their conjunction. Where none
 // does, an unsatisfiable core: some of the formulas, which no lasso meets, and without any one of them some lasso does.
+#![tactic(auto)]
+
 ghost use Rattle.std.specs.Prelude.{◌≡◌, true, false, ◌+◌, ◌≤◌, ◌<◌, length, get_or, drop};
 ghost use Rattle.base.specs.Bits.{word};
 ghost use Rattle.catalogue.specs.Records.{records};
@@ -21,7 +23,7 @@ use formula::{Outcome, Refusal};
 
 // What comes of a catalogue: 30, 34, a formula's refusal of reading, 11 to 13, 35, MET, NOT (MEANING 10.2, 10.3). A subset of the formulas
 // is a word here, bit i for the formula at position i.
-#[derive(Drop)]
+#[derive(Clone, Copy)]
 pub enum Joint {
     Damaged(usize),
     Miscounted,
@@ -49,7 +51,7 @@ pub const MAX_FORMULAS: usize = 8;
 
 // Where the formulas of a catalogue stand in it. A count of nine says that there are more than eight; the ninth place is then that of the
 // last of them.
-#[derive(Drop)]
+#[derive(Clone, Copy)]
 struct Places {
     starts: [usize; 9],
     sizes: [usize; 9],
@@ -57,33 +59,33 @@ struct Places {
 }
 
 // How a catalogue ends: with 1 to 8 formulas, with another number of them, or at a fault.
-#[derive(Drop)]
+#[derive(Clone, Copy)]
 enum Ending {
     Whole,
     Miscounted,
     Broken(usize),
 }
 
-#[derive(Drop)]
+#[derive(Clone, Copy)]
 struct Collected {
     ending: Ending,
     places: Places,
 }
 
-#[derive(Drop)]
+#[derive(Clone, Copy)]
 enum Checked {
     Read,
     Not { position: usize, why: Refusal },
 }
 
 // Some of the formulas, by their positions.
-#[derive(Drop)]
+#[derive(Clone, Copy)]
 struct Subset {
     has: [bool; 8],
 }
 
 // What a decision says of some of the formulas.
-#[derive(Drop)]
+#[derive(Clone, Copy)]
 enum Attempt {
     Met,
     Unmet,
@@ -91,7 +93,7 @@ enum Attempt {
 }
 
 // What leaving out formulas came to, with a subset's word.
-#[derive(Drop)]
+#[derive(Clone, Copy)]
 enum Shrunk {
     Stuck(u8),
     Core(u8),

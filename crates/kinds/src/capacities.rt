@@ -5,7 +5,7 @@ use lines::say;
 
 // What a line asks for: N and M, how much of the two areas is lent, and whether they are shown afterwards. A broken line asks for more
 // bytes than there are.
-#[derive(Drop)]
+#[derive(Clone, Copy)]
 pub struct Case {
     pub n: usize,
     pub m: usize,

@@ -9,7 +9,7 @@ use safety::Verdict;
 
 // What a line asks for: N, how much of the two areas is lent, and whether they are shown afterwards. A broken line asks for more bytes than
 // there are.
-#[derive(Drop)]
+#[derive(Clone, Copy)]
 struct Case {
     n: usize,
     work: usize,

@@ -1,5 +1,7 @@
 // Kinds of line of the test runner that are checked apart from the program: a module each with a function `outcome`, and `capacities` with
 // what several have in common.
+#![tactic(auto)]
+
 pub mod capacities;
 pub mod edits;
 pub mod greatest;

@@ -1,4 +1,6 @@
 // The truth of a formula on a lasso: bit e of word i says that subformula e is true at position i.
+#![tactic(auto)]
+
 ghost use Rattle.std.specs.Prelude.{◌≡◌, false, cond, not, ◌++◌, ℕ, ◌+◌, ◌≤◌, ◌<◌, eqb, length, drop, replicate};
 ghost use Rattle.base.specs.Bits.{bit};
 ghost use Rattle.formula.specs.Access.{decoded, Fits};
@@ -13,11 +15,11 @@ ghost use Rattle.lasso.specs.Inner.{ClosedLabelled, TruthFound, Judged};
 use formula::{Operator, Outcome, Refusal, Subformula, Table};
 
 // The number of a position on a lasso (document 01: a place), kept apart from subformulas.
-#[derive(Drop)]
+#[derive(Clone, Copy)]
 pub struct Position(pub usize);
 
 // The truth of a formula on a lasso, a refusal's code, or a refusal of reading.
-#[derive(Drop)]
+#[derive(Clone, Copy)]
 pub enum Truth {
     Holds(bool),
     Refused(u8),
@@ -119,7 +121,7 @@ fn closed(rows: &[u8; 144], s: Subformula) -> bool
 }
 
 // The columns that the rounds of a fixpoint move, as a list in which each stands behind those that it needs at the same position.
-#[derive(Drop)]
+#[derive(Clone, Copy)]
 struct Moving {
     list: [u8; 48],
     count: usize,

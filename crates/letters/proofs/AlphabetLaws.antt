@@ -20,6 +20,8 @@ differ_some false false h = absurd h
 
 differ_one : (a b : Bool) → T (not (same_bit a b)) → T a → T b → ⊥
 differ_one true true h k l = h
+differ_one false b h k l = elim k [ ]
+differ_one true false h k l = elim l [ ]
 
 differ_in : (a b : Bool) → T a ⊎ T b → (T a → T b → ⊥) → T (not (same_bit a b))
 differ_in true true s n = n tt tt

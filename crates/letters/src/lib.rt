@@ -1,4 +1,6 @@
 // The letters that there are, and what a transition requires of one.
+#![tactic(auto)]
+
 ghost use Rattle.std.specs.Prelude.{◌≡◌, ◌<◌};
 ghost use Rattle.base.specs.Lists.{all};
 ghost use Rattle.base.specs.Bits.{bit};
@@ -12,7 +14,7 @@ const PREVIOUS_SCALE: usize = 14;
 const CURRENT_SCALE: usize = 15;
 
 // What a saturated set requires of a letter: in each word bit j is for signal j, to be present in it and to be absent.
-#[derive(Drop)]
+#[derive(Clone, Copy)]
 pub struct Requirement {
     pub present: u16,
     pub absent: u16,

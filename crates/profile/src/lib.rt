@@ -1,1 +1,3 @@
 // Traces, profiles and which of them are rejecting.
+
+#![tactic(auto)]

@@ -1,4 +1,6 @@
 // Profiles in the lent area, found breadth first: those of one transition, and then each profile followed by each of these.
+#![tactic(auto)]
+
 ghost use Rattle.std.specs.Prelude.{◌≡◌, [], ◌∷◌, ℕ, ◌+◌, ◌*◌, ◌≤◌, ◌<◌, length, get_or};
 ghost use Rattle.base.specs.Spread.{seen};
 ghost use Rattle.profile_tables.specs.Runs.{same_profile, follow, longer, layer, singles_of, singles};
@@ -15,7 +17,7 @@ use tableau::{Core, Lookup, NodeNumber, Target};
 use traces::Ranks;
 
 // A profile's nodes, 1 + the number of the profile that it goes on from (0 for none), and its last letter.
-#[derive(Drop)]
+#[derive(Clone, Copy)]
 pub struct Header {
     pub first: NodeNumber,
     pub last: NodeNumber,
@@ -24,7 +26,7 @@ pub struct Header {
 }
 
 // Where profiles are kept: from byte base on, at most capacity of them, over n operands of next.
-#[derive(Drop)]
+#[derive(Clone, Copy)]
 pub struct Store {
     pub base: usize,
     pub capacity: usize,
@@ -32,7 +34,7 @@ pub struct Store {
 }
 
 // Where a transition starts: a node, by its number and its set, and the choice word.
-#[derive(Drop)]
+#[derive(Clone, Copy)]
 struct Source {
     number: NodeNumber,
     set: u64,

@@ -1,6 +1,8 @@
 // A relation between numbers below 1,024, as bits of words. The numbers that it leads from come in blocks of 64. A block has 1,024 words,
 // one for each number that is led to, whose bits say from which numbers of the block. So the first block alone has all that leads from
 // numbers below 64.
+#![tactic(auto)]
+
 ghost use Rattle.std.specs.Prelude.{◌≡◌, ◌<◌, length};
 ghost use Rattle.relation.specs.Relation.{block_words, relation_words, HasBlock, Related, Unrelated, Widened};
 

@@ -1,6 +1,8 @@
 // The decision of formulas whose fixpoints are all greatest (MEANING 5.14). Every cycle of such a formula is accepting, so it needs room
 // for nodes and for nothing else: the transitions between them are noted as a relation, in which a shortest cycle is found by numbers
 // alone.
+#![tactic(auto)]
+
 ghost use Rattle.std.specs.Prelude.{◌≡◌, List, ℕ, ◌+◌, ◌*◌, ◌≤◌, ◌<◌, length};
 ghost use Rattle.formula.specs.Access.{decoded};
 ghost use Rattle.profile.specs.Profiles.{is_least};
@@ -19,7 +21,7 @@ use lasso::Position;
 use tableau::{Lookup, NodeNumber, Target};
 
 // What there is too little of, or what is out of range: the questions 11 to 14.
-#[derive(Drop)]
+#[derive(Clone, Copy)]
 pub enum Shortage {
     Capacity,
     Workspace,
@@ -27,7 +29,7 @@ pub enum Shortage {
     Nodes,
 }
 
-#[derive(Drop)]
+#[derive(Clone, Copy)]
 pub enum Verdict {
     Satisfiable {
         stem: usize,
@@ -53,28 +55,28 @@ pub fn shortage_code(s: Shortage) -> u8
 }
 
 // The place of the first least fixpoint.
-#[derive(Drop)]
+#[derive(Clone, Copy)]
 enum Least {
     At(usize),
     Nowhere,
 }
 
 // What the questions 11 to 13 come to.
-#[derive(Drop)]
+#[derive(Clone, Copy)]
 enum Room {
     Granted,
     Short(Shortage),
 }
 
 // What a transition is for the way round the cycle.
-#[derive(Drop)]
+#[derive(Clone, Copy)]
 enum Onward {
     Leads { to: NodeNumber, letter: u16 },
     Elsewhere,
 }
 
 // A transition by its node and its letter.
-#[derive(Drop)]
+#[derive(Clone, Copy)]
 struct Step {
     to: NodeNumber,
     letter: u16,

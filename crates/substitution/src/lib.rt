@@ -1,5 +1,7 @@
 // Another formula in place of a subformula (MEANING 11; document 02: editing a rule): the spliced bytes, and the table that reading them
 // gives.
+#![tactic(auto)]
+
 ghost use Rattle.std.specs.Prelude.{◌≡◌, true, ◌≤◌, ◌<◌, ltb, length, get_or, take};
 ghost use Rattle.formula.specs.Reading.{reading};
 ghost use Rattle.formula.specs.Rows.{operators_of, entries_of};
@@ -13,7 +15,7 @@ ghost use Rattle.substitution.specs.Inner.{ReadAs, spliced_at, Spans, Splices};
 use formula::{Outcome, Refusal, Subformula, Table};
 
 // Of which bytes reading speaks.
-#[derive(Drop)]
+#[derive(Clone, Copy)]
 pub enum Source {
     Old,
     New,
@@ -21,7 +23,7 @@ pub enum Source {
 }
 
 // What comes of a substitution: a refusal of reading, 37, or how many bytes there are now.
-#[derive(Drop)]
+#[derive(Clone, Copy)]
 pub enum Answer {
     Unread { source: Source, why: Refusal },
     Missing,
@@ -30,7 +32,7 @@ pub enum Answer {
 
 // The answer, with the table and the bytes. Refused, the table is the old formula's, or empty if that is refused itself, and the bytes are
 // zero.
-#[derive(Drop)]
+#[derive(Clone, Copy)]
 pub struct Substitution {
     pub answer: Answer,
     pub table: Table,
@@ -38,14 +40,14 @@ pub struct Substitution {
 }
 
 // Where a subformula's bytes begin, and the place behind the last of them.
-#[derive(Drop)]
+#[derive(Clone, Copy)]
 struct Span {
     from: usize,
     to: usize,
 }
 
 // As many bytes as reading looks at, and how many there are.
-#[derive(Drop)]
+#[derive(Clone, Copy)]
 struct Prefix {
     bytes: [u8; 97],
     count: usize,

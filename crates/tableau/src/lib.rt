@@ -1,4 +1,6 @@
 // The tableau of a formula: sets of subformulas as words, bit e for subformula e; transitions by choice words; nodes.
+#![tactic(auto)]
+
 ghost use Rattle.std.specs.Prelude.{◌≡◌, ◌+◌, ◌*◌, ◌^◌, ◌≤◌, ◌<◌, eqb, length, false};
 ghost use Rattle.base.specs.Bits.{bit, word, Lowest};
 ghost use Rattle.base.specs.Lists.{member, index};
@@ -21,18 +23,18 @@ use formula::{Operator, Subformula};
 use letters::Requirement;
 
 // The number of a node, kept apart from subformulas and positions.
-#[derive(Drop)]
+#[derive(Clone, Copy)]
 pub struct NodeNumber(pub usize);
 
 // Where a set stands among the nodes.
-#[derive(Drop)]
+#[derive(Clone, Copy)]
 pub enum Lookup {
     Number(NodeNumber),
     Absent,
 }
 
 // A node that a transition leads to: its set, the number of the node that it leads from, and its letter.
-#[derive(Drop)]
+#[derive(Clone, Copy)]
 pub struct Arrival {
     pub set: u64,
     pub from: NodeNumber,
@@ -40,7 +42,7 @@ pub struct Arrival {
 }
 
 // The node of an arrival among those known: how many there are then, or one more than there is room for, and its number.
-#[derive(Drop)]
+#[derive(Clone, Copy)]
 struct Added {
     known: usize,
     at: NodeNumber,
@@ -48,7 +50,7 @@ struct Added {
 
 // What one pass over a set of subformulas gathers: the two words of what it requires, whether it holds false, and the operands of its
 // nexts.
-#[derive(Drop)]
+#[derive(Clone, Copy)]
 struct Gathered {
     present: u16,
     absent: u16,
@@ -57,7 +59,7 @@ struct Gathered {
 }
 
 // A node on the way to its core: the set so far, the subformulas whose moves are still to be followed, and the ors, which wait.
-#[derive(Drop)]
+#[derive(Clone, Copy)]
 struct Closing {
     set: u64,
     fringe: u64,
@@ -66,7 +68,7 @@ struct Closing {
 
 // What every saturation of a node has in common: what the moves of all operators but the ors lead to; the ors among them, whose moves a
 // choice settles; what the set gathers; and whether that fails already, so that the node has no transition.
-#[derive(Drop)]
+#[derive(Clone, Copy)]
 pub struct Core {
     pub node: u64,
     pub set: u64,
@@ -76,7 +78,7 @@ pub struct Core {
 }
 
 // Where a transition leads, with what it requires of its letter, if it exists.
-#[derive(Drop)]
+#[derive(Clone, Copy)]
 pub enum Target {
     Leads { to: u64, required: Requirement },
     Nothing,

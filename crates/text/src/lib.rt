@@ -1,4 +1,6 @@
 // Text into a buffer. Each function writes from a place on, as far as there is room, and answers the place behind what it wrote.
+#![tactic(auto)]
+
 ghost use Rattle.std.specs.Prelude.{◌≡◌, [], ◌∷◌, ◌-◌, ◌<◌, take, drop};
 ghost use Rattle.io.specs.Counts.{IsPrefixLen};
 ghost use Rattle.text.specs.Text.{buffer, Wrote, Radix, each, letter_text, number_text, is_last};

@@ -1,5 +1,7 @@
 // The traces of a transition: for each subformula a byte with the priorities with which traces reach it, bit x for the x-th fixpoint and
 // bit 7 for none; and from these the triples.
+#![tactic(auto)]
+
 ghost use Rattle.std.specs.Prelude.{◌≡◌, true, false, [], ◌∷◌, ℕ, ◌+◌, ◌*◌, ◌^◌, ◌<◌, length, get_or};
 ghost use Rattle.base.specs.Bits.{bit};
 ghost use Rattle.formula.specs.Rows.{operator_at};
@@ -14,7 +16,7 @@ ghost use Rattle.traces.specs.Inner.{SweptMarks, TracesReached, Stored, RowFille
 use formula::{Operator, Subformula};
 
 // The ranks of the subformulas: how many next, or fixpoints, begin before each one; and how many next there are in all.
-#[derive(Drop)]
+#[derive(Clone, Copy)]
 pub struct Ranks {
     pub nexts: usize,
     pub next: [u8; 48],

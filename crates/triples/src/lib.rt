@@ -1,5 +1,7 @@
 // Sets of triples, joined and compared. A set is 144 bytes: byte 12 f + g has bit x for a trace from the f-th operand of next to the
 // g-th whose priority is the x-th fixpoint, bit 7 for the priority none.
+#![tactic(auto)]
+
 ghost use Rattle.std.specs.Prelude.{◌≡◌, ℕ, ◌+◌, ◌*◌, ◌≤◌, ◌<◌, length, get_or};
 ghost use Rattle.base.specs.Bits.{bit};
 ghost use Rattle.profile_tables.specs.Triples.{smaller, same_triples, join, laps, rejecting};

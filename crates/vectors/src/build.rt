@@ -7,7 +7,7 @@ use lines::field::{is_lent, lent, number, part, unbroken};
 use lines::{area, say};
 
 // What a line asks for: N, how many bytes are lent, and whether they are shown afterwards. A broken line asks for more than there are.
-#[derive(Drop)]
+#[derive(Clone, Copy)]
 struct Case {
     n: usize,
     work: usize,

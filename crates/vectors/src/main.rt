@@ -1,6 +1,8 @@
 // Runs lines of vectors from standard input and writes what each comes to. A line has an operation and its inputs, parted by bars; what
 // stands behind the last of them is passed over. A kind of line is a module with a function `outcome`, here or in `kinds`, and a number in
 // `kind`.
+#![tactic(auto)]
+
 mod build;
 mod decide;
 mod read;

@@ -15,7 +15,7 @@ use lines::field::{BROKEN, bytes, number_of, part, same, unbroken};
 use lines::{area, say};
 
 // What comes between building and searching, if it is made at all: the K that the search is handed, which byte is set, and to what.
-#[derive(Drop)]
+#[derive(Clone, Copy)]
 struct Edit {
     made: bool,
     nodes: usize,

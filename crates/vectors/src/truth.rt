@@ -7,7 +7,7 @@ use lines::{area, say};
 
 // What a line asks for: how long the stem is and how many letters there are, how many words are lent, and whether they are shown
 // afterwards. A broken line asks for more words than there are.
-#[derive(Drop)]
+#[derive(Clone, Copy)]
 struct Case {
     stem: usize,
     letters: usize,

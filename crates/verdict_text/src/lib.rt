@@ -1,5 +1,7 @@
 // The texts of verdicts and refusals (MEANING 6.2), put into a buffer from a place on. Each function answers the place
 // behind what it wrote.
+#![tactic(auto)]
+
 ghost use Rattle.text.specs.Text.{buffer, Wrote};
 ghost use Rattle.formula.specs.Refusal.{code_of, place_of};
 ghost use Rattle.verdict_text.specs.Texts.{met_text, not_text, verdict_text, lasso_text, program_text, refused_text, unread_text};

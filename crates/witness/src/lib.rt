@@ -1,5 +1,7 @@
 // The letters of a witness, written along what the searches note: of each node, and of each profile, what it goes on from and by which
 // letter. A chain of parents is followed twice: once to count its letters, and once to write them, the last first.
+#![tactic(auto)]
+
 ghost use Rattle.std.specs.Prelude.{◌≡◌, ◌+◌, ◌*◌, ◌<◌, length, set};
 ghost use Rattle.witness.specs.Letters.{OriginOf, stem_letters, cycle_letters, written, StemNoted, CycleKept, LettersFit};
 ghost use Rattle.witness.specs.Letters.{WitnessReady, WitnessWritten};
@@ -12,14 +14,14 @@ use tableau::NodeNumber;
 const ROOT: usize = 0;
 
 // The node that the search came from, and the letter of the transition between.
-#[derive(Drop)]
+#[derive(Clone, Copy)]
 struct Origin {
     parent: NodeNumber,
     letter: u16,
 }
 
 // How many letters the stem and the cycle have.
-#[derive(Drop)]
+#[derive(Clone, Copy)]
 pub struct Lengths {
     pub stem: usize,
     pub cycle: usize,

@@ -1,4 +1,6 @@
 // Decides the formula that stands on standard input, and prints the verdict with the first of the shortest witnesses (MEANING 5.4).
+#![tactic(auto)]
+
 ghost use Rattle.std.specs.Prelude.{length};
 ghost use Rattle.io.specs.Counts.{IsPrefixLen};
 ghost use Rattle.decision.specs.Verdict.{verdict};

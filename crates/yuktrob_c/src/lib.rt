@@ -1,6 +1,8 @@
 // The operations with the C calling convention: a slice comes as a pointer and a length, an array as a pointer, and each answer is one
 // number. What can be any place in memory does not fit beside a refusal, and is put into words that the caller lends; the bytes and the
 // table of an edit go into arrays.
+#![tactic(auto)]
+
 ghost use Rattle.std.specs.Prelude.{◌≡◌, ◌≤◌, ◌<◌, length};
 ghost use Rattle.formula.specs.Reading.{Reading, reading};
 ghost use Rattle.formula.specs.Rows.{entries_of};
