@@ -55,7 +55,7 @@ module _ {rows : List ℕ} {count : ℕ} (f : Formed rows count) (s : Subset) wh
     test_is : (w : Subset) → (within w s && possible os)
         ≡ (eqb (bit_and (word w) (word s)) (word w) && (not r.falsum && not (clash (gathered_words r))))
     unfolding possible
-    test_is w = rw (within_word w s, q.falsum_is, required-is)
+    test_is w = λ i. within_word w s i && (not (sym q.falsum_is i) && not (clash (sym required-is i)))
 
 -- a choice that is not met
 pub target-unmet : {rows : List ℕ} {count choice node set : ℕ} → Saturated rows count choice node set → (bit_and choice set ≡ choice → ⊥)

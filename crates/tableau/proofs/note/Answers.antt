@@ -1,0 +1,7 @@
+-- `tableau::note` writes the two numbers of a note.
+use native.Mathlib.Omega.{arith}
+use lib.ListN.{length-set}
+use Rattle.tableau.proofs.note.Goals as goal
+
+pub bounds-origins-j-2 : goal.bounds-origins-j-2
+bounds-origins-j-2 c = simp length-set (omega arith)
