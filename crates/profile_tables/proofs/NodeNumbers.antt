@@ -39,6 +39,7 @@ one_number (x ∷ xs) (Distinct.more n d) At.here (At.there b) =
 one_number (x ∷ xs) (Distinct.more n d) (At.there a) At.here =
     let (z, c, q) = at_unmap set_at xs a in absurd (n (z, at_in c, sym q))
 one_number (x ∷ xs) (Distinct.more n d) (At.there a) (At.there b) = ap suc (one_number xs d a b)
+one_number [] d {i = i} {j = j} {v = v} x3 _ = elim x3 [ ]
 
 pub number_at : (vs : List Subset) {v : Subset} → Memᴰ v vs → At vs (number_of vs v) v
 number_at vs {v} m = index_at (λ u. same_subset u v) vs (λ u h. subset_sound u v h) (subset_refl v) m
