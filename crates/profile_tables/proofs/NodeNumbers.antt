@@ -1,6 +1,6 @@
 -- Nodes by number: the code keeps the nodes as a list and speaks of them by where they stand in it, the root first. Each node has one
 -- number (`one_number`), the one that `number_of` finds (`number_at`), so equal numbers are equal nodes (`same-range`). Assumes nothing.
-use mathlib.Core.Path.{◌≡◌, refl, sym, ap, subst, subst⁻¹}
+use mathlib.Core.Path.{◌≡◌, refl, sym, ap, subst, subst⁻¹, ◌∙◌}
 use mathlib.Core.List.Memᴰ
 use mathlib.Core.List.{List, [], ◌∷◌, map, Memᴰ}
 use Prim.Native.Nat.{ℕ, suc, ◌+◌, ◌<◌}
@@ -32,14 +32,19 @@ pub tail-sets : (xs : List (Item Transition Subset)) → tail (sets xs) ≡ sets
 tail-sets [] = refl
 tail-sets (x ∷ xs) = refl
 
+-- two numbers at which the same set stands
+numbers_agree : (xs : List (Item Transition Subset)) → Distinct xs → {i j : ℕ} {v w : Subset} → At (sets xs) i v → At (sets xs) j w →
+    v ≡ w → i ≡ j
+numbers_agree [] d a b e = elim a [ ]
+numbers_agree (x ∷ xs) d At.here At.here e = refl
+numbers_agree (x ∷ xs) (Distinct.more n d) At.here (At.there b) e =
+    let (z, c, q) = at_unmap set_at xs b in absurd (n (z, at_in c, e ∙ sym q))
+numbers_agree (x ∷ xs) (Distinct.more n d) (At.there a) At.here e =
+    let (z, c, q) = at_unmap set_at xs a in absurd (n (z, at_in c, sym e ∙ sym q))
+numbers_agree (x ∷ xs) (Distinct.more n d) (At.there a) (At.there b) e = ap suc (numbers_agree xs d a b e)
+
 pub one_number : (xs : List (Item Transition Subset)) → Distinct xs → {i j : ℕ} {v : Subset} → At (sets xs) i v → At (sets xs) j v → i ≡ j
-one_number (x ∷ xs) d At.here At.here = refl
-one_number (x ∷ xs) (Distinct.more n d) At.here (At.there b) =
-    let (z, c, q) = at_unmap set_at xs b in absurd (n (z, at_in c, sym q))
-one_number (x ∷ xs) (Distinct.more n d) (At.there a) At.here =
-    let (z, c, q) = at_unmap set_at xs a in absurd (n (z, at_in c, sym q))
-one_number (x ∷ xs) (Distinct.more n d) (At.there a) (At.there b) = ap suc (one_number xs d a b)
-one_number [] d {i = i} {j = j} {v = v} x3 _ = elim x3 [ ]
+one_number xs d a b = numbers_agree xs d a b refl
 
 pub number_at : (vs : List Subset) {v : Subset} → Memᴰ v vs → At vs (number_of vs v) v
 number_at vs {v} m = index_at (λ u. same_subset u v) vs (λ u h. subset_sound u v h) (subset_refl v) m

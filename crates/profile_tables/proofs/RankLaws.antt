@@ -168,13 +168,16 @@ module _ (t : Table) where
         lower none (fixpoint b) = absurd (omega (arith, at_lt b))
         lower none none = omega arith
 
-    pub priorities_rank : {k l x : ℕ} → PriorityRank k x → PriorityRank l x → k ≡ l
-    priorities_rank {k} {l} (fixpoint {x} a) (fixpoint b) = by (dec_lt k l) (dec_lt l k)
+    ranks_agree : {k l x y : ℕ} → PriorityRank k x → PriorityRank l y → x ≡ y → k ≡ l
+    ranks_agree {k} {l} (fixpoint {x} a) (fixpoint {x = y} b) e = by (dec_lt k l) (dec_lt l k)
       where
         by : Dec (k < l) → Dec (l < k) → k ≡ l
         by (yes p) q = absurd (omega (arith, fixes_rise t 0 a b p))
         by (no p) (yes q) = absurd (omega (arith, fixes_rise t 0 b a q))
         by (no p) (no q) = omega arith
-    priorities_rank (fixpoint a) none = absurd (omega (arith, fix_lt a))
-    priorities_rank none (fixpoint b) = absurd (omega (arith, fix_lt b))
-    priorities_rank none none = refl
+    ranks_agree (fixpoint a) none e = absurd (omega (arith, fix_lt a))
+    ranks_agree none (fixpoint b) e = absurd (omega (arith, fix_lt b))
+    ranks_agree none none e = refl
+
+    pub priorities_rank : {k l x : ℕ} → PriorityRank k x → PriorityRank l x → k ≡ l
+    priorities_rank a b = ranks_agree a b refl
