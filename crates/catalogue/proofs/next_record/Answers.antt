@@ -10,7 +10,10 @@ returns-then-length-at c =
 
 pub returns-then-catalogue-at-ne-MARK : goal.returns-then-catalogue-at-ne-MARK
 returns-then-catalogue-at-ne-MARK c =
-    record { is = sym (at-unmarked c.args.catalogue.now c.args.at c.args.least c.if-length-at.false c.if-catalogue-at-ne-MARK.true); small = tt }
+    record {
+      is = sym (at-unmarked c.args.catalogue.now c.args.at c.args.least c.if-length-at.false c.if-catalogue-at-ne-MARK.true);
+      small = tt;
+    }
 
 pub returns-then-length-at-lt3 : goal.returns-then-length-at-lt3
 returns-then-length-at-lt3 c =
@@ -22,7 +25,11 @@ returns-then-length-at-lt3 c =
 
 pub returns-then-number-least : goal.returns-then-number-least
 returns-then-number-least c =
-    record { is = sym (at-unrisen c.args.catalogue.now c.args.at c.args.least c.if-catalogue-at-ne-MARK.false (omega arith) (omega (arith, c.number_at-number.ensures.0))); small = tt }
+    record {
+      is = sym (at-unrisen c.args.catalogue.now c.args.at c.args.least c.if-catalogue-at-ne-MARK.false (omega arith)
+          (omega (arith, c.number_at-number.ensures.0)));
+      small = tt;
+    }
 
 pub returns-then-length-at-lt4 : goal.returns-then-length-at-lt4
 returns-then-length-at-lt4 c =
@@ -42,4 +49,8 @@ returns-then-length-start c =
 
 pub returns : goal.returns
 returns c =
-    record { is = as_whole c.args.catalogue.now c.args.at c.args.least c.number_at-number.ensures.0 c.wide-size.ensures c.if-catalogue-at-ne-MARK.false c.if-number-least.false (omega (arith, c.wide-size.ensures)); small = c.number_at-number.ensures.1 }
+    record {
+      is = as_whole c.args.catalogue.now c.args.at c.args.least c.number_at-number.ensures.0 c.wide-size.ensures
+          c.if-catalogue-at-ne-MARK.false c.if-number-least.false (omega (arith, c.wide-size.ensures));
+      small = c.number_at-number.ensures.1;
+    }
