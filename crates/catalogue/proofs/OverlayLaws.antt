@@ -4,7 +4,7 @@ use mathlib.Core.Path.{◌≡◌, refl, sym, ap, subst, ◌∙◌}
 use mathlib.Core.List.{List, Memᴰ}
 use mathlib.Core.Option.{none, some}
 use Prim.Native.Nat.{ℕ}
-use Rattle.catalogue.specs.Catalogue.{number, placed}
+use Rattle.catalogue.specs.Catalogue.{placed}
 use Rattle.catalogue.specs.Records.{Records, records}
 use Rattle.catalogue.specs.Location.{numbered, chosen, location}
 use Rattle.catalogue.specs.declared.Record.{Record}

@@ -1,27 +1,15 @@
--- What a slice of a slice is (MEANING 9.4): where the walk says that it points, and its elements, are the part (`view-part`); and for
--- `lookup`, what is handed back by a location that was matched. Assumes nothing.
+-- For `lookup` (MEANING 9.4): what is handed back by a location that was matched, and that the part of a layer's catalogue is the part that
+-- is handed back. Assumes nothing.
 use mathlib.Core.Path.{◌≡◌, sym, ap, subst, ◌∙◌}
 use mathlib.Core.List.{List}
-use Prim.Native.Nat.{ℕ, ◌+◌, ◌-◌, ◌≤◌}
-use native.Mathlib.Omega.{arith}
-use lib.ListN.{length, take, drop}
+use Prim.Native.Nat.{ℕ, ◌≤◌}
+use lib.ListN.{length}
 use denote.Ref.{Bor}
-use borrow.Rule.Slice.PartAt.{sl_part}
-use borrow.Rule.Slice.Shared.{by_byte}
 use Rattle.catalogue.specs.Contract.{of_layer, View, view, part, handed}
 use Rattle.catalogue.specs.declared.Layer.{Layer}
 use Rattle.catalogue.specs.declared.Location.{Location}
 use Rattle.catalogue.specs.declared.Location.TheVariants.{Found}
 use Rattle.catalogue.proofs.LocationLaws.{of_layer-map}
-
-pub view-part : (s : Bor (List ℕ)) (start size name : ℕ)
-    → view (sl_part s (by_byte start s.ref_ptr.1) start (start + size) name) ≡ part (view s) start size
-view-part s start size name =
-    ap (λ (k : ℕ). view-at k (start + size - start)) {x = start + s.ref_ptr.1} {y = s.ref_ptr.1 + start} (omega arith)
-    ∙ ap (λ (k : ℕ). view-at (s.ref_ptr.1 + start) k) {x = start + size - start} {y = size} (omega arith)
-  where
-    view-at : (offset size : ℕ) → View
-    view-at offset size = record { block = s.ref_ptr.0; offset = offset; bytes = take size (drop start s.now) }
 
 module _ (overlay base : Bor (List ℕ)) where
   -- what is handed back by a location that was matched, m, is so by the location itself

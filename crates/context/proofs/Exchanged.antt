@@ -41,7 +41,7 @@ module _ {A : Type 0} {P : ℕ → A → A → Type 0} {g : A → A} {m : ℕ} {
   exchanged-right {k} {e} n (x ∷ front) l h t =
       let q : n + e ≡ 1 + (length front + e) = omega arith in
       let r : k + n ≡ k + 1 + length front = omega arith in
-      rw q (there h.0 (exchanged-right (length front) front refl h.1 (rw r at t)))
+      rw q (there h.0 (exchanged-right {k = k + 1} (length front) front refl h.1 (rw r at t)))
 
   pub exchanged_before : {k e : ℕ} {old new : List A} (d : A) → Exchanged P g m mid k e old new
       → (i : ℕ) → i < e → P (k + i) (get_or old i d) (get_or new i d)
