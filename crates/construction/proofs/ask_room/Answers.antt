@@ -12,15 +12,15 @@ in_range c = range-granted c.before.before.before.args.node-capacity c.before.be
 
 pub returns-then-not-between : goal.returns-then-not-between
 returns-then-not-between c =
-    settled_11 c.args.node-capacity c.args.workspace.now (table_of c.args.t.rows c.args.t.count)
-    (range-refused c.args.node-capacity c.between.ensures c.if-not-between.true-raw)
+    settled_11 c.args.node_capacity c.args.workspace.now (table_of c.args.t.rows c.args.t.count)
+    (range-refused c.args.node_capacity c.between.ensures c.if-not-between.true-raw)
 
 pub overflow_mul-asked : goal.overflow_mul-asked
 overflow_mul-asked c = omega (arith, (in_range c).1)
 
 pub returns-then-workspace-asked : goal.returns-then-workspace-asked
 returns-then-workspace-asked c =
-    settled_12 c.args.node-capacity c.args.workspace.now (table_of c.args.t.rows c.args.t.count) (in_range c) c.if-workspace-asked.true
+    settled_12 c.args.node_capacity c.args.workspace.now (table_of c.args.t.rows c.args.t.count) (in_range c) c.if-workspace-asked.true
 
 pub nodes-nodes-requires : goal.nodes-nodes-requires
 nodes-nodes-requires c =
@@ -29,10 +29,10 @@ nodes-nodes-requires c =
 
 pub returns-then-node_capacity-nodes : goal.returns-then-node_capacity-nodes
 returns-then-node_capacity-nodes c =
-    settled_14 c.args.node-capacity c.args.workspace.now (table_of c.args.t.rows c.args.t.count) (in_range c) c.if-workspace-asked.false
+    settled_14 c.args.node_capacity c.args.workspace.now (table_of c.args.t.rows c.args.t.count) (in_range c) c.if-workspace-asked.false
     c.clear.ensures c.nodes-nodes.ensures.nodes_held c.if-node_capacity-nodes.true c.clear-then-node_capacity-nodes.ensures
 
 pub returns : goal.returns
 returns c =
-    settled-built c.args.node-capacity c.args.workspace.now (table_of c.args.t.rows c.args.t.count) (in_range c) c.if-workspace-asked.false
+    settled-built c.args.node_capacity c.args.workspace.now (table_of c.args.t.rows c.args.t.count) (in_range c) c.if-workspace-asked.false
     c.clear.ensures c.nodes-nodes.ensures.nodes_held c.if-node_capacity-nodes.false

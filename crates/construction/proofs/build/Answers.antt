@@ -10,11 +10,11 @@ ask_room-requires c =
 
 pub returns-in-Refused : goal.returns-in-Refused
 returns-in-Refused c =
-    unread_constructed c.args.bytes.now c.args.node-capacity c.args.workspace.now
+    unread_constructed c.args.bytes.now c.args.node_capacity c.args.workspace.now
     (reading-refused c.args.bytes.now c.read-r.result c.read-r.ensures.outcome c.in-Refused.is)
 
 pub returns-in-Accepted : goal.returns-in-Accepted
 returns-in-Accepted c =
-    held_constructed c.args.bytes.now c.args.node-capacity c.args.workspace.now
+    held_constructed c.args.bytes.now c.args.node_capacity c.args.workspace.now
     (reading-held c.args.bytes.now c.read-r.result c.read-r.ensures.outcome c.in-Accepted.is)
     c.ask_room.ensures
