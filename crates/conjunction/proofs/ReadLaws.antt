@@ -66,6 +66,7 @@ module _ (test : Opcode → Bool) (least : (f : Formula) → tally test (conjunc
   part_tally (Part.keep {x} {xs = []} {ys = []} p) = omega arith
   part_tally (Part.keep {x} {xs = []} {ys = y ∷ ys} p) = omega arith
   part_tally (Part.keep {x} {xs = z ∷ xs} {ys = y ∷ ys} p) = omega (arith, part_tally p)
+  part_tally (Part.keep {x} {xs = z ∷ xs} {ys = []} p) = elim p [ ]
 
 part-limits : {gs fs : List Formula} → Part gs fs → WithinLimits (conjunction fs) → Ranged (conjunction gs)
     → WithinLimits (conjunction gs)
@@ -98,3 +99,4 @@ pub part_read : {c : List ℕ} {cs bs : List (List ℕ)} {fs : List Formula} →
 part_read {bs = bs} p (Accepted.more d a) {h} e =
     let r = part-accepted p (Accepted.more d a) in
     part-accepts r.1 r.2 (subst WithinLimits (conjunction-accepted (Accepted.more d a) e) (parse-limited (conjoined bs) h e))
+part_read p Accepted.none e = elim p [ ]

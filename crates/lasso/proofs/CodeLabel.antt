@@ -2,7 +2,7 @@
 use mathlib.Core.Path.{◌≡◌, refl, sym, ap, subst, ◌∙◌}
 use mathlib.Core.Logic.{inl, inr}
 use mathlib.Core.Bool.{Bool, true, false}
-use mathlib.Core.List.{List, [], ◌∷◌, map}
+use mathlib.Core.List.{List, [], map}
 use Prim.Native.Nat.{ℕ, ◌+◌, ◌≤◌, ◌<◌}
 use native.Mathlib.Omega.{arith}
 use lib.ListN.{length, get_or, length-map}
@@ -17,13 +17,13 @@ use Rattle.formula.specs.declared.Operator as code
 use Rattle.formula.specs.Rows.{operator_at, end_at}
 use Rattle.formula.proofs.Limits.{size-some}
 use Rattle.formula.proofs.WellFormed.{sits_first}
-use Rattle.lasso.specs.Lasso.{Lasso, Positions, leaf_at, joined, before, holds, inner, sets}
+use Rattle.lasso.specs.Lasso.{Lasso, Positions, leaf_at, joined, holds, inner, sets}
 use Rattle.lasso.specs.Inner.{after, local_at, Swept, FormulaInRows, FormulaAt, WordsRoom, column, columns, ColumnsKept}
 use Rattle.lasso.specs.Inner.{Labelled, ClosedKnown}
 use Rattle.lasso.specs.Inner.{Evaluated}
 use Rattle.lasso.proofs.Monotone.{length-combine, length_before}
 use Rattle.lasso.proofs.Consistent.{getD_combine, getD_before}
-use Rattle.lasso.proofs.CodeOperators.{Among, by_leaf}
+use Rattle.lasso.proofs.CodeOperators.{NoOperand, by_leaf}
 use Rattle.lasso.proofs.CodeWritten.{written-left, written-right, written_next, Cases, by_operator, held-some, held-inside, nested}
 use Rattle.lasso.proofs.CodeWritten.{pair-operands, next-operand}
 use Rattle.lasso.proofs.CodeClosed.{known_kept, known-part, known-join}
@@ -180,7 +180,7 @@ module _ (rows : List ℕ) (c : Lasso) (e : ℕ) (w : List ℕ) (room : WordsRoo
           (swept_by w v unmoved t (Operator.variable (get_or bs d 0)) (sits_first h.operators)))
 
       -- one that names no operand
-      pub plain_evaluated : (op : code.Operator) → Among (0 ∷ 1 ∷ 2 ∷ []) op → operator_at rows e ≡ decoded op
+      pub plain_evaluated : (op : code.Operator) → NoOperand op → operator_at rows e ≡ decoded op
           → Evaluated rows c (e + 1) e w v
       plain_evaluated = by_leaf (λ op. operator_at rows e ≡ op → Evaluated rows c (e + 1) e w v) leaf_evaluated variable_evaluated
 

@@ -164,7 +164,7 @@ module _ (c : Lasso) (f : Formula) where
   pub labelling-bit : (i : ℕ) → i < span c → (e : ℕ) → bit (get_or (labelling c f) i 0) e ≡ true_at (sets c f []) e i
   labelling-bit i h e =
       ap (λ (w : ℕ). bit w e) (label_at i h) ∙ word-bit (map (λ (s : Positions). get_or s i false) (sets c f [])) e
-      ∙ ListN.get_d_map (λ (s : Positions). get_or s i false) (sets c f []) e []
+      ∙ ListN.get_or-map (λ (s : Positions). get_or s i false) (sets c f []) e []
 
   -- Theorem: bits past the subformulas are 0.
   pub labelling-past : (i : ℕ) → i < span c → (e : ℕ) → size f ≤ e → bit (get_or (labelling c f) i 0) e ≡ false

@@ -370,7 +370,7 @@ fn begin(
 }
 
 // Labels s and every subformula inside it, where closed ones are labelled already.
-#[cycle(label_label_fixpoint_label_open_round_rounds)]
+#[cycle(labelling)]
 fn label(
     rows: &[u8; 144],
     keys: &[usize; 48],
@@ -390,7 +390,7 @@ fn label(
 }
 
 // The same where only the closed subformulas inside s are labelled.
-#[cycle(label_label_fixpoint_label_open_round_rounds)]
+#[cycle(labelling)]
 fn label_open(
     rows: &[u8; 144],
     keys: &[usize; 48],
@@ -428,7 +428,7 @@ fn label_open(
 }
 
 // The same of the fixpoint s: as many rounds as there are positions, and if its set moved to the last of them, its body once more.
-#[cycle(label_label_fixpoint_label_open_round_rounds)]
+#[cycle(labelling)]
 fn label_fixpoint(
     rows: &[u8; 144],
     keys: &[usize; 48],
@@ -452,7 +452,7 @@ fn label_fixpoint(
 
 // So many rounds of the fixpoint s: one half of them, and the other if the set still moves. True if it does to the end; false if a round
 // changed nothing, which leaves s and all inside it labelled.
-#[cycle(label_label_fixpoint_label_open_round_rounds)]
+#[cycle(labelling)]
 fn rounds(
     rows: &[u8; 144],
     keys: &[usize; 48],
@@ -484,7 +484,7 @@ fn rounds(
 }
 
 // One round of the fixpoint s, and passes if it changed the set.
-#[cycle(label_label_fixpoint_label_open_round_rounds)]
+#[cycle(labelling)]
 fn round(
     rows: &[u8; 144],
     keys: &[usize; 48],
