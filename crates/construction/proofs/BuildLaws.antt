@@ -34,11 +34,11 @@ InRange N = (1 ≤ N) × (N ≤ max_nodes)
 
 -- what the code knows from its answer to it
 module _ (N : ℕ) {b : Bool} (is : b ≡ between 1 max_nodes N) where
-  pub range-granted : not b ≡ false → InRange N
-  range-granted e = between_of 1 max_nodes N (to_T (between 1 max_nodes N) (sym is ∙ not-false b e))
+  pub range-granted : b ≡ true → InRange N
+  range-granted e = between_of 1 max_nodes N (to_T (between 1 max_nodes N) (sym is ∙ e))
 
-  pub range-refused : not b ≡ true → InRange N → ⊥
-  range-refused e r = subst T (sym is ∙ not-true b e) (between_in 1 max_nodes N r.0 r.1)
+  pub range-refused : b ≡ false → InRange N → ⊥
+  range-refused e r = subst T (sym is ∙ e) (between_in 1 max_nodes N r.0 r.1)
 
 -- the questions in their order
 abbrev pub AskedRoom : (N workspace : ℕ) → Table → Construction → Type 0

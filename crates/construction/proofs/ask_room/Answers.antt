@@ -6,33 +6,29 @@ use Rattle.tableau.specs.Inner.{table_of}
 use Rattle.construction.proofs.BuildLaws.{InRange, range-granted, range-refused, settled_11, settled_12, settled_14, settled-built}
 use Rattle.construction.proofs.ask_room.Goals as goal
 
--- what is known once 11 refuses nothing
-in_range : (c : tie.Else1) → InRange c.before.before.before.args.node-capacity
-in_range c = range-granted c.before.before.before.args.node-capacity c.before.between.ensures c.if1.false
-
 pub returns-then-not-between : goal.returns-then-not-between
 returns-then-not-between c =
     settled_11 c.args.node_capacity c.args.workspace.now (table_of c.args.t.rows c.args.t.count)
-    (range-refused c.args.node_capacity c.between.ensures c.if-not-between.true-raw)
+    (range-refused c.args.node_capacity c.between.ensures c.if-not-between.true)
 
 pub overflow_mul-asked : goal.overflow_mul-asked
-overflow_mul-asked c = omega (arith, (in_range c).1)
+overflow_mul-asked c = omega (arith, (range-granted c.args.node_capacity c.between.ensures c.if-not-between.false).1)
 
 pub returns-then-workspace-asked : goal.returns-then-workspace-asked
 returns-then-workspace-asked c =
-    settled_12 c.args.node_capacity c.args.workspace.now (table_of c.args.t.rows c.args.t.count) (in_range c) c.if-workspace-asked.true
+    settled_12 c.args.node_capacity c.args.workspace.now (table_of c.args.t.rows c.args.t.count) (range-granted c.args.node_capacity c.between.ensures c.if-not-between.false) c.if-workspace-asked.true
 
 pub nodes-nodes-requires : goal.nodes-nodes-requires
 nodes-nodes-requires c =
-    let r = in_range c in
-    (c.requires, (record { fits = r.0; few = r.1; enough = search rules }, omega (arith, r.1)))
+    let r = range-granted c.args.node_capacity c.between.ensures c.if-not-between.false in
+    record { formed = c.requires; node_room = record { fits = r.0; few = r.1; enough = search rules }; capacity_in_bounds = omega (arith, r.1) }
 
 pub returns-then-node_capacity-nodes : goal.returns-then-node_capacity-nodes
 returns-then-node_capacity-nodes c =
-    settled_14 c.args.node_capacity c.args.workspace.now (table_of c.args.t.rows c.args.t.count) (in_range c) c.if-workspace-asked.false
+    settled_14 c.args.node_capacity c.args.workspace.now (table_of c.args.t.rows c.args.t.count) (range-granted c.args.node_capacity c.between.ensures c.if-not-between.false) c.if-workspace-asked.false
     c.clear.ensures c.nodes-nodes.ensures.nodes_held c.if-node_capacity-nodes.true c.clear-then-node_capacity-nodes.ensures
 
 pub returns : goal.returns
 returns c =
-    settled-built c.args.node_capacity c.args.workspace.now (table_of c.args.t.rows c.args.t.count) (in_range c) c.if-workspace-asked.false
+    settled-built c.args.node_capacity c.args.workspace.now (table_of c.args.t.rows c.args.t.count) (range-granted c.args.node_capacity c.between.ensures c.if-not-between.false) c.if-workspace-asked.false
     c.clear.ensures c.nodes-nodes.ensures.nodes_held c.if-node_capacity-nodes.false
