@@ -149,17 +149,17 @@ module _ (op : ℕ → Operator) (end : ℕ → ℕ) (count : ℕ) (level : ℕ 
       inl
       (⊎_elim (λ (q : y ≡ e + 1). (omega arith, ap level q ∙ level_first a (on-left a b h).marks ∙ here))
       (λ (q : y ≡ e + 1 + size a). (omega arith, ap level q ∙ level_first b (on-right a b h).marks ∙ here)) (pair-moves o c m))))
-      (λ x i j. all_join Falls (falls a (on-left a b h)) (falls b (on-right a b h)) x i (omega arith))
+      (λ x i j. all_join Falls (falls {e = e + 1} a (on-left a b h)) (falls {e = e + 1 + size a} b (on-right a b h)) x i (omega arith))
   falls {e = e} (Formula.next a) h =
       all_first Falls (falls_as e (Operator.next (e + 1)) (sits_first h.stands.operators) (λ y b m. absurd (Memᴰ.not-nil m)))
-      (λ x i j. falls a (on-next a h) x i (omega arith))
+      (λ x i j. falls {e = e + 1} a (on-next a h) x i (omega arith))
   falls {e = e} (Formula.fix g a) h =
       all_first Falls
       (falls_as e (Operator.fix g (e + 1)) (sits_first h.stands.operators)
       (λ y b m.
       let q = Memᴰ.eq_of_singleton m in
       inl (omega arith, ap level q ∙ level_first a (on-body a h).marks ∙ sym (level_first (Formula.fix g a) h.marks))))
-      (λ x i j. falls a (on-body a h) x i (omega arith))
+      (λ x i j. falls {e = e + 1} a (on-body a h) x i (omega arith))
 
   -- levels first, then numbers
   tall : ℕ → ℕ

@@ -5,7 +5,7 @@ use mathlib.Core.Bool.{Bool, false, cond}
 use mathlib.Core.Logic.{◌⊎◌, inl, inr, ⊎_elim}
 use mathlib.Core.List.Memᴰ
 use mathlib.Core.List.{List, [], ◌∷◌, Memᴰ}
-use Prim.Native.Nat.{ℕ, zero, suc, ◌≤◌, ◌<◌}
+use Prim.Native.Nat.{ℕ, zero, suc, ◌≤◌, ◌<◌, ◌+◌}
 use native.Mathlib.Omega.{arith}
 use native.Mathlib.Decide.{dec_lt}
 use lib.ListN.{length, get_or, get_or-eq_default}
@@ -71,20 +71,20 @@ module _ (t : Table) (end : ℕ → ℕ) (count : ℕ) where
         agrees = λ c k σ ρ m. m d (omega (arith, h.guarded.0, h.scoped));
       }
   means {e} {guards} {binders} (Formula.pair o a b) h =
-      let x = means a (occurs_left (operator t) end count h) in
-      let y = means b (occurs_right (operator t) end count h) in
+      let x = means {e = e + 1} a (occurs_left (operator t) end count h) in
+      let y = means {e = e + 1 + size a} b (occurs_right (operator t) end count h) in
       record {
         part = Part.pair o (sits_first h.operators) (omega arith) (omega arith) x.part y.part;
         agrees = λ c k σ ρ m. agree_combine o (length c.letters) _ _ _ _ (x.agrees c k σ ρ m) (y.agrees c k σ ρ m);
       }
   means {e} {guards} {binders} (Formula.next a) h =
-      let x = means a (occurs_next (operator t) end count h) in
+      let x = means {e = e + 1} a (occurs_next (operator t) end count h) in
       record {
         part = Part.next (sits_first h.operators) (omega arith) x.part;
         agrees = λ c k σ ρ m. agree_before c.stem (length c.letters) k _ _ (x.agrees c k σ ρ m);
       }
   means {e} {guards} {binders} (Formula.fix g a) h =
-      let x = means a (occurs_body (operator t) end count h) in
+      let x = means {e = e + 1} a (occurs_body (operator t) end count h) in
       record {
         part = Part.fix e g (sits_first h.operators) (omega arith) x.part;
         agrees = λ c k σ ρ m.
