@@ -1,13 +1,12 @@
 -- From the questions of the code to the promise of building: each of 11, 12 and 14 is the definition's, and what is left in the workspace
 -- is what MEANING 5.11 says. Assumes nothing.
 use mathlib.Core.Path.{◌≡◌, refl, sym, ap, subst, ◌∙◌}
-use mathlib.Core.Bool.{Bool, true, false, not}
+use mathlib.Core.Bool.{Bool, true, false}
 use mathlib.Core.List.{List, ◌++◌}
 use Prim.Native.Nat.{ℕ, ◌≤◌, ◌<◌}
 use native.Mathlib.Omega.{arith}
 use lib.Dec.{T}
 use lib.ListN.{length, drop}
-use borrow.Author.Tests.{not-true, not-false}
 use Rattle.base.proofs.AskLaws.{Asked, asked, asked_le, first_refusal, passed}
 use Rattle.base.proofs.BoolLaws.{to_T}
 use Rattle.formula.specs.Formula.{Formula}

@@ -11,7 +11,7 @@ use lib.ListN.{length, get_or}
 use Rattle.formula.specs.Formula.{Leaf, Formula}
 use Rattle.formula.specs.Refusal.{at_byte}
 use Rattle.formula.specs.declared.Refusal.{Refusal}
-use Rattle.formula.specs.Reading.{Opcode, opcode, Head, Read, Reader, and_then, byte, byte_from, answered, known, within}
+use Rattle.formula.specs.Reading.{Opcode, opcode, Head, Read, Reader, and_then, byte_from, answered, known, within}
 use Rattle.formula.specs.Reading.{counted, Scope, outside, entered, behind_next, guard_asked, operands, questions, formula}
 use Rattle.formula.specs.Reading.{Reading, ended, whole, start, parse}
 use Rattle.formula.proofs.Commands.{behind}

@@ -12,7 +12,7 @@ use Rattle.base.proofs.NumberLaws.{values_at, values_length}
 use Rattle.formula.specs.Formula.{Formula, size}
 use Rattle.formula.specs.Table.{Entries, entries, table, ends_from, lengths}
 use Rattle.formula.specs.Reading.{Reading, parse, with_entries, reading}
-use Rattle.formula.specs.Rows.{length_at, operator_at, end_at, operators_of, lengths_of, ends_of, entries_of}
+use Rattle.formula.specs.Rows.{length_at, operator_at, end_at, operators_of, lengths_of, ends_of}
 use Rattle.formula.specs.Rows.{reading_by, reading_of}
 use Rattle.formula.specs.declared.Table.{Table}
 use Rattle.formula.specs.declared.Outcome.{Outcome}

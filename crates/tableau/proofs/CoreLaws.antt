@@ -3,8 +3,7 @@
 -- on under any choice. What it gathers is what the core gathers and what the rest does (`gathered_on`); if the core's set cannot be, no
 -- saturation can (`core_dead`). Assumes nothing.
 use mathlib.Core.Path.{◌≡◌, refl, sym, ap, subst, subst⁻¹, ◌∙◌}
-use mathlib.Core.Bool.{Bool, true, false, cond, not, ◌&&◌, ◌||◌, or-false}
-use mathlib.Core.Logic.{inl, inr}
+use mathlib.Core.Bool.{Bool, true, false, cond, ◌&&◌, ◌||◌}
 use mathlib.Core.List.{List, []}
 use Prim.Native.Nat.{ℕ, ◌+◌, ◌-◌, ◌*◌, ◌%◌, ◌^◌, ◌≤◌, ◌<◌}
 use native.Mathlib.Omega.{arith}
@@ -12,29 +11,25 @@ use lib.Bits.{bit_or, bit_xor, or_zero_r, or_zero_l}
 use lib.Pow.{pow_pos}
 use lib.Dec.{T, eqb}
 use lib.ListN.{length}
-use borrow.Author.Tests.{eqb-true, eqb-false, eq-eqb, ne_eqb}
-use Rattle.base.specs.Lists.{any}
+use borrow.Author.Tests.{eqb-true}
 use Rattle.base.specs.Bits.{bit, word, Lowest, Without}
 use Rattle.base.specs.Sets.{Inside}
-use Rattle.base.proofs.BoolLaws.{to_T, or_cases, or_left}
+use Rattle.base.proofs.BoolLaws.{to_T}
 use Rattle.base.proofs.BitLaws.{bit-or, set_on}
 use Rattle.base.proofs.Inside.{inside_length}
 use Rattle.base.proofs.LowestLaws.{without_of}
 use Rattle.base.proofs.WordLaws.{same_bits, no-bit}
 use Rattle.letters.specs.Requirements.{clash}
-use Rattle.formula.specs.Formula.{Leaf}
 use Rattle.formula.specs.Table.{Operator, Table, is_or}
 use Rattle.formula.specs.Rows.{operator_at}
 use Rattle.tableau.specs.Saturation.{Subset, moves, saturate}
-use Rattle.tableau.specs.Transition.{operators_in, is_false, requirement, possible, choice_of, within, by_word}
+use Rattle.tableau.specs.Transition.{operators_in, choice_of, within, by_word}
 use Rattle.tableau.specs.Inner.{table_of, Formed, with_bits, Saturated, LeadsNowhere, Required, RequiredBy}
-use Rattle.tableau.specs.Fringe.{Spread, moves_at, WaitsMore, MovesMore, ClosesBy, ClosingOf, Joined, CoreOf}
+use Rattle.tableau.specs.Fringe.{Spread, moves_at, WaitsMore, MovesMore, ClosesBy, ClosingOf, Joined}
 use Rattle.tableau.specs.declared.Closing.{Closing}
-use Rattle.tableau.specs.declared.Core.{Core}
 use Rattle.tableau.specs.declared.Gathered.{Gathered}
 use Rattle.tableau.proofs.SaturationLaws.{saturate-length}
 use Rattle.tableau.proofs.TransitionLaws.{transition_by}
-use Rattle.tableau.proofs.LoopLaws.{table-length}
 use Rattle.tableau.proofs.FringeLaws.{Turn, falls, spread-start, spread_with, moves_at-below, closing_inside}
 use Rattle.tableau.proofs.PartLaws.{apart, apart-length, apart-word, required_parts, hopeless}
 use Rattle.tableau.proofs.TargetLaws.{gathered_words, RequiredOf}

@@ -21,7 +21,6 @@ use Rattle.base.proofs.Inside.{below_true}
 use Rattle.base.proofs.WordLaws.{word-bit, same_bits}
 use Rattle.letters.specs.Alphabet.{previous_scale, current_scale}
 use Rattle.letters.specs.Requirements.{clash}
-use Rattle.letters.specs.declared.Requirement.{Requirement}
 use Rattle.letters.proofs.LetterLaws.{Clash, clash_of, clash_in}
 use Rattle.formula.specs.Table.{Operator, Table}
 use Rattle.tableau.specs.Saturation.{Subset, has}

@@ -20,12 +20,11 @@ use Rattle.letters.specs.declared.Requirement.{Requirement}
 use Rattle.formula.specs.Table.{Operator, Table}
 use Rattle.tableau.specs.Saturation.{Subset, nothing, add, saturate}
 use Rattle.tableau.specs.Transition.{operators_in, requirement, next_of, possible, choice_of, within, transition_of}
-use Rattle.tableau.specs.Inner.{table_of, Formed, with_bits, Saturated, LeadsNowhere, Required, RequiredBy, target}
+use Rattle.tableau.specs.Inner.{table_of, Formed, with_bits, Saturated, LeadsNowhere, Required, target}
 use Rattle.tableau.specs.Inner.{TargetIs, TargetBy}
 use Rattle.tableau.specs.declared.Gathered.{Gathered}
 use Rattle.tableau.specs.declared.Target.{Target}
 use Rattle.tableau.specs.declared.Target.TheVariants.{Leads, Nothing}
-use Rattle.tableau.proofs.SaturationLaws.{saturate-length}
 use Rattle.tableau.proofs.TransitionLaws.{transition_with, transition_by, no_transition, one_or_none}
 use Rattle.tableau.proofs.WordSets.{AllBelow, word-add, within_word}
 use Rattle.tableau.proofs.RowLaws.{next-below}

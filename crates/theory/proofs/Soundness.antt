@@ -27,7 +27,7 @@ use Rattle.theory.proofs.Refutation.{Consistent, Rejected, Escape, along, refuta
 use Rattle.theory.proofs.Agreement.{orbit}
 use Rattle.theory.proofs.TreeLaws.{Lawful}
 use Rattle.theory.proofs.Walks.{transition_at, no_transition, node_at, Walk, walk_step, walk_end, walk-join, walk_seam, walk-length}
-use Rattle.theory.proofs.LapLaws.{own, own_le, Trail, Trail.last, Trail.move, trail_le, In, Trails, Trails.done, Trails.also}
+use Rattle.theory.proofs.LapLaws.{own, own_le, Trail, trail_le, In, Trails, Trails.done, Trails.also}
 use Rattle.theory.proofs.LapLaws.{Laps, cycle-triples, laps-lap}
 
 -- the letters of a stem and a cycle

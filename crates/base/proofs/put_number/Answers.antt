@@ -1,5 +1,4 @@
 -- `base::put_number` writes from the lowest byte up: each turn is one byte more (`WritingBytes`).
-use Prim.Native.Nat.{◌-◌}
 use Rattle.base.proofs.BytesLaws.{write_none, write_more, write_all}
 use native.Mathlib.Omega.{arith}
 use Rattle.base.proofs.put_number.Goals as goal

@@ -3,7 +3,7 @@
 use native.Mathlib.Omega.{arith}
 use borrow.Author.Rules.{rules}
 use Rattle.tableau.specs.Inner.{table_of}
-use Rattle.construction.proofs.BuildLaws.{InRange, range-granted, range-refused, settled_11, settled_12, settled_14, settled-built}
+use Rattle.construction.proofs.BuildLaws.{range-granted, range-refused, settled_11, settled_12, settled_14, settled-built}
 use Rattle.construction.proofs.ask_room.Goals as goal
 
 pub returns-then-not-between : goal.returns-then-not-between

@@ -1,7 +1,7 @@
 -- `construction::same_bytes` compares byte by byte: after i turns the first i of both areas.
 use mathlib.Core.Path.{◌≡◌, refl}
 use native.Mathlib.Omega.{arith}
-use Prim.Native.Nat.{ℕ, ◌-◌}
+use Prim.Native.Nat.{ℕ}
 use lib.Dec.{eqb}
 use lib.ListN.{take}
 use Rattle.base.specs.Lists.{alike}

@@ -1,6 +1,6 @@
 -- `distances::clear` notes at one vertex after the other that it is not reached.
 use mathlib.Core.Path.{refl}
-use Prim.Native.Nat.{ℕ, ◌-◌}
+use Prim.Native.Nat.{ℕ}
 use native.Mathlib.Omega.{arith}
 use Rattle.base.proofs.FillLaws.{filled_none, filled_more}
 use Rattle.distances.proofs.SetLaws.{unnoted}

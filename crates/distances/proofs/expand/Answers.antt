@@ -1,5 +1,5 @@
 -- `distances::expand` expands the vertices of one word after the other; past the first words the level has none.
-use Prim.Native.Nat.{◌+◌, ◌-◌}
+use Prim.Native.Nat.{◌+◌}
 use native.Mathlib.Omega.{arith}
 use Rattle.distances.proofs.ExpandLaws.{passed, passed_none, passed-word, passed_end}
 use Rattle.distances.proofs.ExpandLaws.{expanded_none, expanded_same, expanded_both}

@@ -1,6 +1,6 @@
 -- `distances::first_shortest` keeps the first of the best; a later vertex has to be better.
 use mathlib.Core.Path.{sym, subst}
-use Prim.Native.Nat.{◌+◌, ◌-◌}
+use Prim.Native.Nat.{◌+◌}
 use native.Mathlib.Omega.{arith}
 use Rattle.distances.specs.Inner.{Best}
 use Rattle.distances.proofs.BestLaws.{best_start, best_shorter, best_kept, best_all}

@@ -1,5 +1,4 @@
 -- `distances::part` puts what was not seen into the level, one word after the other, and gathers these words' bits.
-use Prim.Native.Nat.{◌-◌}
 use native.Mathlib.Omega.{arith}
 use Rattle.distances.proofs.SetLaws.{parting_none, parting_more, parted}
 use Rattle.distances.proofs.part.Goals as goal

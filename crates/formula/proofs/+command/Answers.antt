@@ -1,15 +1,12 @@
 -- `formula::command` reads an operator with all its operands as the definition does. Each call has fewer bytes left. What each return
 -- promises follows from the opcode that was found and from what the calls for the operands promise. In the answers `u` is what is known
 -- at the entry, and `one` what is known behind the call for the first operand. Assumes nothing.
-use Prim.Native.Nat.{ℕ, ◌-◌}
 use native.Mathlib.Omega.{arith}
 use Rattle.formula.specs.Reading.{formula}
 use Rattle.formula.proofs.CodeFormula.{further_trans, agrees_from}
 use Rattle.formula.proofs.CodeCommand.{opened_of, ready_on, may_enter, ready-inside, is-behind, command-further, stopped_command}
 use Rattle.formula.proofs.CodeCommand.{opened_command, unary_command, refused-command, pair-command}
-use Rattle.formula.proofs.command.Reads as command
 use Rattle.formula.proofs.+command.Goals as goal
-
 
 pub opcode_at-opened-requires : goal.opcode_at-opened-requires
 opcode_at-opened-requires t c = c.requires.limits

@@ -1,6 +1,5 @@
 -- `relation::widen` copies one word after the other.
 use mathlib.Core.Path.{refl}
-use Prim.Native.Nat.{◌-◌}
 use native.Mathlib.Omega.{arith}
 use Rattle.base.proofs.FillLaws.{filled_none, filled_more}
 use Rattle.relation.proofs.RelationLaws.{widened}

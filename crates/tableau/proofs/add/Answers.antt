@@ -8,16 +8,23 @@ use Rattle.tableau.proofs.add.Goals as goal
 
 pub append-requires : goal.append-requires
 append-requires c =
-    record { growing = c.requires.growing; from_bound = c.requires.from_bound; known_value = located_absent c.args.known c.args.area.now c.args.new.set
-            c.located.ensures c.in-Absent.is }
+    record {
+      growing = c.requires.growing;
+      from_bound = c.requires.from_bound;
+      known_value = located_absent c.args.known c.args.area.now c.args.new.set
+          c.located.ensures c.in-Absent.is;
+    }
 
 pub returns-in-Number : goal.returns-in-Number
 returns-in-Number c =
-    let at = located-number c.args.known c.args.area.now c.args.new.set c.located.ensures c.in-Number.is in record { node_added = add-known c.args.new _ c.requires.growing.room.fits (stands c.args.known c.args.area.now c.args.new.set _ at.0 at.1); came_in = record {
+    let at = located-number c.args.known c.args.area.now c.args.new.set c.located.ensures c.in-Number.is in record {
+      node_added = add-known c.args.new _ c.requires.growing.room.fits (stands c.args.known c.args.area.now c.args.new.set _ at.0 at.1);
+      came_in = record {
         more = omega arith;
         most = omega (arith, c.requires.growing.room.fits);
         below = at.0;
         stands = λ h. at.1;
         stay = λ h. record { is = λ j l. refl };
         marked = λ h. c.requires.growing.marked;
-      } }
+      };
+    }

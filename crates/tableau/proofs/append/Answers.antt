@@ -7,9 +7,11 @@ use Rattle.tableau.proofs.append.Goals as goal
 
 pub returns-then-known-capacity : goal.returns-then-known-capacity
 returns-then-known-capacity c =
-    let last = came_last c.args.known c.args.new.set (omega arith) (omega arith) c.put_number.ensures in record { node_added = add_new c.args.new _ c.requires.growing.room.fits c.requires.known_value
+    let last = came_last c.args.known c.args.new.set (omega arith) (omega arith) c.put_number.ensures in record {
+      node_added = add_new c.args.new _ c.requires.growing.room.fits c.requires.known_value
           c.if-known-capacity.true c.requires.growing.notes
-          c.put_number.ensures c.note.ensures; came_in = record {
+          c.put_number.ensures c.note.ensures;
+      came_in = record {
         more = omega arith;
         most = omega arith;
         below = omega arith;
@@ -18,15 +20,19 @@ returns-then-known-capacity c =
         marked = λ h.
             marked_more c.args.new.set _ c.requires.growing.marked (omega arith) (omega arith) c.slot-k.ensures (omega arith)
             c.put_number.ensures;
-      } }
+      };
+    }
 
 pub returns-else-known-capacity : goal.returns-else-known-capacity
 returns-else-known-capacity c =
-    record { node_added = add-full c.args.new _ c.requires.growing.room.fits c.requires.known_value c.if-known-capacity.false; came_in = record {
+    record {
+      node_added = add-full c.args.new _ c.requires.growing.room.fits c.requires.known_value c.if-known-capacity.false;
+      came_in = record {
         more = omega arith;
         most = omega (arith, c.requires.growing.room.fits);
         below = omega arith;
         stands = λ h. absurd (omega arith);
         stay = λ h. absurd (omega arith);
         marked = λ h. absurd (omega arith);
-      } }
+      };
+    }

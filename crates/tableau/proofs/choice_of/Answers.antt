@@ -3,7 +3,6 @@
 use mathlib.Core.Path.{sym, ◌∙◌}
 use Rattle.tableau.proofs.LoopLaws.{chosen_none, chosen_or, chosen_other, chosen-all}
 use native.Mathlib.Omega.{arith}
-use Prim.Native.Nat.{◌-◌}
 use Rattle.tableau.proofs.choice_of.Goals as goal
 use Rattle.tableau.proofs.choice_of.Goals.{else-is_or, then-is_or}
 
@@ -15,8 +14,10 @@ loop-e-preserved c =
     let is = sym c.is_or.ensures in
     record {
       passed = omega arith;
-      chosen = elim c.if-is_or.branch [ | then-is_or w ↦ rw (w.choice-is, w.left-is) (chosen_or c.loop-e.invariant.chosen (is ∙ w.if-is_or.true) (omega arith))
-        | else-is_or w ↦ rw (w.choice-is, w.left-is) (chosen_other c.loop-e.invariant.chosen (is ∙ w.if-is_or.false)) ];
+      chosen = elim c.if-is_or.branch [
+        | then-is_or w ↦ rw (w.choice-is, w.left-is) (chosen_or c.loop-e.invariant.chosen (is ∙ w.if-is_or.true) (omega arith))
+        | else-is_or w ↦ rw (w.choice-is, w.left-is) (chosen_other c.loop-e.invariant.chosen (is ∙ w.if-is_or.false))
+      ];
     }
 
 pub returns : goal.returns

@@ -4,7 +4,7 @@ use Rattle.tableau.specs.Area.{cleared}
 use Rattle.tableau.proofs.AreaLaws.{clear_none, clear_more}
 use Rattle.tableau.proofs.LoopLaws.{at_end}
 use native.Mathlib.Omega.{arith}
-use Prim.Native.Nat.{ℕ, ◌-◌}
+use Prim.Native.Nat.{ℕ}
 use mathlib.Core.Path.{◌≡◌, refl}
 use Rattle.tableau.proofs.clear.Goals as goal
 

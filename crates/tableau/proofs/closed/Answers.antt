@@ -1,7 +1,7 @@
 -- `tableau::closed` follows the moves of all but the ors until the fringe is empty. Each turn takes a subformula out of it, and what comes
 -- in comes into the set, so that twice what the set lacks, with the fringe, gets less.
 use native.Mathlib.Omega.{arith}
-use Prim.Native.Nat.{◌-◌, ◌^◌}
+use Prim.Native.Nat.{◌^◌}
 use Rattle.tableau.proofs.RowLaws.{placed}
 use Rattle.tableau.proofs.CoreLaws.{closing_start, closing_below, closing_turn, closing_less}
 use Rattle.tableau.proofs.closed.Goals as goal

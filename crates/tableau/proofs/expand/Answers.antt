@@ -1,12 +1,10 @@
 -- `tableau::expand` adds what the transitions of a node lead to, and notes them: after each turn, those of one choice word more. Past the
 -- capacity it may stop.
 use mathlib.Core.Logic.{inl, inr}
-use mathlib.Core.Path.{◌≡◌, refl, ap, subst⁻¹, ◌∙◌}
+use mathlib.Core.Path.{refl, ap, subst⁻¹, ◌∙◌}
 use native.Mathlib.Omega.{arith}
-use Prim.Native.Nat.{ℕ, ◌-◌, ◌*◌, ◌^◌}
-use Rattle.tableau.specs.Transition.{ors}
-use Rattle.tableau.specs.Inner.{table_of, UnmetOrs}
-use Rattle.tableau.specs.Area.{eight}
+use Prim.Native.Nat.{ℕ, ◌^◌}
+use Rattle.tableau.specs.Inner.{UnmetOrs}
 use Rattle.tableau.proofs.NodeLoop.{expand_start, expand_turn, expand_end}
 use Rattle.tableau.proofs.StepLaws.{noting_start, noting_turn, noting_end}
 use borrow.Author.Rules.{rules}
@@ -32,17 +30,27 @@ loop-word-init c =
 
 pub returns-then-capacity-all : goal.returns-then-capacity-all
 returns-then-capacity-all c =
-    record { expanded = expand_end c.loop-word.invariant.reached c.requires.formed c.requires.growing.room.fits (c.core_of-core.ensures.1 ∙ c.node-from.ensures) c.ors.ensures
-          (omega (arith, c.power-end.ensures)) (inl c.if-capacity-all.true); lower_bound = (omega arith, omega arith); slots_marked = c.loop-word.invariant.marked; steps_of = λ e h. absurd (omega (arith, c.if-capacity-all.true)) }
+    record {
+      expanded = expand_end c.loop-word.invariant.reached c.requires.formed c.requires.growing.room.fits (c.core_of-core.ensures.1 ∙ c.node-from.ensures) c.ors.ensures
+          (omega (arith, c.power-end.ensures)) (inl c.if-capacity-all.true);
+      lower_bound = (omega arith, omega arith);
+      slots_marked = c.loop-word.invariant.marked;
+      steps_of = λ e h. absurd (omega (arith, c.if-capacity-all.true));
+    }
 
 pub by_word-target-requires : goal.by_word-target-requires
 by_word-target-requires c =
-    record { formed = c.requires.formed; core_of = c.core_of-core.ensures.0; unmet_ors = subst⁻¹ (λ (n : ℕ). UnmetOrs c.args.rows.now c.args.count n c.unmet-unmet.result) c.core_of-core.ensures.1
-            c.unmet-unmet.ensures }
+    record {
+      formed = c.requires.formed;
+      core_of = c.core_of-core.ensures.0;
+      unmet_ors = subst⁻¹ (λ (n : ℕ). UnmetOrs c.args.rows.now c.args.count n c.unmet-unmet.result) c.core_of-core.ensures.1
+          c.unmet-unmet.ensures;
+    }
 
 pub follow-all-requires : goal.follow-all-requires
 follow-all-requires c =
-    record { growing = record {
+    record {
+      growing = record {
         room =
             record {
               fits = c.if-capacity-all.false;
@@ -51,7 +59,9 @@ follow-all-requires c =
             };
         marked = c.loop-word.invariant.marked c.if-capacity-all.false;
         notes = omega (arith, c.loop-word.invariant.same-notes, c.requires.growing.notes);
-      }; number_bound = omega (arith, c.requires.number_lt_known, c.requires.growing.room.fits, c.requires.growing.room.few) }
+      };
+      number_bound = omega (arith, c.requires.number_lt_known, c.requires.growing.room.fits, c.requires.growing.room.few);
+    }
 
 pub loop-word-preserved : goal.loop-word-preserved
 loop-word-preserved c =
@@ -71,5 +81,10 @@ loop-word-preserved c =
 
 pub returns : goal.returns
 returns c =
-    record { expanded = expand_end c.loop-word.invariant.reached c.requires.formed c.requires.growing.room.fits (c.core_of-core.ensures.1 ∙ c.node-from.ensures) c.ors.ensures
-          (omega (arith, c.power-end.ensures)) (inr (omega (arith, c.power-end.ensures, c.loop-word-test.false))); lower_bound = (omega arith, omega arith); slots_marked = c.loop-word.invariant.marked; steps_of = λ e h. noting_end (c.loop-word.invariant.noted e h) (c.core_of-core.ensures.1 ∙ c.node-from.ensures) (omega (arith, (c.power-end.ensures ∙ ap (λ (n : ℕ). 2 ^ n) c.ors.ensures), c.loop-word-test.false)) }
+    record {
+      expanded = expand_end c.loop-word.invariant.reached c.requires.formed c.requires.growing.room.fits (c.core_of-core.ensures.1 ∙ c.node-from.ensures) c.ors.ensures
+          (omega (arith, c.power-end.ensures)) (inr (omega (arith, c.power-end.ensures, c.loop-word-test.false)));
+      lower_bound = (omega arith, omega arith);
+      slots_marked = c.loop-word.invariant.marked;
+      steps_of = λ e h. noting_end (c.loop-word.invariant.noted e h) (c.core_of-core.ensures.1 ∙ c.node-from.ensures) (omega (arith, (c.power-end.ensures ∙ ap (λ (n : ℕ). 2 ^ n) c.ors.ensures), c.loop-word-test.false));
+    }

@@ -1,5 +1,4 @@
 -- `tableau::find` tells where a word stands among the first `known`, by looking at one after the other (`Looking`).
-use Prim.Native.Nat.{◌-◌}
 use mathlib.Core.Path.{sym, ◌∙◌}
 use Rattle.tableau.proofs.AreaLaws.{look_start, look_next, look_found, look_absent}
 use Rattle.tableau.proofs.find.Goals as goal

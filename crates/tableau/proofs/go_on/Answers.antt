@@ -3,7 +3,7 @@
 use mathlib.Core.Path.{◌≡◌, refl, subst}
 use mathlib.Core.List.{List}
 use native.Mathlib.Omega.{arith}
-use Prim.Native.Nat.{ℕ, ◌-◌, ◌≤◌, min}
+use Prim.Native.Nat.{ℕ, ◌≤◌, min}
 use Rattle.tableau.specs.Steps.{StepsBefore}
 use Rattle.tableau.specs.Found.{Finding, GoneOn}
 use Rattle.tableau.proofs.NodeLoop.{find_turn, find_full}
@@ -21,7 +21,6 @@ gone_on {rows} {count} {capacity = capacity} {all = all} {area} {slots} {o} {rel
   found = λ h a f. subst (λ (n : ℕ). Finding rows count capacity all n a area o) (e h) (t.found a f);
   marked = t.marked;
   noted = λ h b s. subst (λ (n : ℕ). StepsBefore rows count n all area rel) (e h) (t.noted h b s);
-
 }
 
 pub loop-i-init : goal.loop-i-init

@@ -1,5 +1,4 @@
 -- `tableau::is_unmet` is the definition's test: the word has none of the bits for its picks at the first j ors.
-use Prim.Native.Nat.{◌-◌}
 use native.Mathlib.Omega.{arith}
 use Rattle.tableau.proofs.UnmetLaws.{none_more, some-unmet, none-unmet}
 use Rattle.tableau.proofs.is_unmet.Goals as goal

@@ -3,7 +3,7 @@ use Rattle.tableau.specs.Transition.{ors}
 use Rattle.tableau.specs.Inner.{table_of}
 use Rattle.tableau.proofs.LoopLaws.{ors-one, ors-same, at_end}
 use native.Mathlib.Omega.{arith}
-use Prim.Native.Nat.{ℕ, ◌-◌}
+use Prim.Native.Nat.{ℕ}
 use mathlib.Core.Path.{◌≡◌, refl, sym, ◌∙◌}
 use Rattle.tableau.proofs.ors.Goals as goal
 use Rattle.tableau.proofs.ors.Goals.{else-is_or, then-is_or}
@@ -14,16 +14,18 @@ loop-e-init c = record { passed = omega arith; few = omega arith; counted = refl
 pub loop-e-preserved : goal.loop-e-preserved
 loop-e-preserved c =
     let is = sym c.is_or.ensures in
-    elim c.if-is_or.branch [ | then-is_or w ↦ record {
-      passed = omega arith;
-      few = omega (arith, w.n-is, c.loop-e.invariant.few);
-      counted = omega (arith, w.n-is, c.loop-e.invariant.counted, ors-one c.args.rows.now c.loop-e.e (is ∙ w.if-is_or.true));
-    }
-        | else-is_or w ↦ record {
-      passed = omega arith;
-      few = omega (arith, w.n-is, c.loop-e.invariant.few);
-      counted = omega (arith, w.n-is, c.loop-e.invariant.counted, ors-same c.args.rows.now c.loop-e.e (is ∙ w.if-is_or.false));
-    } ]
+    elim c.if-is_or.branch [
+      | then-is_or w ↦ record {
+        passed = omega arith;
+        few = omega (arith, w.n-is, c.loop-e.invariant.few);
+        counted = omega (arith, w.n-is, c.loop-e.invariant.counted, ors-one c.args.rows.now c.loop-e.e (is ∙ w.if-is_or.true));
+      }
+      | else-is_or w ↦ record {
+        passed = omega arith;
+        few = omega (arith, w.n-is, c.loop-e.invariant.few);
+        counted = omega (arith, w.n-is, c.loop-e.invariant.counted, ors-same c.args.rows.now c.loop-e.e (is ∙ w.if-is_or.false));
+      }
+    ]
 
 pub returns : goal.returns
 returns c =

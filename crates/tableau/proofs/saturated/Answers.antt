@@ -1,11 +1,10 @@
 -- `tableau::saturated` goes on from the core and follows the moves of the fringe until it is empty: the set lies between the node and its
 -- saturation, and is closed but for the fringe. What a turn puts into the fringe the set gains, so that twice what the set lacks, with the
 -- fringe, gets less.
-use Rattle.tableau.specs.Fringe.{Spread, moves_at}
 use Rattle.tableau.proofs.FringeLaws.{spread-below, spread_turn, spread-less, moves_at-below, saturated_rest}
 use Rattle.tableau.proofs.RowLaws.{placed}
 use native.Mathlib.Omega.{arith}
-use Prim.Native.Nat.{◌-◌, ◌^◌}
+use Prim.Native.Nat.{◌^◌}
 use Rattle.tableau.proofs.saturated.Goals as goal
 
 pub loop-fringe-init : goal.loop-fringe-init

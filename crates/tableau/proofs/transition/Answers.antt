@@ -1,7 +1,7 @@
 -- `tableau::transition` is the definition's transition: the choice is met, and what the saturated set requires can be. What is gathered of
 -- the core and of the rest is what is gathered of the set.
 use mathlib.Core.Path.{sym, ◌∙◌}
-use Rattle.tableau.proofs.TargetLaws.{RequiredOf, target-unmet, target_false, target-clash, target-some}
+use Rattle.tableau.proofs.TargetLaws.{target-unmet, target_false, target-clash, target-some}
 use Rattle.tableau.proofs.CoreLaws.{gathered_on}
 use Rattle.tableau.proofs.transition.Goals as goal
 

@@ -26,14 +26,16 @@ loop-j-init c =
 pub loop-j-preserved : goal.loop-j-preserved
 loop-j-preserved c =
     let all = ap (λ (x : ℕ). x - 1) c.power-all.ensures in
-    elim c.if-not-has.branch [ | then-not-has w ↦ record {
-      passed = omega arith;
-      entries =
-          rw w.bits-is
-          (unmet_turn _ _ c.ors-n.ensures all c.loop-j.j (omega (arith, c.ors-n.ensures, c.requires.few_ors)) refl refl w.with.ensures
-          w.unmet_between.ensures w.power.ensures w.unmet_between-then-not-has.ensures c.loop-j.invariant.entries);
-    }
-        | else-not-has w ↦ record { passed = omega arith; entries = rw w.bits-is c.loop-j.invariant.entries } ]
+    elim c.if-not-has.branch [
+      | then-not-has w ↦ record {
+        passed = omega arith;
+        entries =
+            rw w.bits-is
+            (unmet_turn _ _ c.ors-n.ensures all c.loop-j.j (omega (arith, c.ors-n.ensures, c.requires.few_ors)) refl refl w.with.ensures
+            w.unmet_between.ensures w.power.ensures w.unmet_between-then-not-has.ensures c.loop-j.invariant.entries);
+      }
+      | else-not-has w ↦ record { passed = omega arith; entries = rw w.bits-is c.loop-j.invariant.entries }
+    ]
 
 pub returns : goal.returns
 returns c = c.loop-j.invariant.entries.right

@@ -3,7 +3,6 @@
 use mathlib.Core.Path.{sym, ◌∙◌}
 use Rattle.tableau.proofs.UnmetLaws.{outside-none, outside_or, outside_other, unmet-all}
 use native.Mathlib.Omega.{arith}
-use Prim.Native.Nat.{◌-◌}
 use Rattle.tableau.proofs.unmet_between.Goals as goal
 use Rattle.tableau.proofs.unmet_between.Goals.{else-is_or, then-is_or}
 
@@ -13,17 +12,19 @@ loop-e-init c = record { passed = omega arith; few = omega arith; outside = outs
 pub loop-e-preserved : goal.loop-e-preserved
 loop-e-preserved c =
     let is = sym c.is_or.ensures in
-    elim c.if-is_or.branch [ | then-is_or w ↦ record {
-      passed = omega arith;
-      few = omega (arith, w.n-is, c.loop-e.invariant.few);
-      outside =
-          rw (w.bits-is, w.n-is) (outside_or c.loop-e.invariant.outside (is ∙ w.if-is_or.true) w.has.ensures w.with-bits.result w.with-bits.ensures);
-    }
-        | else-is_or w ↦ record {
-      passed = omega arith;
-      few = omega (arith, w.n-is, c.loop-e.invariant.few);
-      outside = rw (w.bits-is, w.n-is) (outside_other c.loop-e.invariant.outside (is ∙ w.if-is_or.false));
-    } ]
+    elim c.if-is_or.branch [
+      | then-is_or w ↦ record {
+        passed = omega arith;
+        few = omega (arith, w.n-is, c.loop-e.invariant.few);
+        outside =
+            rw (w.bits-is, w.n-is) (outside_or c.loop-e.invariant.outside (is ∙ w.if-is_or.true) w.has.ensures w.with-bits.result w.with-bits.ensures);
+      }
+      | else-is_or w ↦ record {
+        passed = omega arith;
+        few = omega (arith, w.n-is, c.loop-e.invariant.few);
+        outside = rw (w.bits-is, w.n-is) (outside_other c.loop-e.invariant.outside (is ∙ w.if-is_or.false));
+      }
+    ]
 
 pub returns : goal.returns
 returns c =

@@ -3,7 +3,7 @@ use Rattle.tableau.proofs.FringeLaws.{spread-start, spread-below}
 use Rattle.tableau.proofs.WidestLaws.{widest_turn, widest_less, widest_rest}
 use Rattle.tableau.proofs.RowLaws.{placed}
 use native.Mathlib.Omega.{arith}
-use Prim.Native.Nat.{◌-◌, ◌^◌}
+use Prim.Native.Nat.{◌^◌}
 use Rattle.tableau.proofs.widest.Goals as goal
 
 pub loop-fringe-init : goal.loop-fringe-init
