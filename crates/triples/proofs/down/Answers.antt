@@ -4,12 +4,8 @@ use Prim.Native.Nat.{◌/◌}
 use native.Mathlib.Omega.{arith}
 use lib.Bits.{bit_or}
 use Rattle.triples.proofs.ByteLaws.{down_bits}
-use Rattle.triples.proofs.down.Statement.{statement}
-use Rattle.triples.proofs.down.Tie as tie
+use Rattle.triples.proofs.down.Goals as goal
 
-returns : tie.Need-returns
+pub returns : goal.returns
 returns c = down_bits c.args.w (omega arith) (bit_or c.args.w (c.args.w / 2))
     (bit_or (bit_or c.args.w (c.args.w / 2)) (bit_or c.args.w (c.args.w / 2) / 4)) refl refl
-
-pub down-spec : {M : Type 1} → statement M
-down-spec = tie.close (tie.spec returns)
