@@ -19,14 +19,13 @@ pub overflow_mul-left-2 : goal.overflow_mul-left-2
 overflow_mul-left-2 c = omega (arith, square c.args.n (omega arith))
 
 pub loop-left-init : goal.loop-left-init
-loop-left-init c =
-    (
-      omega (arith, square c.args.n (omega arith)),
-      (
-        search rules,
-        row-start c.args.n c.args.a.now c.args.f (omega arith) (omega arith) c.row_of-row.result c.row_of-row.ensures,
-      ),
-    )
+loop-left-init c = (
+  omega (arith, square c.args.n (omega arith)),
+  (
+    search rules,
+    row-start c.args.n c.args.a.now c.args.f (omega arith) (omega arith) c.row_of-row.result c.row_of-row.ensures,
+  ),
+)
 
 pub returns-then-more-f-ne0 : goal.returns-then-more-f-ne0
 returns-then-more-f-ne0 c =
@@ -43,15 +42,14 @@ returns-then-same_bytes c =
     c.joined_row-more.ensures (c.same_bytes.ensures.holds c.if-same_bytes.true))
 
 pub loop-left-preserved : goal.loop-left-preserved
-loop-left-preserved c =
-    (
-      omega arith,
-      (
-        search rules,
-        row_more c.args.n c.args.a.now c.args.f (omega arith) (omega arith) c.loop-left.row c.joined_row-more.result c.loop-left.left (omega arith)
-            c.loop-left.invariant.1.1 c.joined_row-more.ensures,
-      ),
-    )
+loop-left-preserved c = (
+  omega arith,
+  (
+    search rules,
+    row_more c.args.n c.args.a.now c.args.f (omega arith) (omega arith) c.loop-left.row c.joined_row-more.result c.loop-left.left (omega arith)
+        c.loop-left.invariant.1.1 c.joined_row-more.ensures,
+  ),
+)
 
 pub returns : goal.returns
 returns c =

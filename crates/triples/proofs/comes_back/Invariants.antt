@@ -2,7 +2,7 @@
 -- ones then do not either. The invariant: the laps left lead from the row to row f of the definition's laps. These hold all that the row
 -- holds: if it has a priority of the mask at f, so have they. A row that a lap adds nothing to is row f of the laps.
 use mathlib.Core.Path.{◌≡◌}
-use Prim.Native.Nat.{◌-◌, ◌≤◌}
+use Prim.Native.Nat.{◌≤◌}
 use lib.ListN.{length}
 use Rattle.triples.proofs.RowLaws.{OnWay}
 use Rattle.triples.proofs.comes_back.Given as goal

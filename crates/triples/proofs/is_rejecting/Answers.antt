@@ -1,7 +1,6 @@
 -- `triples::is_rejecting` asks all operands before the first lap, and then one after another whether its row comes back. A set that leads
 -- back before the first lap does so after all. The invariant: none of the operands passed comes back.
 use mathlib.Core.Path.{refl, sym, ◌∙◌}
-use Prim.Native.Nat.{◌-◌}
 use native.Mathlib.Omega.{arith}
 use native.Mathlib.Nat.{le_antisymm}
 use Rattle.base.specs.Bits.{bit}
@@ -26,12 +25,11 @@ returns-then-comes_back c =
     ∙ rejecting_copied (bit c.args.mask) c.args.n c.args.area.now c.copied-a.result c.args.at (omega arith) c.copied-a.ensures
 
 pub loop-f-preserved : goal.loop-f-preserved
-loop-f-preserved c =
-    (
-      omega arith,
-      none_more (comes_back (bit c.args.mask) (laps c.args.n (triples_in c.args.n c.copied-a.result))) c.loop-f.f c.loop-f.invariant.1
-          (sym c.comes_back.ensures ∙ c.if-comes_back.false),
-    )
+loop-f-preserved c = (
+  omega arith,
+  none_more (comes_back (bit c.args.mask) (laps c.args.n (triples_in c.args.n c.copied-a.result))) c.loop-f.f c.loop-f.invariant.1
+      (sym c.comes_back.ensures ∙ c.if-comes_back.false),
+)
 
 pub returns : goal.returns
 returns c =

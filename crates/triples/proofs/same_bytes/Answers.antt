@@ -1,6 +1,5 @@
 -- `triples::same_bytes` gathers the bits in which the rows differ. The invariant: there are none exactly if the columns passed are the
 -- same.
-use Prim.Native.Nat.{◌-◌}
 use native.Mathlib.Omega.{arith}
 use native.Mathlib.Nat.{le_antisymm}
 use Rattle.triples.proofs.CellLaws.{differ_more, decides_yes}

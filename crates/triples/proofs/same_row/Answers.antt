@@ -1,5 +1,4 @@
 -- `triples::same_row` compares row f. The invariant: the columns passed are the same.
-use Prim.Native.Nat.{◌-◌}
 use native.Mathlib.Omega.{arith}
 use borrow.Author.Count.{below_more}
 use Rattle.triples.proofs.CellLaws.{decides_no, decides_yes}

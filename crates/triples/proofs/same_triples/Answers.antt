@@ -1,5 +1,4 @@
 -- `triples::same_triples` compares row by row. The invariant: the rows passed are the same.
-use Prim.Native.Nat.{◌-◌}
 use native.Mathlib.Omega.{arith}
 use borrow.Author.Count.{below_more}
 use Rattle.triples.proofs.CellLaws.{all_same, not_same}

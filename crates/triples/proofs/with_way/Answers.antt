@@ -1,6 +1,5 @@
 -- `triples::with_way` adds to a row, column by column, the smaller ones of x and row m of b: there are none where x is empty. The
 -- invariant: the columns passed have them, and all else is as it was.
-use Prim.Native.Nat.{◌-◌}
 use native.Mathlib.Omega.{arith}
 use native.Mathlib.Nat.{le_antisymm}
 use borrow.Author.Rules.{rules}
@@ -16,15 +15,14 @@ pub loop-g-init : goal.loop-g-init
 loop-g-init c = (omega arith, (search rules, row_stays c.args.row 0 _ (λ k g h l. absurd (omega arith))))
 
 pub loop-g-preserved : goal.loop-g-preserved
-loop-g-preserved c =
-    (
-      omega arith,
-      (
-        simp length-set c.loop-g.invariant.1.0,
-        row-store c.args.row c.loop-g.r c.loop-g.g _ _ (omega arith) c.loop-g.invariant.1.1
-            (or_bits _ c.minima.result _ c.minima.ensures),
-      ),
-    )
+loop-g-preserved c = (
+  omega arith,
+  (
+    simp length-set c.loop-g.invariant.1.0,
+    row-store c.args.row c.loop-g.r c.loop-g.g _ _ (omega arith) c.loop-g.invariant.1.1
+        (or_bits _ c.minima.result _ c.minima.ensures),
+  ),
+)
 
 pub returns : goal.returns
 returns c = rw (le_antisymm c.loop-g.invariant.0 c.loop-g-test.false) at c.loop-g.invariant.1.1
