@@ -1,6 +1,5 @@
 -- `traces::least_mask` goes over the rows. The invariant: the mask has the least fixpoints of the rows passed.
 use mathlib.Core.Path.{sym, ◌∙◌}
-use Prim.Native.Nat.{◌-◌}
 use native.Mathlib.Omega.{arith}
 use Rattle.formula.specs.Rows.{operator_at}
 use Rattle.tableau.proofs.RowLaws.{placed}

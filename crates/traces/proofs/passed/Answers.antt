@@ -1,5 +1,4 @@
 -- `traces::passed` passes on row by row. The invariant: what is left of the definition's sweep leads to its end.
-use Prim.Native.Nat.{◌-◌}
 use native.Mathlib.Omega.{arith}
 use Rattle.tableau.proofs.RowLaws.{placed}
 use Rattle.traces.proofs.RankLaws.{fix-small}

@@ -1,5 +1,5 @@
 -- `traces::ranked` counts the next and the fixpoints row by row. The invariant: the ranks of the rows passed are stored.
-use Prim.Native.Nat.{ℕ, ◌-◌}
+use Prim.Native.Nat.{ℕ}
 use native.Mathlib.Omega.{arith}
 use lib.ListN.{replicate, length-replicate}
 use Rattle.traces.proofs.RankLaws.{one_of, ranking_small, ranking_start, ranking_more, ranking_end}

@@ -1,6 +1,5 @@
 -- `traces::same48` compares byte by byte. The invariant: the bytes passed are the same.
 use mathlib.Core.Path.{sym, subst}
-use Prim.Native.Nat.{◌-◌}
 use native.Mathlib.Omega.{arith}
 use borrow.Author.Count.{below_more}
 use lib.Dec.{T}

@@ -1,6 +1,5 @@
 -- `traces::triple_row` fills row f next by next. The invariant: the nexts passed are in their columns, and the other rows stay.
 use mathlib.Core.Path.{refl, sym, ◌∙◌}
-use Prim.Native.Nat.{◌-◌}
 use native.Mathlib.Omega.{arith}
 use Rattle.traces.proofs.RankLaws.{next_small}
 use Rattle.traces.proofs.NextLaws.{row_more}
@@ -24,13 +23,16 @@ bounds-marks-e c = omega (arith, c.requires.nexts_ranked.limited.formed.few)
 
 pub put_if-requires : goal.put_if-requires
 put_if-requires c =
-    let small = next_small c.requires.nexts_ranked.limited c.loop-e.e c.loop-e-test.true in record { f_bound = omega arith; g_in_bounds = λ o. omega (
+    let small = next_small c.requires.nexts_ranked.limited c.loop-e.e c.loop-e-test.true in record {
+      f_bound = omega arith;
+      g_in_bounds = λ o. omega (
         arith,
         c.put_if-arg-1.given.0.1,
         c.wide.ensures,
         c.requires.nexts_ranked.ranked c.loop-e.e c.loop-e-test.true,
         small (sym c.is_next-on.ensures ∙ o),
-      ) }
+      );
+    }
 
 pub loop-e-preserved : goal.loop-e-preserved
 loop-e-preserved c =

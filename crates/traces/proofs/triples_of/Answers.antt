@@ -1,5 +1,4 @@
 -- `traces::triples_of` goes over the rows. The invariant: the nexts passed have their rows, and the rows after these are empty.
-use Prim.Native.Nat.{◌-◌}
 use native.Mathlib.Omega.{arith}
 use lib.ListN.{get_or-replicate}
 use Rattle.traces.proofs.NextLaws.{all_done}
