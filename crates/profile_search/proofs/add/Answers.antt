@@ -15,11 +15,15 @@ returns-then-known c =
 
 pub chain-requires : goal.chain-requires
 chain-requires c =
-    record { store_chained = record {
+    record {
+      store_chained = record {
         fits = subst⁻¹ (StoreFits c.args.store) c.write.ensures.bytes_between.same_length c.requires.store_chained.fits;
         room = c.requires.store_chained.room;
         chained = chained-kept c.requires.store_chained.fits.next c.write.ensures.bytes_between c.requires.store_chained.chained;
-      }; count_lt_capacity = (c.if-count-store.true, c.bucket-k.ensures.1); k_value = c.bucket-k.ensures.0 ∙ ap (λ (y : FoundProfile). bucket_of c.args.store y.at) (sym c.write.ensures.p_after) }
+      };
+      count_lt_capacity = (c.if-count-store.true, c.bucket-k.ensures.1);
+      k_value = c.bucket-k.ensures.0 ∙ ap (λ (y : FoundProfile). bucket_of c.args.store y.at) (sym c.write.ensures.p_after);
+    }
 
 pub returns-then-count-store : goal.returns-then-count-store
 returns-then-count-store c =

@@ -1,5 +1,4 @@
 -- `profile_search::begin_before` halves the records between those that are known to begin before the node and those that are known not to.
-use Prim.Native.Nat.{◌-◌}
 use Rattle.profile_search.proofs.RisingLaws.{halved_start, halved_up, halved_down, halved_done}
 use native.Mathlib.Omega.{arith}
 use Rattle.profile_search.proofs.begin_before.Goals as goal

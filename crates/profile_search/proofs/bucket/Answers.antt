@@ -2,13 +2,12 @@
 -- hash.
 use mathlib.Core.Path.{refl, ap, ◌∙◌}
 use mathlib.Core.List.{map, foldl}
-use Prim.Native.Nat.{ℕ, ◌+◌, ◌-◌, ◌*◌, ◌/◌}
+use Prim.Native.Nat.{ℕ, ◌+◌, ◌*◌, ◌/◌}
 use native.Mathlib.Nat.{le_antisymm, mod-lt}
 use Rattle.base.specs.Lists.{range}
 use Rattle.profile_search.specs.Stored.{row_of, mixed_row}
 use Rattle.profile_search.proofs.BucketLaws.{fold_more, bucket_is}
 use native.Mathlib.Omega.{arith}
-use borrow.Author.Rules.{rules}
 use Rattle.profile_search.proofs.bucket.Goals as goal
 
 pub loop-f-init : goal.loop-f-init

@@ -1,7 +1,6 @@
 -- `profile_search::extend` adds one profile followed by each of one transition. The invariant: the first q of these are done. Those before
 -- the first that is tried begin before the profile's last node, and those behind the last one begin after it.
 use mathlib.Core.Path.{subst⁻¹}
-use Prim.Native.Nat.{◌-◌}
 use Rattle.profile_search.specs.Stored.{StoreFits}
 use Rattle.profile_search.proofs.TurnLaws.{extend_start, extend_more, extend_stop, extend_done}
 use native.Mathlib.Omega.{arith}
@@ -23,7 +22,7 @@ pub loop-q-init : goal.loop-q-init
 loop-q-init c =
     record {
       turn = c.begin_before-q.ensures.among;
-      grown = extend_start _ _ _ _ _ c.requires.store_chained.room c.requires.store_chained.chained
+      grown = extend_start c.args.store c.args.count c.args.p c.args.area.now c.begin_before-q.result c.requires.store_chained.room c.requires.store_chained.chained
           (λ j l h e. omega (arith, c.begin_before-q.ensures.before j h, c.header_of-e.ensures.last));
     }
 
@@ -37,11 +36,14 @@ returns-then-store-all c =
 
 pub longer-all-requires : goal.longer-all-requires
 longer-all-requires c =
-    record { store_chained = record {
+    record {
+      store_chained = record {
         fits = subst⁻¹ (StoreFits c.args.store) c.loop-q.invariant.grown.elsewhere.same_length c.requires.store_chained.fits;
         room = c.if-store-all.false;
         chained = c.loop-q.invariant.grown.chained c.if-store-all.false;
-      }; p_lt_count = (omega (arith, c.loop-q.invariant.grown.more), omega (arith, c.loop-q.invariant.grown.more, c.begin_before-end.ensures.among)) }
+      };
+      p_lt_count = (omega (arith, c.loop-q.invariant.grown.more), omega (arith, c.loop-q.invariant.grown.more, c.begin_before-end.ensures.among));
+    }
 
 pub loop-q-preserved : goal.loop-q-preserved
 loop-q-preserved c =

@@ -5,8 +5,7 @@ use Rattle.profile_search.specs.Stored.{two}
 use Rattle.profile_search.proofs.get2.Goals as goal
 
 pub returns : goal.returns
-returns c =
-    (
-      c.number_at.ensures.0 ∙ ap (λ (at : ℕ). two c.args.area.now (at + c.args.offset)) c.record_start.ensures,
-      c.number_at.ensures.1,
-    )
+returns c = (
+  c.number_at.ensures.0 ∙ ap (λ (at : ℕ). two c.args.area.now (at + c.args.offset)) c.record_start.ensures,
+  c.number_at.ensures.1,
+)

@@ -1,6 +1,5 @@
 -- `profile_search::known` looks for a profile among the records of its bucket, from the last one back by their links. The invariant: the
 -- records from number v on are other profiles, and record v - 1 is in the bucket.
-use Prim.Native.Nat.{◌-◌}
 use Rattle.triples.specs.Inner.{triples_in}
 use Rattle.profile_search.specs.Stored.{profile_of}
 use Rattle.profile_search.proofs.BucketLaws.{ChainPassed}

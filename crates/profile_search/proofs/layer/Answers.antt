@@ -1,7 +1,6 @@
 -- `profile_search::layer` goes on from each record of a layer in turn. The invariant: what the search has found up to number p is in the
 -- area.
 use mathlib.Core.Path.{subst⁻¹}
-use Prim.Native.Nat.{◌-◌}
 use Rattle.profile_search.specs.Stored.{StoreFits}
 use Rattle.profile_search.proofs.RisingLaws.{rising-kept}
 use Rattle.profile_search.proofs.TurnLaws.{pending_start, pending_next, pending_stop, pending_done}
@@ -25,11 +24,15 @@ returns-then-store-all c =
 
 pub extend-all-requires : goal.extend-all-requires
 extend-all-requires c =
-    record { store_chained = record {
+    record {
+      store_chained = record {
         fits = subst⁻¹ (StoreFits c.args.store) c.loop-p.invariant.pending.grown.elsewhere.same_length c.requires.store_chained.fits;
         room = c.if-store-all.false;
         chained = c.loop-p.invariant.pending.grown.chained c.if-store-all.false;
-      }; rising = rising-kept c.args.store c.args.area.now c.loop-p.area (λ i h. c.loop-p.invariant.pending.grown.kept i (omega (arith, c.requires.from_le_to.1))) c.requires.rising; p_lt_count = (omega (arith, c.loop-p-test.true, c.loop-p.invariant.pending.grown.more), omega (arith, c.requires.from_le_to.1, c.loop-p.invariant.pending.grown.more)) }
+      };
+      rising = rising-kept c.args.store c.args.area.now c.loop-p.area (λ i h. c.loop-p.invariant.pending.grown.kept i (omega (arith, c.requires.from_le_to.1))) c.requires.rising;
+      p_lt_count = (omega (arith, c.loop-p-test.true, c.loop-p.invariant.pending.grown.more), omega (arith, c.requires.from_le_to.1, c.loop-p.invariant.pending.grown.more));
+    }
 
 pub loop-p-preserved : goal.loop-p-preserved
 loop-p-preserved c =

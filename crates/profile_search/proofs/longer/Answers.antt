@@ -26,11 +26,14 @@ overflow_add-header c =
 
 pub add-requires : goal.add-requires
 add-requires c =
-    record { store_chained = c.requires.store_chained; header_fits = record {
+    record {
+      store_chained = c.requires.store_chained;
+      header_fits = record {
         first = c.header_of-a.ensures.small.first;
         last = c.header_of-b.ensures.small.last;
         parent = omega (arith, c.requires.store_chained.fits.few, c.requires.store_chained.room, c.requires.p_lt_count.0);
-      } }
+      };
+    }
 
 pub returns : goal.returns
 returns c =

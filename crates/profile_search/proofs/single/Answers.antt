@@ -24,7 +24,9 @@ add-requires c =
     let target = subst (TargetBy _ _ _ _) c.in-Leads.is (stepped c.requires.choice_ready.core_node c.by_word.ensures) in
     record {
       store_chained = record {
-        fits = c.requires.node_ready.given.fits; room = c.requires.node_ready.room; chained = c.requires.node_ready.chained
+        fits = c.requires.node_ready.given.fits;
+        room = c.requires.node_ready.room;
+        chained = c.requires.node_ready.chained;
       };
       header_fits = record {
         first = omega (arith, c.requires.node_ready.node, c.requires.node_ready.given.few);

@@ -1,6 +1,5 @@
 -- `profile_search::singles` adds the profiles of one transition, node by node. The invariant: those of the nodes before i are done.
 use native.Mathlib.Omega.{arith}
-use Prim.Native.Nat.{◌-◌}
 use Rattle.profile_search.proofs.SingleLaws.{given-kept, all_start, all_turn, all_stop, all_done}
 use Rattle.profile_search.proofs.singles.Goals as goal
 

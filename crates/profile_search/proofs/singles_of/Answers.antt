@@ -1,7 +1,7 @@
 -- `profile_search::singles_of` adds the profiles of a node's transitions. The invariant: those of the choice words below `word` are done.
 use mathlib.Core.Path.{ap, ◌∙◌}
 use native.Mathlib.Omega.{arith}
-use Prim.Native.Nat.{ℕ, ◌-◌, ◌^◌}
+use Prim.Native.Nat.{ℕ, ◌^◌}
 use Rattle.profile_search.proofs.GrowLaws.{grown-still}
 use Rattle.profile_search.proofs.SingleLaws.{given-kept, from-kept, of_turn, of_stop, of_done}
 use Rattle.profile_search.proofs.singles_of.Goals as goal
@@ -24,7 +24,7 @@ power-end-requires c =
 
 pub loop-word-init : goal.loop-word-init
 loop-word-init c =
-    record { turn = omega arith; grown = grown-still _ _ _ c.requires.room c.requires.chained }
+    record { turn = omega arith; grown = grown-still c.args.store c.args.count c.args.area.now c.requires.room c.requires.chained }
 
 pub shape_of-area-then-store-all : goal.shape_of-area-then-store-all
 shape_of-area-then-store-all c =
@@ -38,18 +38,21 @@ returns-then-store-all c =
 
 pub single-all-requires : goal.single-all-requires
 single-all-requires c =
-    let end_is = c.power-end.ensures ∙ ap (λ (n : ℕ). 2 ^ n) c.ors.ensures in record { node_ready = record {
+    let end_is = c.power-end.ensures ∙ ap (λ (n : ℕ). 2 ^ n) c.ors.ensures in record {
+      node_ready = record {
         given = given-kept c.requires.given c.loop-word.invariant.grown.elsewhere (omega arith);
         node = c.requires.node;
         room = c.if-store-all.false;
         chained = c.loop-word.invariant.grown.chained c.if-store-all.false;
-      }; choice_ready = record {
+      };
+      choice_ready = record {
         set_is = from-kept c.requires.given c.loop-word.invariant.grown.elsewhere (omega arith) c.args.number.0 c.requires.node c.node-set.ensures;
         unmet_is = c.unmet-unmet.ensures;
         core_is = c.core_of-core.ensures.0;
         core_node = c.core_of-core.ensures.1;
         below = omega (arith, c.loop-word-test.true, end_is);
-      } }
+      };
+    }
 
 pub loop-word-preserved : goal.loop-word-preserved
 loop-word-preserved c =

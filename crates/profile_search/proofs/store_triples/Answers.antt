@@ -1,5 +1,4 @@
 -- `profile_search::store_triples` copies 144 bytes. The invariant: those passed are copied, and no other has changed.
-use Prim.Native.Nat.{◌-◌}
 use Rattle.profile_search.proofs.RecordLaws.{changed-none, changed_set, store_triples_more}
 use native.Mathlib.Omega.{arith}
 use Rattle.profile_search.proofs.store_triples.Goals as goal
