@@ -175,20 +175,20 @@ module _ {rows : List ℕ} {count : ℕ} (limited : RowsLimited rows count) (e :
 
 -- what counting over the rows has made after e of them
 pub record Ranking (rows : List ℕ) (e : ℕ) (next fix : List ℕ) (nexts fixes : ℕ) : Type 0 where
-  pub next-long : length next ≡ 48
-  pub fix-long : length fix ≡ 48
-  pub next-ranked : Ranked (next_rank rows) e next
-  pub fix-ranked : Ranked (fix_rank rows) e fix
+  pub next_long : length next ≡ 48
+  pub fix_long : length fix ≡ 48
+  pub next_ranked : Ranked (next_rank rows) e next
+  pub fix_ranked : Ranked (fix_rank rows) e fix
   pub nexts_are : nexts ≡ next_rank rows e
   pub fixes_are : fixes ≡ fix_rank rows e
 
 pub ranking_start : (rows next fix : List ℕ) → length next ≡ 48 → length fix ≡ 48 → Ranking rows 0 next fix 0 0
 ranking_start rows next fix l k =
     record {
-      next-long = l;
-      fix-long = k;
-      next-ranked = λ d h. absurd (omega arith);
-      fix-ranked = λ d h. absurd (omega arith);
+      next_long = l;
+      fix_long = k;
+      next_ranked = λ d h. absurd (omega arith);
+      fix_ranked = λ d h. absurd (omega arith);
       nexts_are = refl;
       fixes_are = refl;
     }
@@ -199,14 +199,14 @@ pub ranking_more : (rows : List ℕ) (e : ℕ) (next fix : List ℕ) (nexts fixe
     (fixes + m)
 ranking_more rows e next fix nexts fixes n m h en em r =
     record {
-      next-long = length-set next e (nexts % 256) ∙ r.next-long;
-      fix-long = length-set fix e (fixes % 256) ∙ r.fix-long;
-      next-ranked =
-          ranked-more (next_rank rows) e nexts next (omega (arith, r.next-long)) r.nexts_are
-          (omega (arith, r.nexts_are, before-most (next_at rows) e)) r.next-ranked;
-      fix-ranked =
-          ranked-more (fix_rank rows) e fixes fix (omega (arith, r.fix-long)) r.fixes_are
-          (omega (arith, r.fixes_are, before-most (fix_at rows) e)) r.fix-ranked;
+      next_long = length-set next e (nexts % 256) ∙ r.next_long;
+      fix_long = length-set fix e (fixes % 256) ∙ r.fix_long;
+      next_ranked =
+          ranked-more (next_rank rows) e nexts next (omega (arith, r.next_long)) r.nexts_are
+          (omega (arith, r.nexts_are, before-most (next_at rows) e)) r.next_ranked;
+      fix_ranked =
+          ranked-more (fix_rank rows) e fixes fix (omega (arith, r.fix_long)) r.fixes_are
+          (omega (arith, r.fixes_are, before-most (fix_at rows) e)) r.fix_ranked;
       nexts_are = ap (λ (k : ℕ). k + n) r.nexts_are ∙ before-one (next_at rows) e n en;
       fixes_are = ap (λ (k : ℕ). k + m) r.fixes_are ∙ before-one (fix_at rows) e m em;
     }
@@ -217,8 +217,8 @@ ranking_end rows count e next fix nexts fixes h k r =
     let q : e ≡ count = omega arith in
     record {
       nexts_are = r.nexts_are ∙ ap (next_rank rows) q ∙ sym (operands-all rows count);
-      next_is = λ d l. r.next-ranked d (omega arith);
-      fix_is = λ d l. r.fix-ranked d (omega arith);
+      next_is = λ d l. r.next_ranked d (omega arith);
+      fix_is = λ d l. r.fix_ranked d (omega arith);
     }
 
 -- so that counts fit
