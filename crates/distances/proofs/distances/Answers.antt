@@ -10,11 +10,10 @@ use Rattle.distances.proofs.SearchLaws.{search_from, found, search-next, ends, c
 use Rattle.distances.proofs.distances.Goals as goal
 
 pub loop-far-init : goal.loop-far-init
-loop-far-init c =
-    (
-      omega arith,
-      search_from c.args.to (omega (arith, c.requires.steps.few)) c.power.ensures c.clear.ensures,
-    )
+loop-far-init c = (
+  omega arith,
+  search_from c.args.to (omega (arith, c.requires.steps.few)) c.power.ensures c.clear.ensures,
+)
 
 -- EXTRA κs
 pub expand-requires : goal.expand-requires
@@ -33,12 +32,11 @@ returns-then-not-part c =
     (rows_of c.requires.steps) (omega (arith, c.requires.to_lt_count.0)) c.part.ensures c.if-not-part.true
 
 pub loop-far-preserved : goal.loop-far-preserved
-loop-far-preserved c =
-    (
-      omega arith,
-      search-next c.loop-far.invariant.1 c.expand.ensures (has_not _ c.args.to c.has.ensures c.if-has.false)
-          (rows_of c.requires.steps) (omega (arith, c.requires.to_lt_count.0)) c.part.ensures (omega (arith, c.requires.to_lt_count.1)),
-    )
+loop-far-preserved c = (
+  omega arith,
+  search-next c.loop-far.invariant.1 c.expand.ensures (has_not _ c.args.to c.has.ensures c.if-has.false)
+      (rows_of c.requires.steps) (omega (arith, c.requires.to_lt_count.0)) c.part.ensures (omega (arith, c.requires.to_lt_count.1)),
+)
 
 pub returns : goal.returns
 returns c = cut_off c.loop-far.invariant.1 (omega arith)

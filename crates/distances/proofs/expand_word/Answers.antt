@@ -7,11 +7,10 @@ use Rattle.distances.proofs.ExpandLaws.{expanded_none, expanded_same, expanded_b
 use Rattle.distances.proofs.expand_word.Goals as goal
 
 pub loop-left-init : goal.loop-left-init
-loop-left-init c =
-    (
-      left-all c.args.level,
-      expanded_none _ _ _ (taken_none c.args.at c.args.level) c.requires.steps_len c.requires.set_len,
-    )
+loop-left-init c = (
+  left-all c.args.level,
+  expanded_none _ _ _ (taken_none c.args.at c.args.level) c.requires.steps_len c.requires.set_len,
+)
 
 -- EXTRA κs
 pub with_row-requires : goal.with_row-requires

@@ -13,8 +13,7 @@ loop-i-init c = (omega arith, filled_none 0 _ _)
 
 pub loop-i-preserved : goal.loop-i-preserved
 loop-i-preserved c =
-    let loop = c.loop-i in
-    (
+    let loop = c.loop-i in (
       omega arith,
       filled_more loop.invariant.1 (omega (arith, c.requires.rows.fit, c.requires.set_len))
           (ap (λ (w : ℕ). bit_or w (get_or c.args.relation.now (1024 * loop.i + c.args.row) 0))

@@ -10,7 +10,6 @@ use Rattle.formula.proofs.CodeCommand.{opened_command, unary_command, refused-co
 use Rattle.formula.proofs.command.Reads as command
 use Rattle.formula.proofs.+command.Goals as goal
 
-
 pub opcode_at-opened-requires : goal.opcode_at-opened-requires
 opcode_at-opened-requires t c = c.requires.limits
 
