@@ -23,7 +23,14 @@ fn find(s: &[u8], from: usize, mark: u8) -> usize
     requires { from ≤ length s.now }
     ensures { (from ≤ result) × (result ≤ length s.now) }
 {
-    bytes::scan::find(s, from, s.len(), mark)
+    let mut at = from;
+    while at < s.len() {
+        if s[at] == mark {
+            return at;
+        }
+        at += 1;
+    }
+    at
 }
 
 // Where the part of this number begins, from 0, the parts standing between marks: behind the end, where there are fewer.

@@ -55,8 +55,7 @@ fn filled(chunk: &mut [u8], place: Place) -> Place {
 }
 
 fn read(chunk: &mut [u8]) -> usize {
-    let got = libc::read(0, chunk);
-    io::count(got, chunk)
+    io::read_full(0, chunk)
 }
 
 // The next byte, or 256 at the input's end.
