@@ -17,19 +17,36 @@ no-notes e = let z : ◌≡◌ {A = ℕ} 0 1 = cc in absurd (omega arith)
 
 pub nodes-known-requires : goal.nodes-known-requires
 nodes-known-requires c =
-    record { formed = c.requires.formed; node_room = record { fits = c.requires.node_room.fits; few = c.requires.node_room.few; enough = omega (arith, c.requires.node_room.few) }; capacity_in_bounds = c.requires.node_capacity_in_bounds }
+    record {
+      formed = c.requires.formed;
+      node_room = record {
+        fits = c.requires.node_room.fits;
+        few = c.requires.node_room.few;
+        enough = omega (arith, c.requires.node_room.few);
+      };
+      capacity_in_bounds = c.requires.node_capacity_in_bounds;
+    }
 
 pub returns-then-node_capacity-known : goal.returns-then-node_capacity-known
 returns-then-node_capacity-known c =
     let t = table_of c.args.rows.now c.args.count in
-    record { value = check_many c.args.nodes c.args.node_capacity c.args.area.now t c.nodes-known.ensures.nodes_held c.if-node_capacity-known.true; origins = no-notes }
+    record {
+      value = check_many c.args.nodes c.args.node_capacity c.args.area.now t c.nodes-known.ensures.nodes_held c.if-node_capacity-known.true;
+      origins = no-notes;
+    }
 
 pub returns-then-nodes-known : goal.returns-then-nodes-known
 returns-then-nodes-known c =
     let t = table_of c.args.rows.now c.args.count in
-    record { value = check_other c.args.nodes c.args.node_capacity c.args.area.now t c.nodes-known.ensures.nodes_held c.if-node_capacity-known.false c.if-nodes-known.true; origins = no-notes }
+    record {
+      value = check_other c.args.nodes c.args.node_capacity c.args.area.now t c.nodes-known.ensures.nodes_held c.if-node_capacity-known.false c.if-nodes-known.true;
+      origins = no-notes;
+    }
 
 pub returns : goal.returns
 returns c =
     let t = table_of c.args.rows.now c.args.count in
-    let over = own_zeros c.args.node_capacity (omega (arith, c.requires.node_room.few)) in record { value = check_same c.args.nodes c.args.node_capacity c.args.area.now t c.nodes-known.ensures.nodes_held c.if-node_capacity-known.false c.if-nodes-known.false (zeros (8192 - nodes_size c.args.node_capacity)) over c.same_bytes.ensures; origins = λ e. subst⁻¹ (Origins t c.nodes-known.new.origins) c.if-nodes-known.false (c.nodes-known.ensures.origins c.if-node_capacity-known.false) }
+    let over = own_zeros c.args.node_capacity (omega (arith, c.requires.node_room.few)) in record {
+      value = check_same c.args.nodes c.args.node_capacity c.args.area.now t c.nodes-known.ensures.nodes_held c.if-node_capacity-known.false c.if-nodes-known.false (zeros (8192 - nodes_size c.args.node_capacity)) over c.same_bytes.ensures;
+      origins = λ e. subst⁻¹ (Origins t c.nodes-known.new.origins) c.if-nodes-known.false (c.nodes-known.ensures.origins c.if-node_capacity-known.false);
+    }

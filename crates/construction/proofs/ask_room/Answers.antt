@@ -21,7 +21,11 @@ returns-then-workspace-asked c =
 pub nodes-nodes-requires : goal.nodes-nodes-requires
 nodes-nodes-requires c =
     let r = range-granted c.args.node_capacity c.between.ensures c.if-not-between.false in
-    record { formed = c.requires; node_room = record { fits = r.0; few = r.1; enough = search rules }; capacity_in_bounds = omega (arith, r.1) }
+    record {
+      formed = c.requires;
+      node_room = record { fits = r.0; few = r.1; enough = search rules };
+      capacity_in_bounds = omega (arith, r.1);
+    }
 
 pub returns-then-node_capacity-nodes : goal.returns-then-node_capacity-nodes
 returns-then-node_capacity-nodes c =

@@ -14,7 +14,10 @@ loop-i-init c = record { passed = omega arith; is = refl }
 
 pub loop-i-preserved : goal.loop-i-preserved
 loop-i-preserved c =
-    record { passed = omega arith; is = alike-more c.args.a.now c.args.b.now c.loop-i.i c.loop-i.invariant.is (omega arith) (omega arith) }
+    record {
+      passed = omega arith;
+      is = alike-more c.args.a.now c.args.b.now c.loop-i.i c.loop-i.invariant.is (omega arith) (omega arith);
+    }
 
 pub returns : goal.returns
 returns c =

@@ -40,7 +40,11 @@ are-nodes-requires c κs =
     let capacity = (lent else).capacity in (
       else.before.before.before.before.requires.limited.formed,
       (
-        record { fits = capacity.some_nodes; few = capacity.few_nodes; enough = omega (arith, (lent else).workspace_fits) },
+        record {
+          fits = capacity.some_nodes;
+          few = capacity.few_nodes;
+          enough = omega (arith, (lent else).workspace_fits);
+        },
         omega (arith, capacity.few_nodes),
       ),
     )

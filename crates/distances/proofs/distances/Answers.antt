@@ -17,7 +17,12 @@ loop-far-init c = (
 pub expand-requires : goal.expand-requires
 expand-requires c =
     let inv = c.loop-far.invariant.1 in
-    let rows = rows_of c.requires.steps in record { rows = rows; by_index = (λ x t. walk_covered rows (omega (arith, c.requires.to_lt_count.0)) (inv.level_of x t).walk); steps_len = inv.long_steps; set_len = refl }
+    let rows = rows_of c.requires.steps in record {
+      rows = rows;
+      by_index = (λ x t. walk_covered rows (omega (arith, c.requires.to_lt_count.0)) (inv.level_of x t).walk);
+      steps_len = inv.long_steps;
+      set_len = refl;
+    }
 
 pub returns-then-has : goal.returns-then-has
 returns-then-has c =

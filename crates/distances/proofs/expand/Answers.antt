@@ -12,7 +12,12 @@ loop-at-init c =
 -- EXTRA κs
 pub expand_word-requires : goal.expand_word-requires
 expand_word-requires c =
-    record { rows = c.requires.rows; at_bound = omega (arith, c.requires.rows.fit); steps_len = c.loop-at.invariant.1.long; set_len = c.loop-at.invariant.1.wide }
+    record {
+      rows = c.requires.rows;
+      at_bound = omega (arith, c.requires.rows.fit);
+      steps_len = c.loop-at.invariant.1.long;
+      set_len = c.loop-at.invariant.1.wide;
+    }
 
 pub loop-at-preserved : goal.loop-at-preserved
 loop-at-preserved c =

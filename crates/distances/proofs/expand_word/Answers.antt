@@ -15,7 +15,11 @@ loop-left-init c = (
 -- EXTRA κs
 pub with_row-requires : goal.with_row-requires
 with_row-requires c =
-    record { rows = c.requires.rows; row_bound = omega (arith, c.requires.at_bound, c.lowest-e.ensures.small); set_len = c.loop-left.invariant.1.wide }
+    record {
+      rows = c.requires.rows;
+      row_bound = omega (arith, c.requires.at_bound, c.lowest-e.ensures.small);
+      set_len = c.loop-left.invariant.1.wide;
+    }
 
 pub loop-left-smaller : goal.loop-left-smaller
 loop-left-smaller c =

@@ -117,7 +117,11 @@ loop-again c =
     let at-start = at-loop.before.before in
     let loop = at-loop.loop in
     let is = sym at-next-record.next-record.ensures.0 ∙ at-r.r.given.1 in
-    collect_on at-start.args.catalogue.now (record { starts = loop.starts; sizes = loop.sizes; count = loop.count }) loop.invariant is
+    collect_on at-start.args.catalogue.now (record {
+      starts = loop.starts;
+      sizes = loop.sizes;
+      count = loop.count;
+    }) loop.invariant is
     at_slot.slot.ensures.0
 
 pub collect-spec : {M : Type 1} → statement M

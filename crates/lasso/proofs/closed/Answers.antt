@@ -38,4 +38,7 @@ loop-k-preserved c =
 
 pub returns : goal.returns
 returns c =
-    record { yes = λ _ k l m. c.loop-k.invariant.none k (omega (arith, c.loop-k-test.false, c.loop-k.invariant.last)) l; no = λ q. absurd (true≢false q) }
+    record {
+      yes = λ _ k l m. c.loop-k.invariant.none k (omega (arith, c.loop-k-test.false, c.loop-k.invariant.last)) l;
+      no = λ q. absurd (true≢false q);
+    }

@@ -52,4 +52,7 @@ shape_of-words c = c.loop-i.invariant.swept.long
 
 pub returns : goal.returns
 returns c =
-    record { swept = changed_end _ _ _ c.loop-i.invariant.few c.loop-i-test.false c.loop-i.invariant.swept; still = c.loop-i.invariant.still }
+    record {
+      swept = changed_end _ _ _ c.loop-i.invariant.few c.loop-i-test.false c.loop-i.invariant.swept;
+      still = c.loop-i.invariant.still;
+    }

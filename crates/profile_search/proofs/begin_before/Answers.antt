@@ -11,7 +11,10 @@ overflow_add-middle c = omega (arith, c.loop-low.invariant.among, c.requires.sto
 
 pub header_of-e-requires : goal.header_of-e-requires
 header_of-e-requires c =
-    record { store_fits = c.requires.store_fits; p_lt_capacity = omega (arith, c.loop-low.invariant.among, c.requires.singles_le_capacity) }
+    record {
+      store_fits = c.requires.store_fits;
+      p_lt_capacity = omega (arith, c.loop-low.invariant.among, c.requires.singles_le_capacity);
+    }
 
 pub overflow_add-low : goal.overflow_add-low
 overflow_add-low c =

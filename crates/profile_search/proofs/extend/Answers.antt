@@ -12,11 +12,19 @@ overflow_add-e c =
 
 pub begin_before-end-requires : goal.begin_before-end-requires
 begin_before-end-requires c =
-    record { store_fits = c.requires.store_chained.fits; singles_le_capacity = omega (arith, c.requires.store_chained.room); rising = c.requires.rising }
+    record {
+      store_fits = c.requires.store_chained.fits;
+      singles_le_capacity = omega (arith, c.requires.store_chained.room);
+      rising = c.requires.rising;
+    }
 
 pub begin_before-q-requires : goal.begin_before-q-requires
 begin_before-q-requires c =
-    record { store_fits = c.requires.store_chained.fits; singles_le_capacity = omega (arith, c.requires.store_chained.room); rising = c.requires.rising }
+    record {
+      store_fits = c.requires.store_chained.fits;
+      singles_le_capacity = omega (arith, c.requires.store_chained.room);
+      rising = c.requires.rising;
+    }
 
 pub loop-q-init : goal.loop-q-init
 loop-q-init c =

@@ -17,7 +17,11 @@ stepped {rows} {count} {word} {target = target} e s = subst (λ (k : ℕ). Targe
 
 pub by_word-requires : goal.by_word-requires
 by_word-requires c =
-    record { formed = c.requires.node_ready.given.limited.formed; core_of = c.requires.choice_ready.core_is; unmet_ors = subst⁻¹ (λ (n : ℕ). UnmetOrs c.args.rows.now c.args.subformulas n c.args.unmet.now) c.requires.choice_ready.core_node c.requires.choice_ready.unmet_is }
+    record {
+      formed = c.requires.node_ready.given.limited.formed;
+      core_of = c.requires.choice_ready.core_is;
+      unmet_ors = subst⁻¹ (λ (n : ℕ). UnmetOrs c.args.rows.now c.args.subformulas n c.args.unmet.now) c.requires.choice_ready.core_node c.requires.choice_ready.unmet_is;
+    }
 
 pub add-requires : goal.add-requires
 add-requires c =

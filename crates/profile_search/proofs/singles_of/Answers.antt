@@ -24,7 +24,10 @@ power-end-requires c =
 
 pub loop-word-init : goal.loop-word-init
 loop-word-init c =
-    record { turn = omega arith; grown = grown-still c.args.store c.args.count c.args.area.now c.requires.room c.requires.chained }
+    record {
+      turn = omega arith;
+      grown = grown-still c.args.store c.args.count c.args.area.now c.requires.room c.requires.chained;
+    }
 
 pub shape_of-area-then-store-all : goal.shape_of-area-then-store-all
 shape_of-area-then-store-all c =

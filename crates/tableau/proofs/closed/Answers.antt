@@ -11,7 +11,10 @@ loop-c-init c = closing_start _ _ _ c.low.ensures
 
 pub closed_by-c-requires : goal.closed_by-c-requires
 closed_by-c-requires c =
-    record { placed = placed c.requires (closing_below c.loop-c.invariant c.lowest-e.ensures); lowest = c.lowest-e.ensures }
+    record {
+      placed = placed c.requires (closing_below c.loop-c.invariant c.lowest-e.ensures);
+      lowest = c.lowest-e.ensures;
+    }
 
 pub loop-c-smaller : goal.loop-c-smaller
 loop-c-smaller c =

@@ -47,7 +47,15 @@ returns-then-total-i c =
 
 pub expand-total-requires : goal.expand-total-requires
 expand-total-requires c =
-    record { formed = c.requires.formed; number_lt_known = c.if-total-i.false; growing = record { room = search rules; marked = c.loop-i.invariant.marked c.if-capacity-total.false; notes = search rules } }
+    record {
+      formed = c.requires.formed;
+      number_lt_known = c.if-total-i.false;
+      growing = record {
+        room = search rules;
+        marked = c.loop-i.invariant.marked c.if-capacity-total.false;
+        notes = search rules;
+      };
+    }
 
 pub loop-i-preserved : goal.loop-i-preserved
 loop-i-preserved c =

@@ -12,7 +12,10 @@ returns-then-choice_word-unmet-ne0 c =
 
 pub loop-j-preserved : goal.loop-j-preserved
 loop-j-preserved c =
-    record { passed = omega arith; none = none_more c.args.unmet.now c.args.choice_word c.loop-j.invariant.none c.if-choice_word-unmet-ne0.false }
+    record {
+      passed = omega arith;
+      none = none_more c.args.unmet.now c.args.choice_word c.loop-j.invariant.none c.if-choice_word-unmet-ne0.false;
+    }
 
 pub returns : goal.returns
 returns c =

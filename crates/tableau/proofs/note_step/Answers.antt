@@ -4,7 +4,10 @@ use Rattle.tableau.proofs.note_step.Goals as goal
 
 pub relate-requires : goal.relate-requires
 relate-requires c =
-    record { to_bound = (omega (arith, c.requires.at_lt_known c.if-to-capacity.true), c.requires.from_bound.0); has_block = c.if-from-relation.true }
+    record {
+      to_bound = (omega (arith, c.requires.at_lt_known c.if-to-capacity.true), c.requires.from_bound.0);
+      has_block = c.if-from-relation.true;
+    }
 
 pub returns-else-to-capacity : goal.returns-else-to-capacity
 returns-else-to-capacity c = λ e h. absurd (omega (arith, c.if-to-capacity.false))

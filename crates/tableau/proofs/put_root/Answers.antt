@@ -7,7 +7,10 @@ use Rattle.tableau.proofs.put_root.Goals as goal
 
 pub add-requires : goal.add-requires
 add-requires c =
-    record { growing = record { room = search rules; marked = marked-none _ _ c.requires.in_bounds; notes = search rules }; from_bound = search rules }
+    record {
+      growing = record { room = search rules; marked = marked-none _ _ c.requires.in_bounds; notes = search rules };
+      from_bound = search rules;
+    }
 
 pub returns : goal.returns
 returns c =

@@ -6,7 +6,11 @@ use Rattle.tableau.proofs.search_from_root.Goals as goal
 
 pub go_on-requires : goal.go_on-requires
 go_on-requires c =
-    record { formed = c.requires.formed; from_le_to = (omega arith, omega arith); growing = record { room = search rules; marked = c.put_root.ensures.marked; notes = search rules } }
+    record {
+      formed = c.requires.formed;
+      from_le_to = (omega arith, omega arith);
+      growing = record { room = search rules; marked = c.put_root.ensures.marked; notes = search rules };
+    }
 
 pub returns : goal.returns
 returns c =

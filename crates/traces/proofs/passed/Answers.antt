@@ -14,7 +14,10 @@ loop-e-init c =
 
 pub passing-requires : goal.passing-requires
 passing-requires c =
-    let small = fix-small c.requires.limited c.loop-e.e c.loop-e-test.true in record { placed = placed c.requires.limited.formed c.loop-e-test.true; s_bound = λ o. omega (arith, c.requires.ranked c.loop-e.e c.loop-e-test.true, small o) }
+    let small = fix-small c.requires.limited c.loop-e.e c.loop-e-test.true in record {
+      placed = placed c.requires.limited.formed c.loop-e-test.true;
+      s_bound = λ o. omega (arith, c.requires.ranked c.loop-e.e c.loop-e-test.true, small o);
+    }
 
 pub loop-e-preserved : goal.loop-e-preserved
 loop-e-preserved c =

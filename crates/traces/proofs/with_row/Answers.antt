@@ -26,7 +26,10 @@ reaching-w-requires c =
 pub triple_row-requires : goal.triple_row-requires
 triple_row-requires c =
     let small = next_small c.requires.nexts.limited c.args.s.0 c.requires.in_table (sym c.is_next.ensures ∙ c.if-not-is_next.false) in
-    record { nexts_ranked = c.requires.nexts; f_bound = omega (arith, c.wide-f.ensures, c.requires.nexts.ranked c.args.s.0 c.requires.in_table, small) }
+    record {
+      nexts_ranked = c.requires.nexts;
+      f_bound = omega (arith, c.wide-f.ensures, c.requires.nexts.ranked c.args.s.0 c.requires.in_table, small);
+    }
 
 pub returns : goal.returns
 returns c =
