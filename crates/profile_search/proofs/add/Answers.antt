@@ -28,7 +28,8 @@ chain-requires c =
 pub returns-then-count-store : goal.returns-then-count-store
 returns-then-count-store c =
     grown_new c.args.store c.args.count c.args.area.now c.requires.store_chained.room c.requires.store_chained.chained
-    (found_of c.args.header (triples_in c.args.store.n c.args.t.now)) c.requires.store_chained.fits.next (sym c.if-known.false ∙ c.known.ensures) c.if-count-store.true
+    (found_of c.args.header (triples_in c.args.store.n c.args.t.now)) c.requires.store_chained.fits.next
+    (sym c.if-known.false ∙ c.known.ensures) c.if-count-store.true
     c.write.ensures.p_after c.write.ensures.bytes_between c.chain.ensures.chained c.chain.ensures.by_index c.chain.ensures.bytes_between
 
 pub returns : goal.returns

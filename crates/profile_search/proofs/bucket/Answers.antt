@@ -25,5 +25,7 @@ pub returns : goal.returns
 returns c =
     let nodes = c.args.header.first.0 + c.args.header.last.0 * 65536 in
     let hashed : ℕ → ℕ = λ k. foldl mixed_row nodes (map (row_of c.args.t.now c.args.store.n) (range 0 k)) in
-    let all = le_antisymm c.loop-f.invariant.turn c.loop-f-test.false in
-    (bucket_is c.args.store c.args.header c.args.t.now c.loop-f.h (c.loop-f.invariant.hash ∙ ap hashed all), mod-lt (c.loop-f.h / 65536) c.requires.n_bound.1)
+    let all = le_antisymm c.loop-f.invariant.turn c.loop-f-test.false in (
+      bucket_is c.args.store c.args.header c.args.t.now c.loop-f.h (c.loop-f.invariant.hash ∙ ap hashed all),
+      mod-lt (c.loop-f.h / 65536) c.requires.n_bound.1,
+    )

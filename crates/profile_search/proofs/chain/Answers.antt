@@ -5,8 +5,12 @@ use Rattle.profile_search.proofs.chain.Goals as goal
 pub returns : goal.returns
 returns c =
     record {
-      chained = chained_more c.args.store c.args.count c.args.k c.put2.ensures.bytes_between c.put2-2.ensures.bytes_between c.put2-3.ensures.bytes_between c.put2.ensures.offset_after c.put2-2.ensures.offset_after c.put2-3.ensures.offset_after c.requires.store_chained.fits.next
+      chained = chained_more c.args.store c.args.count c.args.k c.put2.ensures.bytes_between c.put2-2.ensures.bytes_between
+          c.put2-3.ensures.bytes_between c.put2.ensures.offset_after c.put2-2.ensures.offset_after c.put2-3.ensures.offset_after
+          c.requires.store_chained.fits.next
           c.requires.store_chained.chained c.head-v.ensures c.requires.k_value;
-      by_index = linked-records c.args.store c.args.count c.args.k c.put2.ensures.bytes_between c.put2-2.ensures.bytes_between c.put2-3.ensures.bytes_between c.requires.store_chained.fits.next;
-      bytes_between = linked-changed c.args.store c.args.count c.args.k c.put2.ensures.bytes_between c.put2-2.ensures.bytes_between c.put2-3.ensures.bytes_between c.requires.count_lt_capacity.0 c.requires.count_lt_capacity.1;
+      by_index = linked-records c.args.store c.args.count c.args.k c.put2.ensures.bytes_between c.put2-2.ensures.bytes_between
+          c.put2-3.ensures.bytes_between c.requires.store_chained.fits.next;
+      bytes_between = linked-changed c.args.store c.args.count c.args.k c.put2.ensures.bytes_between c.put2-2.ensures.bytes_between
+          c.put2-3.ensures.bytes_between c.requires.count_lt_capacity.0 c.requires.count_lt_capacity.1;
     }

@@ -30,7 +30,8 @@ pub loop-q-init : goal.loop-q-init
 loop-q-init c =
     record {
       turn = c.begin_before-q.ensures.among;
-      grown = extend_start c.args.store c.args.count c.args.p c.args.area.now c.begin_before-q.result c.requires.store_chained.room c.requires.store_chained.chained
+      grown = extend_start c.args.store c.args.count c.args.p c.args.area.now c.begin_before-q.result c.requires.store_chained.room
+          c.requires.store_chained.chained
           (λ j l h e. omega (arith, c.begin_before-q.ensures.before j h, c.header_of-e.ensures.last));
     }
 
@@ -40,7 +41,8 @@ shape_of-area-then-store-all c =
 
 pub returns-then-store-all : goal.returns-then-store-all
 returns-then-store-all c =
-    extend_stop c.args.store c.args.count c.args.p c.args.area.now c.loop-q.q c.args.singles c.if-store-all.true c.loop-q.invariant.turn c.loop-q.invariant.grown
+    extend_stop c.args.store c.args.count c.args.p c.args.area.now c.loop-q.q c.args.singles c.if-store-all.true c.loop-q.invariant.turn
+    c.loop-q.invariant.grown
 
 pub longer-all-requires : goal.longer-all-requires
 longer-all-requires c =
@@ -50,14 +52,18 @@ longer-all-requires c =
         room = c.if-store-all.false;
         chained = c.loop-q.invariant.grown.chained c.if-store-all.false;
       };
-      p_lt_count = (omega (arith, c.loop-q.invariant.grown.more), omega (arith, c.loop-q.invariant.grown.more, c.begin_before-end.ensures.among));
+      p_lt_count = (
+        omega (arith, c.loop-q.invariant.grown.more),
+        omega (arith, c.loop-q.invariant.grown.more, c.begin_before-end.ensures.among),
+      );
     }
 
 pub loop-q-preserved : goal.loop-q-preserved
 loop-q-preserved c =
     record {
       turn = omega (arith, c.begin_before-end.ensures.among, c.loop-q-test.true);
-      grown = extend_more c.args.store c.args.count c.args.p c.args.area.now c.loop-q.q c.requires.p_lt_count.0 (omega (arith, c.begin_before-end.ensures.among, c.loop-q-test.true, c.requires.p_lt_count.1))
+      grown = extend_more c.args.store c.args.count c.args.p c.args.area.now c.loop-q.q c.requires.p_lt_count.0
+          (omega (arith, c.begin_before-end.ensures.among, c.loop-q-test.true, c.requires.p_lt_count.1))
           c.if-store-all.false c.loop-q.invariant.grown c.longer-all.ensures;
     }
 
@@ -67,4 +73,5 @@ shape_of-area c = c.loop-q.invariant.grown.elsewhere.same_length
 pub returns : goal.returns
 returns c =
     extend_done c.args.store c.args.count c.args.p c.args.area.now c.loop-q.q c.args.singles c.loop-q.invariant.turn
-    (λ j m h e. omega (arith, c.begin_before-end.ensures.behind j (omega (arith, c.loop-q-test.false)) h, c.header_of-e.ensures.last)) c.loop-q.invariant.grown
+    (λ j m h e. omega (arith, c.begin_before-end.ensures.behind j (omega (arith, c.loop-q-test.false)) h, c.header_of-e.ensures.last))
+    c.loop-q.invariant.grown

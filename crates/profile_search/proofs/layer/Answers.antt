@@ -30,15 +30,20 @@ extend-all-requires c =
         room = c.if-store-all.false;
         chained = c.loop-p.invariant.pending.grown.chained c.if-store-all.false;
       };
-      rising = rising-kept c.args.store c.args.area.now c.loop-p.area (λ i h. c.loop-p.invariant.pending.grown.kept i (omega (arith, c.requires.from_le_to.1))) c.requires.rising;
-      p_lt_count = (omega (arith, c.loop-p-test.true, c.loop-p.invariant.pending.grown.more), omega (arith, c.requires.from_le_to.1, c.loop-p.invariant.pending.grown.more));
+      rising = rising-kept c.args.store c.args.area.now c.loop-p.area (λ i h. c.loop-p.invariant.pending.grown.kept i
+          (omega (arith, c.requires.from_le_to.1))) c.requires.rising;
+      p_lt_count = (
+        omega (arith, c.loop-p-test.true, c.loop-p.invariant.pending.grown.more),
+        omega (arith, c.requires.from_le_to.1, c.loop-p.invariant.pending.grown.more),
+      );
     }
 
 pub loop-p-preserved : goal.loop-p-preserved
 loop-p-preserved c =
     record {
       turn = omega (arith, c.loop-p-test.true);
-      pending = pending_next c.loop-p.invariant.pending c.if-store-all.false (omega (arith, c.loop-p-test.true, c.loop-p.invariant.pending.grown.more))
+      pending = pending_next c.loop-p.invariant.pending c.if-store-all.false
+          (omega (arith, c.loop-p-test.true, c.loop-p.invariant.pending.grown.more))
           c.requires.from_le_to.1 c.extend-all.ensures;
     }
 

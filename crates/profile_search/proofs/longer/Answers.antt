@@ -5,12 +5,20 @@ use Rattle.profile_search.proofs.longer.Goals as goal
 
 pub returns-then-a-b : goal.returns-then-a-b
 returns-then-a-b c =
-    longer-none c.args.store c.args.count c.args.area.now c.args.p c.args.q c.header_of-a.ensures c.header_of-b.ensures c.requires.store_chained.room
+    longer-none c.args.store c.args.count c.args.area.now c.args.p c.args.q c.header_of-a.ensures c.header_of-b.ensures
+    c.requires.store_chained.room
     c.requires.store_chained.chained c.if-a-b.true
 
 pub record_start-requires-2 : goal.record_start-requires-2
-record_start-requires-2 c =
-    (c.requires.store_chained.fits.low, omega (arith, c.requires.store_chained.fits.few, c.requires.store_chained.room, c.requires.p_lt_count.1))
+record_start-requires-2 c = (
+  c.requires.store_chained.fits.low,
+  omega (
+    arith,
+    c.requires.store_chained.fits.few,
+    c.requires.store_chained.room,
+    c.requires.p_lt_count.1,
+  ),
+)
 
 pub copied-y-requires : goal.copied-y-requires
 copied-y-requires c =

@@ -36,9 +36,11 @@ loop-g-preserved c =
     let x = bits_of (get_or c.args.t.now (c.args.f * 12 + c.loop-g.g) 0) in
     record {
       turn = omega arith;
-      small = longer c.loop-g.sum c.loop-g.g x (values_length (bit (get_or c.args.t.now (c.args.f * 12 + c.loop-g.g) 0)) 0 8) c.mix-sum.ensures
+      small = longer c.loop-g.sum c.loop-g.g x (values_length (bit (get_or c.args.t.now (c.args.f * 12 + c.loop-g.g) 0)) 0 8)
+          c.mix-sum.ensures
           c.loop-g.invariant.small;
-      sum_is = fold_more mixed 0 (λ j. bits_of (get_or c.args.t.now (c.args.f * 12 + j) 0)) c.loop-g.g c.loop-g.invariant.sum_is c.mix-sum.ensures;
+      sum_is = fold_more mixed 0 (λ j. bits_of (get_or c.args.t.now (c.args.f * 12 + j) 0)) c.loop-g.g c.loop-g.invariant.sum_is
+          c.mix-sum.ensures;
     }
 
 pub overflow_add-result : goal.overflow_add-result

@@ -20,7 +20,8 @@ by_word-requires c =
     record {
       formed = c.requires.node_ready.given.limited.formed;
       core_of = c.requires.choice_ready.core_is;
-      unmet_ors = subst⁻¹ (λ (n : ℕ). UnmetOrs c.args.rows.now c.args.subformulas n c.args.unmet.now) c.requires.choice_ready.core_node c.requires.choice_ready.unmet_is;
+      unmet_ors = subst⁻¹ (λ (n : ℕ). UnmetOrs c.args.rows.now c.args.subformulas n c.args.unmet.now) c.requires.choice_ready.core_node
+          c.requires.choice_ready.unmet_is;
     }
 
 pub add-requires : goal.add-requires
@@ -34,7 +35,8 @@ add-requires c =
       };
       header_fits = record {
         first = omega (arith, c.requires.node_ready.node, c.requires.node_ready.given.few);
-        last = single-small c.requires.node_ready.given c.args.from.number.0 c.args.from.word c.requires.node_ready.node c.requires.choice_ready.below c.requires.choice_ready.set_is target c.in-Number.last c.find.ensures
+        last = single-small c.requires.node_ready.given c.args.from.number.0 c.args.from.word c.requires.node_ready.node
+            c.requires.choice_ready.below c.requires.choice_ready.set_is target c.in-Number.last c.find.ensures
             c.in-Number.is;
         parent = omega arith;
       };
@@ -42,20 +44,25 @@ add-requires c =
 
 pub returns-in-Nothing : goal.returns-in-Nothing
 returns-in-Nothing c =
-    single-nowhere c.requires.node_ready.given c.args.from.number.0 c.args.from.word c.requires.node_ready.node c.requires.choice_ready.set_is
-    c.requires.node_ready.room c.requires.node_ready.chained (target-nowhere (stepped c.requires.choice_ready.core_node c.by_word.ensures) c.in-Nothing.is)
+    single-nowhere c.requires.node_ready.given c.args.from.number.0 c.args.from.word c.requires.node_ready.node
+    c.requires.choice_ready.set_is
+    c.requires.node_ready.room c.requires.node_ready.chained (target-nowhere (stepped c.requires.choice_ready.core_node c.by_word.ensures)
+    c.in-Nothing.is)
 
 pub returns-in-Absent : goal.returns-in-Absent
 returns-in-Absent c =
     let target = subst (TargetBy _ _ _ _) c.in-Leads.is (stepped c.requires.choice_ready.core_node c.by_word.ensures) in
-    absurd (single-there c.requires.node_ready.given c.args.from.number.0 c.args.from.word c.requires.node_ready.node c.requires.choice_ready.below
+    absurd (single-there c.requires.node_ready.given c.args.from.number.0 c.args.from.word c.requires.node_ready.node
+    c.requires.choice_ready.below
     c.requires.choice_ready.set_is target c.find.ensures c.in-Absent.is)
 
 pub returns-in-Number : goal.returns-in-Number
 returns-in-Number c =
     let target = subst (TargetBy _ _ _ _) c.in-Leads.is (stepped c.requires.choice_ready.core_node c.by_word.ensures) in
     let there =
-    single-last c.requires.node_ready.given c.args.from.number.0 c.args.from.word c.requires.node_ready.node c.requires.choice_ready.below c.requires.choice_ready.set_is target c.in-Number.last c.find.ensures
+    single-last c.requires.node_ready.given c.args.from.number.0 c.args.from.word c.requires.node_ready.node c.requires.choice_ready.below
+    c.requires.choice_ready.set_is target c.in-Number.last c.find.ensures
     c.in-Number.is in
-    single-some c.requires.node_ready.given c.args.from.number.0 c.args.from.word c.requires.node_ready.node c.requires.choice_ready.below c.requires.choice_ready.set_is target c.triples_of-t.result refl there
+    single-some c.requires.node_ready.given c.args.from.number.0 c.args.from.word c.requires.node_ready.node c.requires.choice_ready.below
+    c.requires.choice_ready.set_is target c.triples_of-t.result refl there
     c.letter_of.ensures c.choice_of-choice.ensures c.triples_of-t.ensures c.add.ensures

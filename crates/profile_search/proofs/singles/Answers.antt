@@ -29,7 +29,8 @@ loop-i-preserved c =
     record {
       some = omega arith;
       turn = omega arith;
-      grown = all_turn c.requires c.loop-i.i c.loop-i.invariant.some c.loop-i-test.true c.if-store-all.false c.loop-i.invariant.grown c.singles_of-all.ensures;
+      grown = all_turn c.requires c.loop-i.i c.loop-i.invariant.some c.loop-i-test.true c.if-store-all.false c.loop-i.invariant.grown
+          c.singles_of-all.ensures;
     }
 
 pub shape_of-area : goal.shape_of-area

@@ -49,7 +49,8 @@ single-all-requires c =
         chained = c.loop-word.invariant.grown.chained c.if-store-all.false;
       };
       choice_ready = record {
-        set_is = from-kept c.requires.given c.loop-word.invariant.grown.elsewhere (omega arith) c.args.number.0 c.requires.node c.node-set.ensures;
+        set_is = from-kept c.requires.given c.loop-word.invariant.grown.elsewhere (omega arith) c.args.number.0 c.requires.node
+            c.node-set.ensures;
         unmet_is = c.unmet-unmet.ensures;
         core_is = c.core_of-core.ensures.0;
         core_node = c.core_of-core.ensures.1;

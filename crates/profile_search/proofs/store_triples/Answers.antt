@@ -13,7 +13,8 @@ pub loop-i-preserved : goal.loop-i-preserved
 loop-i-preserved c =
     record {
       turn = omega arith;
-      copied = store_triples_more c.loop-i.area c.args.t.now c.args.at c.loop-i.i (omega (arith, c.loop-i.invariant.changed.same_length)) c.loop-i.invariant.copied;
+      copied = store_triples_more c.loop-i.area c.args.t.now c.args.at c.loop-i.i (omega (arith, c.loop-i.invariant.changed.same_length))
+          c.loop-i.invariant.copied;
       changed = changed_set c.loop-i.invariant.changed _ _ (omega arith) (omega arith);
     }
 

@@ -8,7 +8,11 @@ pub returns : goal.returns
 returns c =
     let at = record_start c.args.store c.args.p in
     record {
-      p_after = written c.args.t.now at c.args.header c.record_start.ensures c.store_triples.ensures.bytes_between c.put2.ensures.bytes_between c.put2-2.ensures.bytes_between c.put2-3.ensures.bytes_between c.put2-4.ensures.bytes_between c.store_triples.ensures.by_index c.put2.ensures.offset_after c.put2-2.ensures.offset_after c.put2-3.ensures.offset_after (c.put2-4.ensures.offset_after ∙ c.wide16.ensures.0)
+      p_after = written c.args.t.now at c.args.header c.record_start.ensures c.store_triples.ensures.bytes_between
+          c.put2.ensures.bytes_between c.put2-2.ensures.bytes_between c.put2-3.ensures.bytes_between c.put2-4.ensures.bytes_between
+          c.store_triples.ensures.by_index c.put2.ensures.offset_after c.put2-2.ensures.offset_after c.put2-3.ensures.offset_after
+          (c.put2-4.ensures.offset_after ∙ c.wide16.ensures.0)
           c.args.store.n c.requires.store_fits.next;
-      bytes_between = written-changed c.args.t.now at c.args.header c.record_start.ensures c.store_triples.ensures.bytes_between c.put2.ensures.bytes_between c.put2-2.ensures.bytes_between c.put2-3.ensures.bytes_between c.put2-4.ensures.bytes_between;
+      bytes_between = written-changed c.args.t.now at c.args.header c.record_start.ensures c.store_triples.ensures.bytes_between
+          c.put2.ensures.bytes_between c.put2-2.ensures.bytes_between c.put2-3.ensures.bytes_between c.put2-4.ensures.bytes_between;
     }

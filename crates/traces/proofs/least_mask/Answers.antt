@@ -22,7 +22,8 @@ with_least-mask-requires c =
       arith,
       c.wide.ensures,
       c.requires.ranked c.loop-e.e c.loop-e-test.true,
-      fix-small c.requires.rows_limited c.loop-e.e c.loop-e-test.true (least-fix (operator_at c.args.rows.now c.loop-e.e) (sym c.is_least-least.ensures ∙ o)),
+      fix-small c.requires.rows_limited c.loop-e.e c.loop-e-test.true (least-fix (operator_at c.args.rows.now c.loop-e.e)
+          (sym c.is_least-least.ensures ∙ o)),
     )
 
 pub loop-e-preserved : goal.loop-e-preserved

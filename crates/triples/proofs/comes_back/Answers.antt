@@ -30,15 +30,18 @@ loop-left-init c = (
 pub returns-then-more-f-ne0 : goal.returns-then-more-f-ne0
 returns-then-more-f-ne0 c =
     row-found c.args.n c.args.a.now c.args.f (omega arith) (omega arith) c.joined_row-more.result c.args.mask (c.loop-left.left - 1)
-    (row_more c.args.n c.args.a.now c.args.f (omega arith) (omega arith) c.loop-left.row c.joined_row-more.result c.loop-left.left (omega arith)
+    (row_more c.args.n c.args.a.now c.args.f (omega arith) (omega arith) c.loop-left.row c.joined_row-more.result c.loop-left.left
+    (omega arith)
     c.loop-left.invariant.1.1 c.joined_row-more.ensures)
-    (met_some (bytes c.joined_row-more.result c.args.f) c.args.mask (let e : Fits w8 c.args.mask = search rules in e.fits) c.if-more-f-ne0.true)
+    (met_some (bytes c.joined_row-more.result c.args.f) c.args.mask (let e : Fits w8 c.args.mask = search rules in e.fits)
+    c.if-more-f-ne0.true)
 
 pub returns-then-same_bytes : goal.returns-then-same_bytes
 returns-then-same_bytes c =
     sym (met-none (bytes c.joined_row-more.result c.args.f) c.args.mask c.if-more-f-ne0.false)
     ∙ row-answer c.args.n c.args.a.now c.args.f (omega arith) (omega arith) c.joined_row-more.result c.args.mask
-    (row-still c.args.n c.args.a.now c.args.f (omega arith) (omega arith) c.loop-left.row c.joined_row-more.result c.loop-left.left c.loop-left.invariant.1.1
+    (row-still c.args.n c.args.a.now c.args.f (omega arith) (omega arith) c.loop-left.row c.joined_row-more.result c.loop-left.left
+    c.loop-left.invariant.1.1
     c.joined_row-more.ensures (c.same_bytes.ensures.holds c.if-same_bytes.true))
 
 pub loop-left-preserved : goal.loop-left-preserved
@@ -46,7 +49,8 @@ loop-left-preserved c = (
   omega arith,
   (
     search rules,
-    row_more c.args.n c.args.a.now c.args.f (omega arith) (omega arith) c.loop-left.row c.joined_row-more.result c.loop-left.left (omega arith)
+    row_more c.args.n c.args.a.now c.args.f (omega arith) (omega arith) c.loop-left.row c.joined_row-more.result c.loop-left.left
+        (omega arith)
         c.loop-left.invariant.1.1 c.joined_row-more.ensures,
   ),
 )
@@ -55,4 +59,5 @@ pub returns : goal.returns
 returns c =
     met_test (bytes c.loop-left.row c.args.f) c.args.mask (let e : Fits w8 c.args.mask = search rules in e.fits)
     ∙ row-answer c.args.n c.args.a.now c.args.f (omega arith) (omega arith) c.loop-left.row c.args.mask
-    (row_end c.args.n c.args.a.now c.args.f (omega arith) (omega arith) c.loop-left.row c.loop-left.left (omega arith) c.loop-left.invariant.1.1)
+    (row_end c.args.n c.args.a.now c.args.f (omega arith) (omega arith) c.loop-left.row c.loop-left.left (omega arith)
+    c.loop-left.invariant.1.1)

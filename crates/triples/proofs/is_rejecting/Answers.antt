@@ -33,5 +33,6 @@ loop-f-preserved c = (
 
 pub returns : goal.returns
 returns c =
-    none_rejects c.args.n c.copied-a.result (bit c.args.mask) (rw (le_antisymm c.loop-f.invariant.0 c.loop-f-test.false) at c.loop-f.invariant.1)
+    none_rejects c.args.n c.copied-a.result (bit c.args.mask)
+    (rw (le_antisymm c.loop-f.invariant.0 c.loop-f-test.false) at c.loop-f.invariant.1)
     ∙ rejecting_copied (bit c.args.mask) c.args.n c.args.area.now c.copied-a.result c.args.at (omega arith) c.copied-a.ensures

@@ -21,8 +21,11 @@ returns-then-a-f-ne0 c =
     c.if-a-f-ne0.true
 
 pub loop-f-preserved : goal.loop-f-preserved
-loop-f-preserved c =
-    (omega arith, none_more (diagonal c.args.a.now c.args.mask) c.loop-f.f c.loop-f.invariant.1 (met-none (bytes c.args.a.now (c.loop-f.f * 12 + c.loop-f.f)) c.args.mask c.if-a-f-ne0.false))
+loop-f-preserved c = (
+  omega arith,
+  none_more (diagonal c.args.a.now c.args.mask) c.loop-f.f c.loop-f.invariant.1
+      (met-none (bytes c.args.a.now (c.loop-f.f * 12 + c.loop-f.f)) c.args.mask c.if-a-f-ne0.false),
+)
 
 pub returns : goal.returns
 returns c =
