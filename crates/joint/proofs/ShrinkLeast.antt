@@ -163,6 +163,7 @@ module _ (try : Subset → Attempt) where
         beyond-all : (n m : ℕ) (x : Subset) → Within x (replicate n true ++ replicate m false)
             → drop n x ≡ drop n (replicate n true ++ replicate m false)
         beyond-all zero m x v = nothing m v
+        beyond-all (suc n) m [] v = elim v [ ]
         beyond-all (suc n) m (b ∷ x) (Within.both v) = beyond-all n m x v
         beyond-all (suc n) m (b ∷ x) (Within.fewer v) = beyond-all n m x v
 
