@@ -45,6 +45,7 @@ sorted_at Ahead (Sorted.more f s) here here h = absurd (omega arith)
 sorted_at Ahead (Sorted.more f s) {y = y} here (there b) h = f y (at_in b)
 sorted_at Ahead (Sorted.more f s) (there a) here h = absurd (omega arith)
 sorted_at Ahead (Sorted.more f s) (there a) (there b) h = sorted_at Ahead s a b (omega arith)
+sorted_at {A = A} Ahead Rattle.base.proofs.SortedLaws.none {i = i} {j = j} {y = y} x10 _ h = elim x10 [ ]
 
 -- before what does not come later than another is before that
 before_no_later : (xs ys zs : List ℕ) → Before xs ys → NoLater ys zs → Before xs zs

@@ -8,7 +8,7 @@ use Prim.Native.Nat.{ℕ, ◌+◌, ◌*◌, ◌/◌, ◌≤◌, ◌<◌}
 use native.Mathlib.Omega.{arith}
 use lib.Dec.{leb}
 use lib.ListN.{length, length-map}
-use borrow.Author.Tests.{le-leb, lt-leb, not-true, not-false}
+use borrow.Author.Tests.{le-leb, lt-leb}
 use Rattle.base.specs.Bits.{word}
 use Rattle.base.specs.Search.{Item}
 use Rattle.formula.specs.Table.{Table, table}
@@ -45,16 +45,16 @@ use Rattle.safety.proofs.CourseLaws.{concluded-is, many_is}
 
 -- the questions 11 to 13
 module _ (N workspace buffer : ℕ) where
-  pub short_11 : {b : Bool} → b ≡ between 1 max_nodes N → not b ≡ true → RoomAsked N workspace buffer (Short Capacity)
-  short_11 {b} e h = (λ after. rw (sym e ∙ not-true b h) refl, λ w. refl)
+  pub short_11 : {b : Bool} → b ≡ between 1 max_nodes N → b ≡ false → RoomAsked N workspace buffer (Short Capacity)
+  short_11 {b} e h = (λ after. rw (sym e ∙ h) refl, λ w. refl)
 
-  module _ {b : Bool} (e : b ≡ between 1 max_nodes N) (h : not b ≡ false) where
+  module _ {b : Bool} (e : b ≡ between 1 max_nodes N) (h : b ≡ true) where
     pub short_12 : workspace < nodes_size N → RoomAsked N workspace buffer (Short Workspace)
-    short_12 l = (λ after. rw (sym e ∙ not-false b h, lt-leb (nodes_size N) workspace l) refl, λ w. refl)
+    short_12 l = (λ after. rw (sym e ∙ h, lt-leb (nodes_size N) workspace l) refl, λ w. refl)
 
     pub short_13 : nodes_size N ≤ workspace → buffer < N → RoomAsked N workspace buffer (Short Buffer)
     short_13 k l =
-        (λ after. rw (sym e ∙ not-false b h, le-leb (nodes_size N) workspace k, lt-leb N buffer l) refl, λ w. refl)
+        (λ after. rw (sym e ∙ h, le-leb (nodes_size N) workspace k, lt-leb N buffer l) refl, λ w. refl)
 
     pub granted : nodes_size N ≤ workspace → N ≤ buffer → RoomAsked N workspace buffer Granted
     granted k l =

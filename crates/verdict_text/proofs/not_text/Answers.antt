@@ -1,0 +1,7 @@
+-- verdict_text::not_text meets its contract: the word with the first number, then the other. Assumes nothing.
+use Rattle.text.proofs.Writing.{then}
+use Rattle.verdict_text.proofs.not_text.Goals as goal
+
+pub returns : goal.returns
+returns c =
+    then c.worded-a.ensures c.number.ensures
