@@ -94,7 +94,8 @@ pub same_bits : (a b : ℕ) → ((k : ℕ) → bit a k ≡ bit b k) → a ≡ b
 same_bits a b e = same-below (a + b) a b (omega arith) (omega arith) e
 
 -- an element set in a list
-pub get_d_set : (v : List Bool) (m : ℕ) (b : Bool) → m < length v → (k : ℕ) → get_or (set v m b) k false ≡ cond (eqb k m) b (get_or v k false)
+pub get_d_set : (v : List Bool) (m : ℕ) (b : Bool) → m < length v → (k : ℕ) → get_or (set v m b) k false ≡ cond (eqb k m) b
+    (get_or v k false)
 get_d_set v m b h k = by (eqb k m) refl
   where
     by : (t : Bool) → eqb k m ≡ t → get_or (set v m b) k false ≡ cond t b (get_or v k false)

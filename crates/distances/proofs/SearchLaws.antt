@@ -133,7 +133,8 @@ module _ {r : List ℕ} {to far : ℕ} {level seen steps steps' next : List ℕ}
   held_next : (x : ℕ) → (get_or steps' x 1024 < suc far) ⊎ (get_or steps' x 1024 ≡ 1024)
   held_next x = by (has_vertex level x) (e.noted x)
     where
-      by : (b : Bool) → get_or steps' x 1024 ≡ cond b far (get_or steps x 1024) → (get_or steps' x 1024 < suc far) ⊎ (get_or steps' x 1024 ≡ 1024)
+      by : (b : Bool) → get_or steps' x 1024 ≡ cond b far (get_or steps x 1024) → (get_or steps' x 1024 < suc far) ⊎
+          (get_or steps' x 1024 ≡ 1024)
       by true q = inl (omega arith)
       by false q = ⊎_elim (λ l. inl (omega arith)) (λ l. inr (q ∙ l)) (s.held x)
 

@@ -223,7 +223,8 @@ module _ (operator : ℕ → Operator) (end : ℕ → ℕ) (count : ℕ) where
           enclosed = λ d. inner d;
         }
       where
-        inner : (d : ℕ) → d < suc (length binders) → Binds (get_or (e ∷ binders) d 0) (e + 1) (e + 1 + size a) (get_or (false ∷ guards) d false)
+        inner : (d : ℕ) → d < suc (length binders) → Binds (get_or (e ∷ binders) d 0) (e + 1) (e + 1 + size a)
+            (get_or (false ∷ guards) d false)
         inner zero i =
             record {
               before = omega arith;
@@ -269,7 +270,8 @@ module _ (operator : ℕ → Operator) (end : ℕ → ℕ) (count : ℕ) where
   each {e} (Formula.leaf l) h = each_first h (none (e + 1) (e + 1) (omega arith))
   each {e} (Formula.variable d) h = each_first h (none (e + 1) (e + 1) (omega arith))
   each {e} (Formula.pair o a b) h =
-      each_to (e + (1 + (size a + size b))) (omega arith) (each_first h (each-join (each {e = e + 1} a (occurs_left h)) (each {e = e + 1 + size a} b (occurs_right h))))
+      each_to (e + (1 + (size a + size b))) (omega arith) (each_first h
+          (each-join (each {e = e + 1} a (occurs_left h)) (each {e = e + 1 + size a} b (occurs_right h))))
   each {e} (Formula.next a) h = each_to (e + (1 + size a)) (omega arith) (each_first h (each {e = e + 1} a (occurs_next h)))
   each {e} (Formula.fix g a) h = each_to (e + (1 + size a)) (omega arith) (each_first h (each {e = e + 1} a (occurs_body h)))
 

@@ -31,7 +31,8 @@ module _ (n : ℕ) where
 
     pub column-at : (i : ℕ) → i < n → get_or (column n w e) i false ≡ bit (get_or w i 0) e
     column-at i l =
-        get_d_map (λ x. bit x e) (take n w) i 0 false (omega (arith, length-take-le n w h)) ∙ ap (λ (x : ℕ). bit x e) (get_or-take n w i 0 l)
+        get_d_map (λ x. bit x e) (take n w) i 0 false (omega (arith, length-take-le n w h)) ∙ ap (λ (x : ℕ). bit x e)
+        (get_or-take n w i 0 l)
 
     pub column-is : (s : Positions) → length s ≡ n → ((i : ℕ) → i < n → bit (get_or w i 0) e ≡ get_or s i false) → column n w e ≡ s
     column-is s l f =

@@ -207,7 +207,8 @@ module _ (rows : List ℕ) (c : Lasso) (w : List ℕ) (room : WordsRoom (length 
       → Under n g ss hi v
   goal-start g mask v o filled known = record { at = λ k l i m. by k l i m (bit mask k) refl }
     where
-      by : (k : ℕ) → k < hi → (i : ℕ) → i < n → (b : Bool) → bit mask k ≡ b → Moves g (bit (get_or v i 0) k) (get_or (get_or ss k []) i false)
+      by : (k : ℕ) → k < hi → (i : ℕ) → i < n → (b : Bool) → bit mask k ≡ b → Moves g (bit (get_or v i 0) k)
+          (get_or (get_or ss k []) i false)
       by k l i m true q =
           let is : bit (get_or v i 0) k ≡ g = filled.bits i m k ∙ ap (λ (b : Bool). cond b g (bit (get_or w i 0) k)) q in
           rw is (moves-start g (get_or (get_or ss k []) i false))

@@ -90,7 +90,8 @@ module _ (c : Lasso) where
         ∙ ap (λ (m : ℕ). get_or (holds c a ρ) (after m c.stem i) false) (sym all)
         ∙ sym (getD_before c.stem (holds c a ρ) i (omega arith)))
 
-    pair-labelled : (o : Bool) (a b : Formula) (x y v : List ℕ) → ((d : ℕ) → d < length bs → get_or bs d 0 < e) → Labelled c a (e + 1) bs w x
+    pair-labelled : (o : Bool) (a b : Formula) (x y v : List ℕ) → ((d : ℕ) → d < length bs → get_or bs d 0 < e) → Labelled c a (e + 1)
+        bs w x
         → Labelled c b (e + 1 + size a) bs x y → Swept n e (local_at c (Operator.pair o (e + 1) (e + 1 + size a)) y) y v
         → Labelled c (Formula.pair o a b) e bs w v
     pair-labelled o a b x y v outer da db t =

@@ -91,6 +91,7 @@ as_before rows c e i j w v f on o s q op is r =
     let own = operator_at rows e in
     r
     ∙ ap (λ (op : Operator). local op letter (get_or v i 0) (get_or v j 0)) (sym is)
-    ∙ local-there rows own e letter (get_or v i 0) (get_or v j 0) (get_or w j 0) o (λ l h. other_bit (λ k. eqb k e) f w i v s l (ne_eqb l e h) j)
+    ∙ local-there rows own e letter (get_or v i 0) (get_or v j 0) (get_or w j 0) o
+    (λ l h. other_bit (λ k. eqb k e) f w i v s l (ne_eqb l e h) j)
     ∙ ap (λ (x : ℕ). local own letter x (get_or w j 0)) (s.rest i (omega arith))
     ∙ ap (λ (m : ℕ). local own letter (get_or w i 0) (get_or w m 0)) q

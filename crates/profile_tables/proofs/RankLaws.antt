@@ -59,7 +59,8 @@ fixes_in (o ∷ t) e {i} {x} a =
           (suc d, omega arith, omega arith, f, rest (is_fix o) h.0 h.2 ∙ q)
     ]
   where
-    rest : (b : Bool) (j : ℕ) → i ≡ cond b (suc j) j → get_or (cond b (is_least o ∷ leasts t) (leasts t)) i false ≡ get_or (leasts t) j false
+    rest : (b : Bool) (j : ℕ) → i ≡ cond b (suc j) j → get_or (cond b (is_least o ∷ leasts t) (leasts t)) i false ≡ get_or (leasts t) j
+        false
     rest true j q = ap (λ (n : ℕ). get_or (is_least o ∷ leasts t) n false) q
     rest false j q = ap (λ (n : ℕ). get_or (leasts t) n false) q
 

@@ -45,7 +45,8 @@ seen-member k (x ∷ ws) =
 module _ (o : List ℕ) (j p l : ℕ) (room : 2 * j + 2 ≤ length o) where
   note_same : (x : ReachedWord) → p ≡ x.parent - 1 → l ≡ x.label → NoteOf (with_note o j p l) j x
   note_same x e f = record {
-    parent_is = get_or-set_other (set o (2 * j) p) (2 * j + 1) (2 * j) l 0 (λ q. omega arith) ∙ get_or-set_same o (2 * j) p 0 (omega arith) ∙ e;
+    parent_is = get_or-set_other (set o (2 * j) p) (2 * j + 1) (2 * j) l 0 (λ q. omega arith) ∙ get_or-set_same o (2 * j) p 0
+        (omega arith) ∙ e;
     letter_is = get_or-set_same (set o (2 * j) p) (2 * j + 1) l 0 (omega (arith, length-set o (2 * j) p)) ∙ f;
   }
 

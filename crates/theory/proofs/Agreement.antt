@@ -53,7 +53,8 @@ agree_combine o n u v s t a b =
     long (x ∷ s) [] e = absurd (omega arith)
     long (x ∷ s) (y ∷ t) e = ap suc (long s t (omega arith))
 
-    at : (s t : Positions) (i : ℕ) → i < length s → i < length t → joined o (get_or s i false) (get_or t i false) ≡ get_or (combine o s t) i false
+    at : (s t : Positions) (i : ℕ) → i < length s → i < length t → joined o (get_or s i false) (get_or t i false) ≡ get_or
+        (combine o s t) i false
     at [] t i l k = absurd (omega arith)
     at (x ∷ s) [] i l k = absurd (omega arith)
     at (x ∷ s) (y ∷ t) zero l k = refl

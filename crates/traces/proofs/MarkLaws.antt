@@ -132,7 +132,8 @@ module _ {o : Operator} {x : code.Operator} (read : o ≡ decoded x) (p : Bool) 
       ∙ ap (λ (xs : List ℕ). with_own b e xs n) (sym m)
       ∙ ap (λ (x : List Bool). mark (moves (decoded y) p) x (marks_of n b))
       (sym (marks_at n b e h)
-      ∙ ap (λ (t : Bool). cond t (priorities (smaller (bit_of (get_or (marks_of n b) e [])) (eqb k))) (get_or (marks_of n b) e [])) (sym f)))
+      ∙ ap (λ (t : Bool). cond t (priorities (smaller (bit_of (get_or (marks_of n b) e [])) (eqb k))) (get_or (marks_of n b) e []))
+      (sym f)))
 
   -- nothing moves from a leaf or a next
   pub pass_none : {y : code.Operator} → x ≡ y → moves (decoded y) p ≡ [] → is_fix (decoded y) ≡ false → r ≡ b → PassedOn o p e k b r
@@ -219,7 +220,8 @@ module _ (rows : List ℕ) (count choice : ℕ) (b₀ : List ℕ) where
   swept-more e k b r h few ek p q w c =
       let o = operator_at rows e in
       let right : bit choice e ≡ has w e = ap (λ (x : ℕ). bit x e) c ∙ word-bit w e in
-      let one : marks_of count r ≡ mark (moves o (has w e)) (passed o (fix_rank rows e) (get_or (marks_of count b) e [])) (marks_of count b) =
+      let one : marks_of count r ≡ mark (moves o (has w e)) (passed o (fix_rank rows e) (get_or (marks_of count b) e []))
+      (marks_of count b) =
       q count h few ∙ (λ i. mark (moves o (right i)) (passed o (ek i) (get_or (marks_of count b) e [])) (marks_of count b)) in
       p w c
       ∙ ap (λ (n : ℕ). sweep (operators_of rows e n) w e (fix_rank rows e) (marks_of count b)) {x = count - e}

@@ -50,7 +50,8 @@ module _ (rows : List ℕ) (e f : ℕ) (marks t u : List ℕ) (s : RowFilled row
       at : (i : ℕ) → i < e + 1 → next_at rows i ≡ true → Dec (i ≡ e)
           → get_or (set u (f * 12 + next_rank rows e) (get_or marks e 0)) (f * 12 + next_rank rows i) 0 ≡ get_or marks i 0
       at i h p (yes y) =
-          subst⁻¹ (λ (j : ℕ). get_or (set u (f * 12 + next_rank rows e) (get_or marks e 0)) (f * 12 + next_rank rows j) 0 ≡ get_or marks j 0) y
+          subst⁻¹ (λ (j : ℕ). get_or (set u (f * 12 + next_rank rows e) (get_or marks e 0)) (f * 12 + next_rank rows j) 0 ≡ get_or
+              marks j 0) y
           (get_or-set_same u (f * 12 + next_rank rows e) (get_or marks e 0) 0 (omega arith))
       at i h p (no y) =
           let less = before-less (next_at rows) i e (omega arith) p in
@@ -155,7 +156,8 @@ all_done rows count choice node t limited done v w nv cw =
     (cell (0 + i)) ns 0
     (λ j hj. one i j (nexts-at rows 0 count i hi) (nexts-at rows 0 count j hj)))
   where
-    one : (i j : ℕ) → NextIn rows 0 count i (get_or (nexts_of rows 0 count) i 0) → NextIn rows 0 count j (get_or (nexts_of rows 0 count) j 0)
+    one : (i j : ℕ) → NextIn rows 0 count i (get_or (nexts_of rows 0 count) i 0) → NextIn rows 0 count j
+        (get_or (nexts_of rows 0 count) j 0)
         → priorities (bit (get_or t ((0 + i) * 12 + (0 + j)) 0))
         ≡ cond (has v (suc (get_or (nexts_of rows 0 count) i 0)))
         (get_or (reached (table_of rows count) w (suc (get_or (nexts_of rows 0 count) i 0))) (get_or (nexts_of rows 0 count) j 0) [])

@@ -25,7 +25,8 @@ pub triples_copied : (n : ℕ) (l t : List ℕ) (at : ℕ) → n ≤ 12 → ((i 
 triples_copied n l t at k h =
     those-same n (bits (bytes t)) (bits (bytes_from l at)) (λ f x g hf hx hg. ap (λ (w : ℕ). bit w x) (h (f * 12 + g) (omega arith)))
 
-pub copied_more : (l t : List ℕ) (at i v : ℕ) → i < length t → ((j : ℕ) → j < i → get_or t j 0 ≡ get_or l (at + j) 0) → v ≡ get_or l (at + i) 0
+pub copied_more : (l t : List ℕ) (at i v : ℕ) → i < length t → ((j : ℕ) → j < i → get_or t j 0 ≡ get_or l (at + j) 0) → v ≡ get_or l
+    (at + i) 0
     → (j : ℕ) → j < i + 1 → get_or (set t i v) j 0 ≡ get_or l (at + j) 0
 copied_more l t at i v h r e j k = go (ℕ_discrete j i)
   where

@@ -39,7 +39,8 @@ pub returns-then-nodes-known : goal.returns-then-nodes-known
 returns-then-nodes-known c =
     let t = table_of c.args.rows.now c.args.count in
     record {
-      value = check_other c.args.nodes c.args.node_capacity c.args.area.now t c.nodes-known.ensures.nodes_held c.if-node_capacity-known.false c.if-nodes-known.true;
+      value = check_other c.args.nodes c.args.node_capacity c.args.area.now t c.nodes-known.ensures.nodes_held
+          c.if-node_capacity-known.false c.if-nodes-known.true;
       origins = no-notes;
     }
 
@@ -47,6 +48,8 @@ pub returns : goal.returns
 returns c =
     let t = table_of c.args.rows.now c.args.count in
     let over = own_zeros c.args.node_capacity (omega (arith, c.requires.node_room.few)) in record {
-      value = check_same c.args.nodes c.args.node_capacity c.args.area.now t c.nodes-known.ensures.nodes_held c.if-node_capacity-known.false c.if-nodes-known.false (zeros (8192 - nodes_size c.args.node_capacity)) over c.same_bytes.ensures;
-      origins = λ e. subst⁻¹ (Origins t c.nodes-known.new.origins) c.if-nodes-known.false (c.nodes-known.ensures.origins c.if-node_capacity-known.false);
+      value = check_same c.args.nodes c.args.node_capacity c.args.area.now t c.nodes-known.ensures.nodes_held
+          c.if-node_capacity-known.false c.if-nodes-known.false (zeros (8192 - nodes_size c.args.node_capacity)) over c.same_bytes.ensures;
+      origins = λ e. subst⁻¹ (Origins t c.nodes-known.new.origins) c.if-nodes-known.false
+          (c.nodes-known.ensures.origins c.if-node_capacity-known.false);
     }

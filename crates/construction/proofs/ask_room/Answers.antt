@@ -16,7 +16,8 @@ overflow_mul-asked c = omega (arith, (range-granted c.args.node_capacity c.betwe
 
 pub returns-then-workspace-asked : goal.returns-then-workspace-asked
 returns-then-workspace-asked c =
-    settled_12 c.args.node_capacity c.args.workspace.now (table_of c.args.t.rows c.args.t.count) (range-granted c.args.node_capacity c.between.ensures c.if-not-between.false) c.if-workspace-asked.true
+    settled_12 c.args.node_capacity c.args.workspace.now (table_of c.args.t.rows c.args.t.count)
+    (range-granted c.args.node_capacity c.between.ensures c.if-not-between.false) c.if-workspace-asked.true
 
 pub nodes-nodes-requires : goal.nodes-nodes-requires
 nodes-nodes-requires c =
@@ -29,10 +30,12 @@ nodes-nodes-requires c =
 
 pub returns-then-node_capacity-nodes : goal.returns-then-node_capacity-nodes
 returns-then-node_capacity-nodes c =
-    settled_14 c.args.node_capacity c.args.workspace.now (table_of c.args.t.rows c.args.t.count) (range-granted c.args.node_capacity c.between.ensures c.if-not-between.false) c.if-workspace-asked.false
+    settled_14 c.args.node_capacity c.args.workspace.now (table_of c.args.t.rows c.args.t.count)
+    (range-granted c.args.node_capacity c.between.ensures c.if-not-between.false) c.if-workspace-asked.false
     c.clear.ensures c.nodes-nodes.ensures.nodes_held c.if-node_capacity-nodes.true c.clear-then-node_capacity-nodes.ensures
 
 pub returns : goal.returns
 returns c =
-    settled-built c.args.node_capacity c.args.workspace.now (table_of c.args.t.rows c.args.t.count) (range-granted c.args.node_capacity c.between.ensures c.if-not-between.false) c.if-workspace-asked.false
+    settled-built c.args.node_capacity c.args.workspace.now (table_of c.args.t.rows c.args.t.count)
+    (range-granted c.args.node_capacity c.between.ensures c.if-not-between.false) c.if-workspace-asked.false
     c.clear.ensures c.nodes-nodes.ensures.nodes_held c.if-node_capacity-nodes.false

@@ -33,11 +33,15 @@ returns-in-Accepting c =
 
 pub layer-more-requires : goal.layer-more-requires
 layer-more-requires c =
-    record { store_chained = record {
+    record {
+      store_chained = record {
         fits = subst⁻¹ (StoreFits c.args.store) c.loop-from.invariant.elsewhere.same_length c.requires.store_chained.fits;
         room = c.loop-from.invariant.layers.room;
         chained = c.loop-from.invariant.chained;
-      }; rising = rising-kept c.args.store c.args.area.now c.loop-from.area c.loop-from.invariant.kept c.requires.rising; from_le_to = (c.loop-from.invariant.low, c.loop-from.invariant.begun) }
+      };
+      rising = rising-kept c.args.store c.args.area.now c.loop-from.area c.loop-from.invariant.kept c.requires.rising;
+      from_le_to = (c.loop-from.invariant.low, c.loop-from.invariant.begun);
+    }
 
 pub shape_of-area-then-store-more : goal.shape_of-area-then-store-more
 shape_of-area-then-store-more c =
@@ -46,7 +50,8 @@ shape_of-area-then-store-more c =
 pub returns-then-store-more : goal.returns-then-store-more
 returns-then-store-more c =
     record {
-      comes_to = search-full _ _ _ _ c.loop-from.invariant c.accepting.ensures (ap number_in c.in-None.is) c.layer-more.ensures c.if-store-more.true;
+      comes_to = search-full _ _ _ _ c.loop-from.invariant c.accepting.ensures (ap number_in c.in-None.is) c.layer-more.ensures
+          c.if-store-more.true;
       bytes_between = changed_then c.loop-from.invariant.elsewhere (omega arith) (omega arith) c.layer-more.ensures.elsewhere;
     }
 

@@ -9,10 +9,12 @@ use Rattle.cycle_search.proofs.is_accepting.Goals as goal
 
 pub returns-then-e : goal.returns-then-e
 returns-then-e c =
-    accepts_open (bit c.args.mask) c.args.store.n (record_of c.args.store c.args.area.now c.args.p) c.header_of-e.ensures.first c.header_of-e.ensures.last c.if-e.true
+    accepts_open (bit c.args.mask) c.args.store.n (record_of c.args.store c.args.area.now c.args.p) c.header_of-e.ensures.first
+    c.header_of-e.ensures.last c.if-e.true
 
 pub returns : goal.returns
 returns c =
-    accepts-closed (bit c.args.mask) c.args.store.n (record_of c.args.store c.args.area.now c.args.p) c.header_of-e.ensures.first c.header_of-e.ensures.last c.if-e.false
+    accepts-closed (bit c.args.mask) c.args.store.n (record_of c.args.store c.args.area.now c.args.p) c.header_of-e.ensures.first
+    c.header_of-e.ensures.last c.if-e.false
     (c.is_rejecting.ensures ∙ ap (λ (y : Triples). rejecting (bit c.args.mask) c.args.store.n y)
     (triple_set-at c.args.store c.args.area.now c.args.p c.record_start.ensures))

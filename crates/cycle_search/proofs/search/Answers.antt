@@ -29,15 +29,22 @@ least_mask-mask-requires c =
 
 pub by_layers-requires : goal.by_layers-requires
 by_layers-requires c =
-    record { store_chained = record {
+    record {
+      store_chained = record {
         fits = subst⁻¹ (StoreFits c.args.store) c.singles-singles.ensures.elsewhere.same_length c.requires.fits;
         room = c.if-store-singles.false;
         chained = c.singles-singles.ensures.chained c.if-store-singles.false;
-      }; rising = singles-rising (table_of c.args.rows.now c.args.count) (nodes_in c.args.count c.args.area.now c.args.nodes) c.singles-singles.ensures c.if-store-singles.false }
+      };
+      rising = singles-rising (table_of c.args.rows.now c.args.count) (nodes_in c.args.count c.args.area.now c.args.nodes)
+          c.singles-singles.ensures c.if-store-singles.false;
+    }
 
 pub returns : goal.returns
 returns c =
-    record { comes_to = comes_same
+    record {
+      comes_to = comes_same
           (λ x. accepts-same (table_of c.args.rows.now c.args.count) c.args.store.n (bit c.least_mask-mask.result) x
           (c.requires.nexts ∙ c.requires.ranks.nexts_are) c.least_mask-mask.ensures)
-          (c.singles-singles.ensures.records c.if-store-singles.false) c.by_layers.ensures.comes_to; bytes_between = changed_then c.singles-singles.ensures.elsewhere (omega arith) (omega arith) c.by_layers.ensures.bytes_between }
+          (c.singles-singles.ensures.records c.if-store-singles.false) c.by_layers.ensures.comes_to;
+      bytes_between = changed_then c.singles-singles.ensures.elsewhere (omega arith) (omega arith) c.by_layers.ensures.bytes_between;
+    }

@@ -12,13 +12,15 @@ write-w-requires c =
 
 pub returns-in-NoRoom : goal.returns-in-NoRoom
 returns-in-NoRoom c =
-    subst⁻¹ (λ (o : Sought). Told c.args.origins.now c.args.store c.args.area.now c.args.nodes o c.args.letters.now c.args.letters.now (Refused 15)) c.in-NoRoom.is
+    subst⁻¹ (λ (o : Sought). Told c.args.origins.now c.args.store c.args.area.now c.args.nodes o c.args.letters.now c.args.letters.now
+    (Refused 15)) c.in-NoRoom.is
     (refl, refl)
 
 pub returns-in-Nowhere : goal.returns-in-Nowhere
 returns-in-Nowhere c =
     let r = Unsatisfiable c.args.nodes c.in-Nowhere.profiles in
-    subst⁻¹ (λ (o : Sought). Told c.args.origins.now c.args.store c.args.area.now c.args.nodes o c.args.letters.now c.args.letters.now r) c.in-Nowhere.is (refl, refl)
+    subst⁻¹ (λ (o : Sought). Told c.args.origins.now c.args.store c.args.area.now c.args.nodes o c.args.letters.now c.args.letters.now
+    r) c.in-Nowhere.is (refl, refl)
 
 pub returns-in-Accepting : goal.returns-in-Accepting
 returns-in-Accepting c =

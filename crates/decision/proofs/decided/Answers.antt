@@ -9,7 +9,8 @@ use Rattle.decision.proofs.decided.Goals as goal
 pub returns-then-code-ne0 : goal.returns-then-code-ne0
 returns-then-code-ne0 c =
     settled-early (cleared c.args.node_capacity c.args.profile_capacity) c.args.workspace.now c.args.witness.now
-    (decide c.args.node_capacity c.args.profile_capacity (table_of c.args.t.rows c.args.t.count)) c.ask_capacities-code.ensures (omega (arith, c.if-code-ne0.true))
+    (decide c.args.node_capacity c.args.profile_capacity (table_of c.args.t.rows c.args.t.count)) c.ask_capacities-code.ensures
+    (omega (arith, c.if-code-ne0.true))
     (early_clears c.args.node_capacity c.args.profile_capacity c.args.workspace.now c.ask_capacities-code.ensures.early)
 
 pub from_root-v-requires : goal.from_root-v-requires
@@ -24,5 +25,7 @@ clear-requires c =
 
 pub returns : goal.returns
 returns c =
-    settled-decided c.args.node_capacity c.args.profile_capacity (table_of c.args.t.rows c.args.t.count) (c.ask_capacities-code.ensures.granted c.if-code-ne0.false)
-    (c.workspace_size-asked.ensures.in_range (c.ask_capacities-code.ensures.granted c.if-code-ne0.false).capacity) c.from_root-v.ensures c.clear.ensures
+    settled-decided c.args.node_capacity c.args.profile_capacity (table_of c.args.t.rows c.args.t.count)
+    (c.ask_capacities-code.ensures.granted c.if-code-ne0.false)
+    (c.workspace_size-asked.ensures.in_range (c.ask_capacities-code.ensures.granted c.if-code-ne0.false).capacity)
+    c.from_root-v.ensures c.clear.ensures

@@ -5,10 +5,10 @@ use Rattle.decision.proofs.from_nodes.Goals as goal
 
 pub search-found-requires : goal.search-found-requires
 search-found-requires c = given (record {
-      ready = c.requires;
-      ranks = c.ranked-r.ensures;
-      store_is = c.store_of-store.ensures;
-    })
+  ready = c.requires;
+  ranks = c.ranked-r.ensures;
+  store_is = c.store_of-store.ensures;
+})
 
 pub answered-requires : goal.answered-requires
 answered-requires c =

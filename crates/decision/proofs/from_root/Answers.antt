@@ -9,7 +9,8 @@ returns-then-node_capacity-nodes c =
 
 pub from_nodes-requires : goal.from_nodes-requires
 from_nodes-requires c =
-    nodes-ready c.requires.decoded c.requires.lends c.nodes-nodes.ensures.nodes_held c.if-node_capacity-nodes.false (c.nodes-nodes.ensures.origins c.if-node_capacity-nodes.false)
+    nodes-ready c.requires.decoded c.requires.lends c.nodes-nodes.ensures.nodes_held c.if-node_capacity-nodes.false
+    (c.nodes-nodes.ensures.origins c.if-node_capacity-nodes.false)
     (omega (arith, c.requires.lends.capacity.few_nodes))
 
 pub returns : goal.returns

@@ -11,7 +11,11 @@ returns-then-count-best c = nowhere c.requires c.first_shortest-best.ensures c.i
 pub distances-requires : goal.distances-requires
 distances-requires c =
     let first = c.first_shortest-best.ensures.found c.if-count-best.false in
-    record { steps = c.requires; to_lt_count = (first.vertex, omega (arith, c.requires.few)); steps_len = search rules }
+    record {
+      steps = c.requires;
+      to_lt_count = (first.vertex, omega (arith, c.requires.few));
+      steps_len = search rules;
+    }
 
 pub returns : goal.returns
 returns c =

@@ -17,7 +17,12 @@ stopped-requires t c = tt
 pub leaf-requires : goal.leaf-requires
 leaf-requires t c =
     let o = opened_of c.in-Byte.is c.opcode_at-opened.ensures in
-    record { least = o.some; most = c.if-op-le-VARIABLE.true; count = o.count; ready = ready_on o.further c.requires }
+    record {
+      least = o.some;
+      most = c.if-op-le-VARIABLE.true;
+      count = o.count;
+      ready = ready_on o.further c.requires;
+    }
 
 pub returns-then-op-le-VARIABLE : goal.returns-then-op-le-VARIABLE
 returns-then-op-le-VARIABLE t c =
@@ -55,7 +60,8 @@ pub complete-requires-in-Accepted : goal.complete-requires-in-Accepted
 complete-requires-in-Accepted t c =
     let o = opened_of c.in-Byte.is c.opcode_at-opened.ensures in
     let left = command-further c.args.s.now c.args.rows c.inside-inner.result c.command-first.ensures c.in-Accepted.is in
-    λ q. is-behind o (further_trans left (command-further c.args.s.now c.command-first.result.rows c.inside-inner.result c.command.ensures q))
+    λ q. is-behind o (further_trans left (command-further c.args.s.now c.command-first.result.rows c.inside-inner.result
+    c.command.ensures q))
 
 pub returns-in-Refused : goal.returns-in-Refused
 returns-in-Refused t c =

@@ -14,8 +14,11 @@ conjoin-at-requires c =
 pub returns-then-at-eq-CONJUNCTION : goal.returns-then-at-eq-CONJUNCTION
 returns-then-at-eq-CONJUNCTION c =
     let bs = held c.args.catalogue.now c.args.p in
-    let sized = sized-chosen c.args.s.has bs (accepted-sized c.requires.readable.accepted) in record { told = attempted-none c.args.node_capacity c.args.profile_capacity
-          (conjoins_none 776 c.conjoin-at.ensures (search rules) sized (search rules)); kept = refl }
+    let sized = sized-chosen c.args.s.has bs (accepted-sized c.requires.readable.accepted) in record {
+      told = attempted-none c.args.node_capacity c.args.profile_capacity
+          (conjoins_none 776 c.conjoin-at.ensures (search rules) sized (search rules));
+      kept = refl;
+    }
 
 pub slice_bounds-decided-count : goal.slice_bounds-decided-count
 slice_bounds-decided-count c =
@@ -38,6 +41,9 @@ returns c =
     let fs = chosen c.args.s.has (held c.args.catalogue.now c.args.p) in
     let d =
     decided_of (rest-is c.conjoin-at.new.out c.conjoin-at.result (search (rules, c.conjoin-at.ensures.long)) ∙ c.conjoin-at.ensures.is)
-    c.decided.ensures in record { told = attempted-said fs c.args.node_capacity c.args.profile_capacity c.requires.lends d
+    c.decided.ensures in record {
+      told = attempted-said fs c.args.node_capacity c.args.profile_capacity c.requires.lends d
           (conjoins_some 776 c.conjoin-at.ensures (search rules) c.if-at-eq-CONJUNCTION.false)
-          c.attempt_of.ensures; kept = decided_stays fs c.args.node_capacity c.args.profile_capacity c.requires.lends d c.requires.clear }
+          c.attempt_of.ensures;
+      kept = decided_stays fs c.args.node_capacity c.args.profile_capacity c.requires.lends d c.requires.clear;
+    }

@@ -19,8 +19,13 @@ pub shrink-requires : goal.shrink-requires
 shrink-requires c =
     let whole = all-decided c.requires.readable c.requires.lends c.everything-all.ensures c.decided_some-v.ensures in
     let cleared = unmet_workspace whole
-    c.in-Unsatisfiable.is in record { readable = c.requires.readable; lends = lends-same (sym (zeroed-length c.args.workspace.now c.requires.lends) ∙ ap length (sym cleared)) refl (lends_own c.requires.lends); clear = subst (Clear c.args.node_capacity c.args.profile_capacity) (sym cleared)
-            (zeroed_clear c.args.node_capacity c.args.profile_capacity c.args.workspace.now) }
+    c.in-Unsatisfiable.is in record {
+      readable = c.requires.readable;
+      lends = lends-same (sym (zeroed-length c.args.workspace.now c.requires.lends) ∙ ap length (sym cleared)) refl
+          (lends_own c.requires.lends);
+      clear = subst (Clear c.args.node_capacity c.args.profile_capacity) (sym cleared)
+          (zeroed_clear c.args.node_capacity c.args.profile_capacity c.args.workspace.now);
+    }
 
 pub returns-in-Unread : goal.returns-in-Unread
 returns-in-Unread c =

@@ -46,4 +46,5 @@ returns c =
     let bs = held c.args.catalogue.now c.args.p in
     let (inv, long) = c.loop-i.invariant in
     let n = held-length c.args.catalogue.now c.args.p in
-    conjoining_all c.args.s.has bs (accepted-sized c.requires.readable.accepted) (omega (arith, n, c.requires.readable.placed.few, long)) c.args.out.now inv (omega arith)
+    conjoining_all c.args.s.has bs (accepted-sized c.requires.readable.accepted)
+    (omega (arith, n, c.requires.readable.placed.few, long)) c.args.out.now inv (omega arith)

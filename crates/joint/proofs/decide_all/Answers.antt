@@ -6,13 +6,15 @@ use Rattle.joint.proofs.decide_all.Goals as goal
 
 pub asked-requires : goal.asked-requires
 asked-requires c =
-    collected-whole c.args.node_capacity c.args.profile_capacity (length c.args.workspace.now) (length c.args.witness.now) c.args.catalogue.now
+    collected-whole c.args.node_capacity c.args.profile_capacity (length c.args.workspace.now) (length c.args.witness.now)
+    c.args.catalogue.now
     c.collect-c.result c.collect-c.ensures c.in-Whole.is
 
 pub returns-in-Broken : goal.returns-in-Broken
 returns-in-Broken c =
     joint-leaves
-    (joint-damaged c.args.node_capacity c.args.profile_capacity (length c.args.workspace.now) (length c.args.witness.now) c.args.catalogue.now
+    (joint-damaged c.args.node_capacity c.args.profile_capacity (length c.args.workspace.now) (length c.args.witness.now)
+    c.args.catalogue.now
     c.collect-c.result c.collect-c.ensures c.in-Broken.is)
     (record { answered = refl; buffered = refl; worked = refl })
 

@@ -20,12 +20,11 @@ formula_at-requires c =
     }
 
 pub put_before-requires : goal.put_before-requires
-put_before-requires c =
-    (
-      omega (arith, ap length c.formula_at.ensures, readable_short c.requires.readable.0 c.args.i c.requires.readable.1),
-      omega (arith, c.requires.room.enough),
-      omega (arith, c.requires.room.within),
-    )
+put_before-requires c = (
+  omega (arith, ap length c.formula_at.ensures, readable_short c.requires.readable.0 c.args.i c.requires.readable.1),
+  omega (arith, c.requires.room.enough),
+  omega (arith, c.requires.room.within),
+)
 
 pub returns-then-has-i : goal.returns-then-has-i
 returns-then-has-i c =

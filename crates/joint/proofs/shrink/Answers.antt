@@ -53,14 +53,16 @@ attempted-requires c =
 pub loop-i-preserved-in-Met : goal.loop-i-preserved-in-Met
 loop-i-preserved-in-Met c =
     onward c.loop-i.invariant
-    (shrinking_met (try c.args.catalogue.now c.args.p c.args.node_capacity c.args.profile_capacity) c.args.p.count c.loop-i.invariant.going (omega arith)
+    (shrinking_met (try c.args.catalogue.now c.args.p c.args.node_capacity c.args.profile_capacity) c.args.p.count
+    c.loop-i.invariant.going (omega arith)
     c.without-t.ensures c.attempted.ensures.told c.in-Met.is)
     c.attempted.ensures.kept (search (rules, c.loop-i.invariant.long))
 
 pub loop-i-preserved : goal.loop-i-preserved
 loop-i-preserved c =
     onward c.loop-i.invariant
-    (shrinking_unmet (try c.args.catalogue.now c.args.p c.args.node_capacity c.args.profile_capacity) c.args.p.count c.loop-i.invariant.going (omega arith)
+    (shrinking_unmet (try c.args.catalogue.now c.args.p c.args.node_capacity c.args.profile_capacity) c.args.p.count
+    c.loop-i.invariant.going (omega arith)
     c.without-t.ensures c.attempted.ensures.told c.in-Unmet.is)
     c.attempted.ensures.kept (search (rules, c.loop-i.invariant.long))
 
@@ -70,8 +72,12 @@ shape_of-workspace-in-Unknown c =
 
 pub returns-in-Unknown : goal.returns-in-Unknown
 returns-in-Unknown c =
-    record { told = shrinking_stuck (try c.args.catalogue.now c.args.p c.args.node_capacity c.args.profile_capacity) c.args.p.count c.loop-i.invariant.going (omega arith)
-          c.without-t.ensures c.attempted.ensures.told c.in-Unknown.is c.word_of.ensures; kept = c.attempted.ensures.kept ∙ c.loop-i.invariant.same }
+    record {
+      told = shrinking_stuck (try c.args.catalogue.now c.args.p c.args.node_capacity c.args.profile_capacity) c.args.p.count
+          c.loop-i.invariant.going (omega arith)
+          c.without-t.ensures c.attempted.ensures.told c.in-Unknown.is c.word_of.ensures;
+      kept = c.attempted.ensures.kept ∙ c.loop-i.invariant.same;
+    }
 
 pub shape_of-workspace : goal.shape_of-workspace
 shape_of-workspace c =
@@ -79,5 +85,9 @@ shape_of-workspace c =
 
 pub returns : goal.returns
 returns c =
-    record { told = shrinking_core (try c.args.catalogue.now c.args.p c.args.node_capacity c.args.profile_capacity) c.args.p.count c.loop-i.invariant.going (omega arith)
-          c.word_of-2.ensures; kept = c.loop-i.invariant.same }
+    record {
+      told = shrinking_core (try c.args.catalogue.now c.args.p c.args.node_capacity c.args.profile_capacity) c.args.p.count
+          c.loop-i.invariant.going (omega arith)
+          c.word_of-2.ensures;
+      kept = c.loop-i.invariant.same;
+    }

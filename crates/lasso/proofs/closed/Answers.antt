@@ -16,7 +16,8 @@ loop-k-init c = record { last = c.end-end.ensures; from = omega arith; none = λ
 
 pub operator_at-op-requires : goal.operator_at-op-requires
 operator_at-op-requires c =
-    held-placed _ _ (held-inside _ _ c.requires c.loop-k.k c.loop-k.invariant.from (omega (arith, c.loop-k.invariant.last, c.loop-k-test.true)))
+    held-placed _ _ (held-inside _ _ c.requires c.loop-k.k c.loop-k.invariant.from
+    (omega (arith, c.loop-k.invariant.last, c.loop-k-test.true)))
 
 pub returns-then-outside : goal.returns-then-outside
 returns-then-outside c =

@@ -9,7 +9,8 @@ judge-requires c =
 
 pub returns-in-Refused : goal.returns-in-Refused
 returns-in-Refused c =
-    let p = truth-unread _ (lasso c.args.letters.now c.args.stem) c.args.words.now c.read-r.result c.read-r.ensures.outcome c.in-Refused.is in
+    let p = truth-unread _ (lasso c.args.letters.now c.args.stem) c.args.words.now c.read-r.result c.read-r.ensures.outcome
+    c.in-Refused.is in
     record { answered = p.0; labelled = p.1 }
 
 pub returns-in-Accepted : goal.returns-in-Accepted

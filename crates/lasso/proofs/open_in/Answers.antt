@@ -20,7 +20,8 @@ loop-k-init c =
 
 pub closed-requires : goal.closed-requires
 closed-requires c =
-    held-inside _ _ c.requires _ (omega (arith, c.loop-k.invariant.opening.behind)) (omega (arith, c.loop-k.invariant.last, c.loop-k-test.true))
+    held-inside _ _ c.requires _ (omega (arith, c.loop-k.invariant.opening.behind))
+    (omega (arith, c.loop-k.invariant.last, c.loop-k-test.true))
 
 pub end-k-requires : goal.end-k-requires
 end-k-requires c =
@@ -28,7 +29,8 @@ end-k-requires c =
 
 pub loop-k-smaller-then-closed : goal.loop-k-smaller-then-closed
 loop-k-smaller-then-closed c =
-    let some = inside-some _ _ c.requires c.loop-k.k (omega (arith, c.loop-k.invariant.opening.behind)) (omega (arith, c.loop-k.invariant.last, c.loop-k-test.true)) in
+    let some = inside-some _ _ c.requires c.loop-k.k (omega (arith, c.loop-k.invariant.opening.behind))
+    (omega (arith, c.loop-k.invariant.last, c.loop-k-test.true)) in
     omega (arith, c.end-k.ensures, c.loop-k-test.true, some)
 
 pub loop-k-preserved-then-closed : goal.loop-k-preserved-then-closed

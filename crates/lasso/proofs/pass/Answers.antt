@@ -32,7 +32,8 @@ pub loop-i-preserved : goal.loop-i-preserved
 loop-i-preserved c =
     record {
       few = omega (arith, c.loop-i.invariant.few);
-      passed = passed-more _ _ _ _ _ _ _ _ _ _ c.requires.room.cycle c.requires.room.words c.loop-i.invariant.passed (omega (arith, c.loop-i.invariant.few))
+      passed = passed-more _ _ _ _ _ _ _ _ _ _ c.requires.room.cycle c.requires.room.words c.loop-i.invariant.passed
+          (omega (arith, c.loop-i.invariant.few))
           c.successor-next.ensures.is c.turned-word.ensures;
     }
 

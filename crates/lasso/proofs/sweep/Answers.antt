@@ -43,7 +43,8 @@ loop-i-preserved c =
       few = omega arith;
       swept = changed-put _ _ _ _ _ c.loop-i.invariant.swept _ _ (omega (arith, c.requires.room.words)) c.with-word.ensures
           (as_before c.args.rows.now (lasso c.args.letters.now c.args.stem) _ _ _ _ _ _ _
-          (shaped _ _ c.requires.held).operands c.loop-i.invariant.swept c.successor-next.ensures.is _ c.operator_at-op.ensures c.holds_at-on.ensures);
+          (shaped _ _ c.requires.held).operands c.loop-i.invariant.swept c.successor-next.ensures.is _ c.operator_at-op.ensures
+          c.holds_at-on.ensures);
       still = still-more c.loop-i.words c.loop-i.i _ c.loop-i.changed c.loop-i.invariant.still;
     }
 

@@ -23,4 +23,7 @@ shape_of-area c = c.loop-i.invariant.changed.same_length
 
 pub returns : goal.returns
 returns c =
-    record { by_index = λ i h. c.loop-i.invariant.copied i (omega arith); bytes_between = c.loop-i.invariant.changed }
+    record {
+      by_index = λ i h. c.loop-i.invariant.copied i (omega arith);
+      bytes_between = c.loop-i.invariant.changed;
+    }

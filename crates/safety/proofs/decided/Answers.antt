@@ -10,12 +10,19 @@ use Rattle.safety.proofs.decided.Goals as goal
 
 pub from_root-v-requires : goal.from_root-v-requires
 from_root-v-requires c =
-    record { formed = c.requires; lent = (subst (RoomAsked c.args.node_capacity (length c.args.workspace.now) (length c.args.witness.now)) c.in-Granted.is
-    c.ask_room.ensures) }
+    record {
+      formed = c.requires;
+      lent = (subst (RoomAsked c.args.node_capacity (length c.args.workspace.now) (length c.args.witness.now)) c.in-Granted.is
+          c.ask_room.ensures);
+    }
 
 pub overflow_mul-node_capacity : goal.overflow_mul-node_capacity
-overflow_mul-node_capacity c = omega (arith, (subst (RoomAsked c.args.node_capacity (length c.args.workspace.now) (length c.args.witness.now)) c.in-Granted.is
-    c.ask_room.ensures).few_nodes)
+overflow_mul-node_capacity c = omega (
+  arith,
+  (subst (RoomAsked c.args.node_capacity (length c.args.workspace.now)
+      (length c.args.witness.now)) c.in-Granted.is
+      c.ask_room.ensures).few_nodes,
+)
 
 pub clear-requires : goal.clear-requires
 clear-requires c =
@@ -38,6 +45,7 @@ returns-in-Short c =
 pub returns-in-Granted : goal.returns-in-Granted
 returns-in-Granted c =
     settled_on c.args.node_capacity (table_of c.args.t.rows c.args.t.count) c.args.workspace.now c.args.witness.now
-    c.first_least.ensures c.in-Nowhere.is (subst (RoomAsked c.args.node_capacity (length c.args.workspace.now) (length c.args.witness.now)) c.in-Granted.is
+    c.first_least.ensures c.in-Nowhere.is (subst (RoomAsked c.args.node_capacity (length c.args.workspace.now)
+    (length c.args.witness.now)) c.in-Granted.is
     c.ask_room.ensures)
     c.from_root-v.ensures c.clear.ensures

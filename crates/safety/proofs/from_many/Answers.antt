@@ -34,8 +34,12 @@ pub from_nodes-requires : goal.from_nodes-requires
 from_nodes-requires c =
     let widen = c.widen.ensures in
     let half = c.requires.halfway in
-    let few = half.growing.room.few in record { formed = c.requires.formed; nodes_ready = gone-ready c.requires.formed c.go_on-nodes.ensures half.found c.if-node_capacity-nodes.false c.if-node_capacity-nodes.false (λ j h. omega arith) (steps_widened widen half.noted) few (search rules)
-          (search rules) (search rules) half.fits }
+    let few = half.growing.room.few in record {
+      formed = c.requires.formed;
+      nodes_ready = gone-ready c.requires.formed c.go_on-nodes.ensures half.found c.if-node_capacity-nodes.false
+          c.if-node_capacity-nodes.false (λ j h. omega arith) (steps_widened widen half.noted) few (search rules)
+          (search rules) (search rules) half.fits;
+    }
 
 pub returns : goal.returns
 returns c =

@@ -24,5 +24,6 @@ returns-in-Nowhere c =
 
 pub returns-in-Through : goal.returns-in-Through
 returns-in-Through c =
-    told-met c.args.rows.now c.args.count c.requires.nodes_ready (subst (Answered c.args.relation.now c.args.nodes _) c.in-Through.is c.shortest.ensures) refl
+    told-met c.args.rows.now c.args.count c.requires.nodes_ready
+    (subst (Answered c.args.relation.now c.args.nodes _) c.in-Through.is c.shortest.ensures) refl
     c.write_course-stem.ensures

@@ -25,27 +25,39 @@ pub search_from_root-nodes-requires : goal.search_from_root-nodes-requires
 search_from_root-nodes-requires c =
     record {
       formed = c.requires.formed;
-      node_room = record { fits = c.requires.lent.some_nodes; few = c.requires.lent.few_nodes; enough = search rules };
+      node_room = record {
+        fits = c.requires.lent.some_nodes;
+        few = c.requires.lent.few_nodes;
+        enough = search rules;
+      };
       capacity_in_bounds = omega (arith, c.requires.lent.few_nodes);
       in_bounds = omega arith;
     }
 
 pub returns-then-node_capacity-nodes : goal.returns-then-node_capacity-nodes
 returns-then-node_capacity-nodes c =
-    came_14 c.requires.formed (c.search_from_root-nodes.ensures.gone.full c.if-node_capacity-nodes.true c.args.area.now c.search_from_root-nodes.ensures.begun) c.if-node_capacity-nodes.true
+    came_14 c.requires.formed (c.search_from_root-nodes.ensures.gone.full c.if-node_capacity-nodes.true c.args.area.now
+    c.search_from_root-nodes.ensures.begun) c.if-node_capacity-nodes.true
 
 pub from_nodes-requires : goal.from_nodes-requires
 from_nodes-requires c =
-    record { formed = c.requires.formed; nodes_ready = gone-ready c.requires.formed c.search_from_root-nodes.ensures.gone c.search_from_root-nodes.ensures.begun c.if-node_capacity-nodes.false c.if-nodes-le64.true first_block (first-none _ _ _) c.requires.lent.few_nodes (search rules)
-          (search rules) (search rules) c.requires.lent.buffer_fits }
+    record {
+      formed = c.requires.formed;
+      nodes_ready = gone-ready c.requires.formed c.search_from_root-nodes.ensures.gone c.search_from_root-nodes.ensures.begun
+          c.if-node_capacity-nodes.false c.if-nodes-le64.true first_block (first-none _ _ _) c.requires.lent.few_nodes (search rules)
+          (search rules) (search rules) c.requires.lent.buffer_fits;
+    }
 
 pub returns-then-nodes-le64 : goal.returns-then-nodes-le64
 returns-then-nodes-le64 c =
-    came_on c.requires.formed (gone_held c.search_from_root-nodes.ensures.gone c.search_from_root-nodes.ensures.begun (λ h. c.if-nodes-le64.true)) c.if-node_capacity-nodes.false c.from_nodes.ensures
+    came_on c.requires.formed (gone_held c.search_from_root-nodes.ensures.gone c.search_from_root-nodes.ensures.begun
+    (λ h. c.if-nodes-le64.true)) c.if-node_capacity-nodes.false c.from_nodes.ensures
 
 pub from_many-requires : goal.from_many-requires
 from_many-requires c =
-    record { formed = c.requires.formed; halfway = record {
+    record {
+      formed = c.requires.formed;
+      halfway = record {
         many = omega arith;
         growing =
             record {
@@ -58,12 +70,16 @@ from_many-requires c =
               notes = search rules;
             };
         was = c.args.area.now;
-        found = gone-found c.search_from_root-nodes.ensures.gone c.search_from_root-nodes.ensures.begun c.if-node_capacity-nodes.false (omega arith);
+        found = gone-found c.search_from_root-nodes.ensures.gone c.search_from_root-nodes.ensures.begun c.if-node_capacity-nodes.false
+            (omega arith);
         long = search rules;
-        noted = gone_steps c.search_from_root-nodes.ensures.gone c.if-node_capacity-nodes.false (omega arith) first_block (first-none _ _ _);
+        noted = gone_steps c.search_from_root-nodes.ensures.gone c.if-node_capacity-nodes.false (omega arith) first_block
+            (first-none _ _ _);
         fits = c.requires.lent.buffer_fits;
-      } }
+      };
+    }
 
 pub returns : goal.returns
 returns c =
-    c.from_many.ensures c.args.area.now (gone-found c.search_from_root-nodes.ensures.gone c.search_from_root-nodes.ensures.begun c.if-node_capacity-nodes.false (omega arith))
+    c.from_many.ensures c.args.area.now (gone-found c.search_from_root-nodes.ensures.gone c.search_from_root-nodes.ensures.begun
+    c.if-node_capacity-nodes.false (omega arith))

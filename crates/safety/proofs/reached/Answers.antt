@@ -5,10 +5,18 @@ use Rattle.safety.proofs.StepLaws.{reached-some, reached_other, reached-nowhere,
 use Rattle.safety.proofs.reached.Goals as goal
 
 pub offset_bounds-steps-i : goal.offset_bounds-steps-i
-offset_bounds-steps-i c = omega (arith, (located-number c.args.known c.args.area.now _ c.located.ensures c.in-Number.is).0, c.requires.nodes_there.few)
+offset_bounds-steps-i c = omega (
+  arith,
+  (located-number c.args.known c.args.area.now _ c.located.ensures c.in-Number.is).0,
+  c.requires.nodes_there.few,
+)
 
 pub bounds-steps-i : goal.bounds-steps-i
-bounds-steps-i c = omega (arith, (located-number c.args.known c.args.area.now _ c.located.ensures c.in-Number.is).0, c.requires.nodes_there.few)
+bounds-steps-i c = omega (
+  arith,
+  (located-number c.args.known c.args.area.now _ c.located.ensures c.in-Number.is).0,
+  c.requires.nodes_there.few,
+)
 
 pub returns-then-wide16-far : goal.returns-then-wide16-far
 returns-then-wide16-far c =

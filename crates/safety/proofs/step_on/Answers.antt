@@ -24,7 +24,6 @@ turned_more {rows} {count} {from} {area} {steps} {known} {far} {word = word} t h
         | no k ↦
             subst (λ (z : ℕ). Strays rows count z from area steps known far) {x = word} {y = y} (omega arith) s
       ];
-
 }
 
 first_found : {rows : List ℕ} {count from node x : ℕ} {area steps : List ℕ} {known far p : ℕ} {n : NodeNumber} → from ≡ node
@@ -36,8 +35,11 @@ first_found {rows} {count} {area = area} {steps} {known} {far} {p} {n} e h g f =
     (record { choice_word = _; small = h; goes = g; first = f })
 
 pub node-node-requires : goal.node-node-requires
-node-node-requires c =
-    (omega (arith, c.requires.from_lt_known, c.requires.nodes_there.few), omega (arith, c.requires.from_lt_known, c.requires.nodes_there.room))
+node-node-requires c = (
+  omega (arith, c.requires.from_lt_known, c.requires.nodes_there.few),
+  omega
+      (arith, c.requires.from_lt_known, c.requires.nodes_there.room),
+)
 
 pub power-end-requires : goal.power-end-requires
 power-end-requires c = omega (arith, c.ors.ensures, c.requires.formed.few_ors)
@@ -47,8 +49,12 @@ loop-word-init c = record { turn = omega arith; strayed = λ y h. absurd (omega 
 
 pub by_word-target-requires : goal.by_word-target-requires
 by_word-target-requires c =
-    record { formed = c.requires.formed; core_of = c.core_of-core.ensures.0; unmet_ors = subst⁻¹ (λ (n : ℕ). UnmetOrs c.args.rows.now c.args.count n c.unmet-unmet.result) c.core_of-core.ensures.1
-            c.unmet-unmet.ensures }
+    record {
+      formed = c.requires.formed;
+      core_of = c.core_of-core.ensures.0;
+      unmet_ors = subst⁻¹ (λ (n : ℕ). UnmetOrs c.args.rows.now c.args.count n c.unmet-unmet.result) c.core_of-core.ensures.1
+          c.unmet-unmet.ensures;
+    }
 
 pub reached-requires : goal.reached-requires
 reached-requires c =
@@ -59,8 +65,10 @@ returns-in-Leads c =
     let reached =
     subst (OnwardOf c.args.area.now c.args.steps.now c.args.known c.by_word-target.result c.args.far) c.in-Leads.is
     c.reached.ensures in
-    first_found (c.core_of-core.ensures.1 ∙ c.node-node.ensures) (omega (arith, (c.power-end.ensures ∙ ap (λ (n : ℕ). 2 ^ n) c.ors.ensures), c.loop-word-test.true))
-    (goes c.args.rows.now c.args.area.now c.args.steps.now c.args.known c.args.far c.by_word-target.ensures reached) c.loop-word.invariant.strayed
+    first_found (c.core_of-core.ensures.1 ∙ c.node-node.ensures)
+    (omega (arith, (c.power-end.ensures ∙ ap (λ (n : ℕ). 2 ^ n) c.ors.ensures), c.loop-word-test.true))
+    (goes c.args.rows.now c.args.area.now c.args.steps.now c.args.known c.args.far c.by_word-target.ensures reached)
+    c.loop-word.invariant.strayed
 
 pub loop-word-preserved : goal.loop-word-preserved
 loop-word-preserved c =
@@ -72,5 +80,6 @@ loop-word-preserved c =
 pub returns : goal.returns
 returns c =
     absurd (c.requires.some_step (λ x h.
-    subst (λ (n : ℕ). Strays c.args.rows.now c.args.count x n c.args.area.now c.args.steps.now c.args.known c.args.far) (c.core_of-core.ensures.1 ∙ c.node-node.ensures)
+    subst (λ (n : ℕ). Strays c.args.rows.now c.args.count x n c.args.area.now c.args.steps.now c.args.known c.args.far)
+    (c.core_of-core.ensures.1 ∙ c.node-node.ensures)
     (c.loop-word.invariant.strayed x (omega (arith, (c.power-end.ensures ∙ ap (λ (n : ℕ). 2 ^ n) c.ors.ensures), c.loop-word-test.false)))))

@@ -26,7 +26,8 @@ loop-i-preserved c =
     record {
       is =
           (λ j. set (c.loop-i.invariant.is j) c.loop-i.i (c.spliced_byte.ensures j))
-          ∙ written-more bytes c.loop-i.i (omega (arith, few, c.spliced_count-count.ensures)) (omega (arith, few, c.spliced_count-count.ensures));
+          ∙ written-more bytes c.loop-i.i (omega (arith, few, c.spliced_count-count.ensures))
+          (omega (arith, few, c.spliced_count-count.ensures));
       below = omega arith;
     }
 

@@ -14,11 +14,20 @@ returns-then-j-new c =
 
 pub overflow_add-result : goal.overflow_add-result
 overflow_add-result c =
-    search (rules, behind-inside c.args.span c.args.old.now c.args.new.now c.requires.spans c.args.i c.requires.i_in_bounds (omega arith) (omega arith), c.requires.spans.old_few)
+    search (
+      rules,
+      behind-inside c.args.span c.args.old.now c.args.new.now c.requires.spans c.args.i c.requires.i_in_bounds
+          (omega arith) (omega arith),
+      c.requires.spans.old_few,
+    )
 
 pub bounds-old-span : goal.bounds-old-span
 bounds-old-span c =
-    search (rules, behind-inside c.args.span c.args.old.now c.args.new.now c.requires.spans c.args.i c.requires.i_in_bounds (omega arith) (omega arith))
+    search (
+      rules,
+      behind-inside c.args.span c.args.old.now c.args.new.now c.requires.spans c.args.i c.requires.i_in_bounds
+          (omega arith) (omega arith),
+    )
 
 pub returns : goal.returns
 returns c =

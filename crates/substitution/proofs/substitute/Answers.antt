@@ -14,7 +14,8 @@ with_new-requires c =
 pub returns-in-Refused : goal.returns-in-Refused
 returns-in-Refused c =
     c.unread.ensures
-    ∙ ap (turned_away (Unread Old _)) (refused-table c.args.old.now c.read-r.result c.read-r.ensures.outcome c.read-r.ensures.determined c.in-Refused.is)
+    ∙ ap (turned_away (Unread Old _)) (refused-table c.args.old.now c.read-r.result c.read-r.ensures.outcome
+    c.read-r.ensures.determined c.in-Refused.is)
     ∙ old_told c.args.old.now c.args.e c.args.new.now (outcome-told c.args.old.now c.read-r.result c.read-r.ensures.outcome c.in-Refused.is)
 
 pub returns-in-Accepted : goal.returns-in-Accepted

@@ -31,7 +31,8 @@ loop-word-init c =
 pub returns-then-capacity-all : goal.returns-then-capacity-all
 returns-then-capacity-all c =
     record {
-      expanded = expand_end c.loop-word.invariant.reached c.requires.formed c.requires.growing.room.fits (c.core_of-core.ensures.1 ∙ c.node-from.ensures) c.ors.ensures
+      expanded = expand_end c.loop-word.invariant.reached c.requires.formed c.requires.growing.room.fits
+          (c.core_of-core.ensures.1 ∙ c.node-from.ensures) c.ors.ensures
           (omega (arith, c.power-end.ensures)) (inl c.if-capacity-all.true);
       lower_bound = (omega arith, omega arith);
       slots_marked = c.loop-word.invariant.marked;
@@ -75,16 +76,19 @@ loop-word-preserved c =
       marked = c.follow-all.ensures.slots_marked;
       reached = expand_turn c.loop-word.invariant.reached c.requires.formed c.by_word-target.ensures c.follow-all.ensures.followed;
       noted = λ e h.
-          noting_turn (c.loop-word.invariant.noted e (omega arith)) c.loop-word.invariant.low c.follow-all.ensures.lower_bound.0 (omega (arith, (c.power-end.ensures ∙ ap (λ (n : ℕ). 2 ^ n) c.ors.ensures)))
+          noting_turn (c.loop-word.invariant.noted e (omega arith)) c.loop-word.invariant.low c.follow-all.ensures.lower_bound.0
+          (omega (arith, (c.power-end.ensures ∙ ap (λ (n : ℕ). 2 ^ n) c.ors.ensures)))
           c.by_word-target.ensures (c.follow-all.ensures.step_noted (omega (arith, c.loop-word.invariant.same_relation, e)) h);
     }
 
 pub returns : goal.returns
 returns c =
     record {
-      expanded = expand_end c.loop-word.invariant.reached c.requires.formed c.requires.growing.room.fits (c.core_of-core.ensures.1 ∙ c.node-from.ensures) c.ors.ensures
+      expanded = expand_end c.loop-word.invariant.reached c.requires.formed c.requires.growing.room.fits
+          (c.core_of-core.ensures.1 ∙ c.node-from.ensures) c.ors.ensures
           (omega (arith, c.power-end.ensures)) (inr (omega (arith, c.power-end.ensures, c.loop-word-test.false)));
       lower_bound = (omega arith, omega arith);
       slots_marked = c.loop-word.invariant.marked;
-      steps_of = λ e h. noting_end (c.loop-word.invariant.noted e h) (c.core_of-core.ensures.1 ∙ c.node-from.ensures) (omega (arith, (c.power-end.ensures ∙ ap (λ (n : ℕ). 2 ^ n) c.ors.ensures), c.loop-word-test.false));
+      steps_of = λ e h. noting_end (c.loop-word.invariant.noted e h) (c.core_of-core.ensures.1 ∙ c.node-from.ensures)
+          (omega (arith, (c.power-end.ensures ∙ ap (λ (n : ℕ). 2 ^ n) c.ors.ensures), c.loop-word-test.false));
     }

@@ -25,7 +25,8 @@ pub record Turned (rows : List ℕ) (count i from known capacity end : ℕ) (are
 
 abbrev pub invariant-loop-word : goal.invariant-loop-word
 invariant-loop-word l =
-    Turned l.rows l.count l.number.0 l.core.node l.known l.capacity l.end l.initial.area l.initial.origins l.initial.relation l.all l.word l.area l.slots l.origins l.relation
+    Turned l.rows l.count l.number.0 l.core.node l.known l.capacity l.end l.initial.area l.initial.origins l.initial.relation l.all
+    l.word l.area l.slots l.origins l.relation
 
 abbrev pub decreases-loop-word : goal.decreases-loop-word
 decreases-loop-word l =

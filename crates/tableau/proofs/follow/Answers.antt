@@ -19,5 +19,6 @@ returns-in-Leads c =
       followed = follow-some c.args.number c.in-Leads.is c.letter_of.ensures c.requires.growing.room.fits c.add-added.ensures.node_added;
       lower_bound = (c.add-added.ensures.came_in.more, c.add-added.ensures.came_in.most);
       slots_marked = c.add-added.ensures.came_in.marked;
-      step_noted = λ e h. step-there c.args.number.0 c.in-Leads.is c.add-added.ensures.came_in.below (c.add-added.ensures.came_in.stands h) (c.add-added.ensures.came_in.stay h) (c.note_step.ensures e h);
+      step_noted = λ e h. step-there c.args.number.0 c.in-Leads.is c.add-added.ensures.came_in.below
+          (c.add-added.ensures.came_in.stands h) (c.add-added.ensures.came_in.stay h) (c.note_step.ensures e h);
     }

@@ -22,7 +22,8 @@ power-requires-then-not-either-2 c =
 
 pub returns-then-not-either : goal.returns-then-not-either
 returns-then-not-either c =
-    found_and c.operator_at-o.ensures _ _ c.in-Pair.is (c.if-not-either.true) c.power-then-not-either.ensures c.power-then-not-either-2.ensures
+    found_and c.operator_at-o.ensures _ _ c.in-Pair.is (c.if-not-either.true) c.power-then-not-either.ensures
+    c.power-then-not-either-2.ensures
 
 pub power-requires-then-has : goal.power-requires-then-has
 power-requires-then-has c =

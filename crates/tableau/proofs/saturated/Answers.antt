@@ -12,11 +12,13 @@ loop-fringe-init c = λ node s. s
 
 pub moved-grown-requires : goal.moved-grown-requires
 moved-grown-requires c =
-    placed c.requires.formed (spread-below (c.loop-fringe.invariant c.args.core.node (c.requires.core_of.grows c.args.choice)) c.lowest-e.ensures)
+    placed c.requires.formed (spread-below (c.loop-fringe.invariant c.args.core.node (c.requires.core_of.grows c.args.choice))
+    c.lowest-e.ensures)
 
 pub loop-fringe-smaller : goal.loop-fringe-smaller
 loop-fringe-smaller c =
-    spread-less (c.loop-fringe.invariant c.args.core.node (c.requires.core_of.grows c.args.choice)) c.lowest-e.ensures c.without.ensures c.moved-grown.ensures (2 ^ 64)
+    spread-less (c.loop-fringe.invariant c.args.core.node (c.requires.core_of.grows c.args.choice)) c.lowest-e.ensures
+    c.without.ensures c.moved-grown.ensures (2 ^ 64)
     (omega arith)
 
 pub loop-fringe-preserved : goal.loop-fringe-preserved

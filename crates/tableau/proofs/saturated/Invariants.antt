@@ -8,7 +8,8 @@ use Rattle.tableau.proofs.saturated.Given as goal
 -- of whatever node the core is
 abbrev pub invariant-loop-fringe : goal.invariant-loop-fringe
 invariant-loop-fringe l =
-    (node : ℕ) → Spread (moves_at l.rows l.choice) l.count node l.initial.set l.initial.fringe → Spread (moves_at l.rows l.choice) l.count node l.set l.fringe
+    (node : ℕ) → Spread (moves_at l.rows l.choice) l.count node l.initial.set l.initial.fringe → Spread (moves_at l.rows l.choice)
+    l.count node l.set l.fringe
 
 abbrev pub decreases-loop-fringe : goal.decreases-loop-fringe
 decreases-loop-fringe l = 2 * (2 ^ 64 - l.set) + l.fringe

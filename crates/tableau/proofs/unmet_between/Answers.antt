@@ -17,7 +17,8 @@ loop-e-preserved c =
         passed = omega arith;
         few = omega (arith, w.n-is, c.loop-e.invariant.few);
         outside =
-            rw (w.bits-is, w.n-is) (outside_or c.loop-e.invariant.outside (is ∙ w.if-is_or.true) w.has.ensures w.with-bits.result w.with-bits.ensures);
+            rw (w.bits-is, w.n-is) (outside_or c.loop-e.invariant.outside (is ∙ w.if-is_or.true) w.has.ensures w.with-bits.result
+            w.with-bits.ensures);
       }
       | else-is_or w ↦ record {
         passed = omega arith;

@@ -7,7 +7,8 @@ use Rattle.text.proofs.letters.Given as goal
 
 abbrev pub invariant-loop-i : goal.invariant-loop-i
 invariant-loop-i l =
-    MembersPassed (length l.letters) l.i (each (letter_text l.front l.back) (take l.i l.letters)) (buffer l.initial.out l.start) (buffer l.out l.at)
+    MembersPassed (length l.letters) l.i (each (letter_text l.front l.back) (take l.i l.letters)) (buffer l.initial.out l.start)
+    (buffer l.out l.at)
 
 abbrev pub decreases-loop-i : goal.decreases-loop-i
 decreases-loop-i l = length l.letters - l.i

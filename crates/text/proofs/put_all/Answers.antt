@@ -7,7 +7,8 @@ loop-i-init c = none_passed
 
 pub loop-i-preserved : goal.loop-i-preserved
 loop-i-preserved c =
-    one-passed c.loop-i-test.true c.loop-i.invariant (keeps-length c.put-next.ensures) (one_byte_more _ _ c.loop-i-test.true c.loop-i.invariant.wrote c.put-next.ensures)
+    one-passed c.loop-i-test.true c.loop-i.invariant (keeps-length c.put-next.ensures)
+    (one_byte_more _ _ c.loop-i-test.true c.loop-i.invariant.wrote c.put-next.ensures)
 
 pub returns : goal.returns
 returns c = all _ _ c.loop-i-test.false c.loop-i.invariant.wrote

@@ -16,7 +16,10 @@ overflow_add-n c =
 
 pub header_of-e-requires : goal.header_of-e-requires
 header_of-e-requires c =
-    record { store_fits = c.requires.fits; p_lt_capacity = omega (arith, c.loop-at.invariant.low, c.requires.below) }
+    record {
+      store_fits = c.requires.fits;
+      p_lt_capacity = omega (arith, c.loop-at.invariant.low, c.requires.below);
+    }
 
 pub loop-at-smaller : goal.loop-at-smaller
 loop-at-smaller c =

@@ -24,4 +24,5 @@ write_cycle-requires c =
 
 pub returns : goal.returns
 returns c =
-    all-written c.requires c.header_of-e.ensures.first c.stem_length-stem.ensures c.cycle_length-cycle.ensures refl c.write_stem.ensures c.write_cycle.ensures
+    all-written c.requires c.header_of-e.ensures.first c.stem_length-stem.ensures c.cycle_length-cycle.ensures refl
+    c.write_stem.ensures c.write_cycle.ensures

@@ -13,12 +13,15 @@ loop-at-init c =
     (omega arith) c.requires.letters_fit.count_is
 
 pub overflow_sub-left : goal.overflow_sub-left
-overflow_sub-left c = omega (arith, turn_some (record {
-      linked = c.requires.cycle_kept.linked;
-      room = omega (arith, c.requires.letters_fit.count_is, c.requires.letters_fit.room);
-      some = omega arith;
-      back = c.loop-at.invariant;
-    }))
+overflow_sub-left c = omega (
+  arith,
+  turn_some (record {
+    linked = c.requires.cycle_kept.linked;
+    room = omega (arith, c.requires.letters_fit.count_is, c.requires.letters_fit.room);
+    some = omega arith;
+    back = c.loop-at.invariant;
+  }),
+)
 
 pub header_of-e-requires : goal.header_of-e-requires
 header_of-e-requires c =
@@ -28,25 +31,31 @@ header_of-e-requires c =
     }
 
 pub overflow_add-start : goal.overflow_add-start
-overflow_add-start c = record { fits = omega (arith, turn_room (record {
+overflow_add-start c = record {
+  fits = omega (
+    arith,
+    turn_room (record {
       linked = c.requires.cycle_kept.linked;
       room = omega (arith, c.requires.letters_fit.count_is, c.requires.letters_fit.room);
       some = omega arith;
       back = c.loop-at.invariant;
-    }), turn_some (record {
+    }),
+    turn_some (record {
       linked = c.requires.cycle_kept.linked;
       room = omega (arith, c.requires.letters_fit.count_is, c.requires.letters_fit.room);
       some = omega arith;
       back = c.loop-at.invariant;
-    })) }
+    }),
+  );
+}
 
 pub put-requires : goal.put-requires
 put-requires c = turn_index (record {
-      linked = c.requires.cycle_kept.linked;
-      room = omega (arith, c.requires.letters_fit.count_is, c.requires.letters_fit.room);
-      some = omega arith;
-      back = c.loop-at.invariant;
-    }) refl
+  linked = c.requires.cycle_kept.linked;
+  room = omega (arith, c.requires.letters_fit.count_is, c.requires.letters_fit.room);
+  some = omega arith;
+  back = c.loop-at.invariant;
+}) refl
 
 pub loop-at-smaller : goal.loop-at-smaller
 loop-at-smaller c =

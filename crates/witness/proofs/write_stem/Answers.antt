@@ -12,12 +12,15 @@ loop-at-init c =
     back_start (node_item c.args.origins.now) 0 c.args.node.0 c.args.letters.now refl c.requires.letters_fit.count_is
 
 pub overflow_sub-left : goal.overflow_sub-left
-overflow_sub-left c = omega (arith, turn_some (record {
-      linked = c.requires.stem_noted.linked;
-      room = omega (arith, c.requires.letters_fit.count_is, c.requires.letters_fit.room);
-      some = omega arith;
-      back = c.loop-at.invariant;
-    }))
+overflow_sub-left c = omega (
+  arith,
+  turn_some (record {
+    linked = c.requires.stem_noted.linked;
+    room = omega (arith, c.requires.letters_fit.count_is, c.requires.letters_fit.room);
+    some = omega arith;
+    back = c.loop-at.invariant;
+  }),
+)
 
 pub origin_of-o-requires : goal.origin_of-o-requires
 origin_of-o-requires c =
@@ -25,11 +28,11 @@ origin_of-o-requires c =
 
 pub put-requires : goal.put-requires
 put-requires c = turn_index (record {
-      linked = c.requires.stem_noted.linked;
-      room = omega (arith, c.requires.letters_fit.count_is, c.requires.letters_fit.room);
-      some = omega arith;
-      back = c.loop-at.invariant;
-    }) (omega arith)
+  linked = c.requires.stem_noted.linked;
+  room = omega (arith, c.requires.letters_fit.count_is, c.requires.letters_fit.room);
+  some = omega arith;
+  back = c.loop-at.invariant;
+}) (omega arith)
 
 pub loop-at-smaller : goal.loop-at-smaller
 loop-at-smaller c =
@@ -47,7 +50,8 @@ loop-at-preserved c =
       room = omega (arith, c.requires.letters_fit.count_is, c.requires.letters_fit.room);
       some = omega arith;
       back = c.loop-at.invariant;
-    }) (omega arith) (note_parent c.args.origins.now (omega arith) c.origin_of-o.ensures.parent) (note_letter c.args.origins.now (omega arith) c.origin_of-o.ensures.letter)
+    }) (omega arith) (note_parent c.args.origins.now (omega arith) c.origin_of-o.ensures.parent)
+    (note_letter c.args.origins.now (omega arith) c.origin_of-o.ensures.letter)
     c.put.ensures
 
 pub returns : goal.returns

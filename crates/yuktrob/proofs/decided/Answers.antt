@@ -15,5 +15,9 @@ searched-verdict-requires c =
 
 pub returns : goal.returns
 returns c =
-    record { prefix_len = prefix_len_of_le _ _ (place-within c.program_text.ensures zero-le); printed = prints c.searched-verdict.ensures
-          (length-replicate {A = ℕ} (workspace_size nodes profiles) 0) (length-replicate {A = ℕ} (witness_size nodes profiles) 0) c.program_text.ensures }
+    record {
+      prefix_len = prefix_len_of_le _ _ (place-within c.program_text.ensures zero-le);
+      printed = prints c.searched-verdict.ensures
+          (length-replicate {A = ℕ} (workspace_size nodes profiles) 0) (length-replicate {A = ℕ} (witness_size nodes profiles) 0)
+          c.program_text.ensures;
+    }

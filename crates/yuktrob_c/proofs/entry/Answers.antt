@@ -15,11 +15,10 @@ operator_at-requires c =
     c.requires.placed _ c.if-e-t.false
 
 pub packed-requires : goal.packed-requires
-packed-requires c =
-    (
-      subst (λ (o : Operator). Fits 48 o) c.operator_at.ensures (c.requires.placed _ c.if-e-t.false).fits,
-      omega (arith, c.requires.few, c.requires.ends _ c.if-e-t.false),
-    )
+packed-requires c = (
+  subst (λ (o : Operator). Fits 48 o) c.operator_at.ensures (c.requires.placed _ c.if-e-t.false).fits,
+  omega (arith, c.requires.few, c.requires.ends _ c.if-e-t.false),
+)
 
 pub returns : goal.returns
 returns c =

@@ -27,8 +27,11 @@ found-requires c =
 
 pub found-requires-in-Unsatisfiable : goal.found-requires-in-Unsatisfiable
 found-requires-in-Unsatisfiable c =
-    record { met_bound = omega arith; letters_16 = subst⁻¹ (λ (s : ℕ). Letters16 s 0 c.in-Unsatisfiable.nodes c.in-Unsatisfiable.profiles) c.wide-in-Unsatisfiable.ensures
-          (subst JointFits c.in-Unsatisfiable.is c.requires) }
+    record {
+      met_bound = omega arith;
+      letters_16 = subst⁻¹ (λ (s : ℕ). Letters16 s 0 c.in-Unsatisfiable.nodes c.in-Unsatisfiable.profiles) c.wide-in-Unsatisfiable.ensures
+          (subst JointFits c.in-Unsatisfiable.is c.requires);
+    }
 
 pub returns-in-Damaged : goal.returns-in-Damaged
 returns-in-Damaged c = c.number.ensures ∙ sym (ap joint_number c.in-Damaged.is)
@@ -54,5 +57,6 @@ returns-in-Satisfiable c =
 
 pub returns-in-Unsatisfiable : goal.returns-in-Unsatisfiable
 returns-in-Unsatisfiable c =
-    c.found-in-Unsatisfiable.ensures ∙ ap (λ (s : ℕ). number 0 (found 0 s 0 c.in-Unsatisfiable.nodes c.in-Unsatisfiable.profiles)) c.wide-in-Unsatisfiable.ensures
+    c.found-in-Unsatisfiable.ensures ∙ ap (λ (s : ℕ). number 0 (found 0 s 0 c.in-Unsatisfiable.nodes c.in-Unsatisfiable.profiles))
+    c.wide-in-Unsatisfiable.ensures
     ∙ sym (ap joint_number c.in-Unsatisfiable.is)
