@@ -1,5 +1,4 @@
 -- `cycle_search::accepting` tests the profiles one after another. The invariant: none of those passed is accepting.
-use Prim.Native.Nat.{◌-◌}
 use native.Mathlib.Omega.{arith}
 use Rattle.cycle_search.proofs.AcceptingLaws.{try_start, try_found, try_next, try_none}
 use Rattle.cycle_search.proofs.accepting.Invariants.{test}

@@ -1,7 +1,6 @@
 -- `cycle_search::by_layers` looks for an accepting profile in one layer after another. The invariant (`Searching`): the store has all
 -- layers up to this one, and none before it has an accepting profile.
 use mathlib.Core.Path.{ap, subst⁻¹, ◌∙◌}
-use Prim.Native.Nat.{◌-◌}
 use native.Mathlib.Omega.{arith}
 use Rattle.profile_search.specs.Stored.{StoreFits}
 use Rattle.profile_search.proofs.RecordLaws.{changed_then}
