@@ -271,7 +271,7 @@ module _ (operator : ℕ → Operator) (end : ℕ → ℕ) (count : ℕ) where
   each {e} (Formula.variable d) h = each_first h (none (e + 1) (e + 1) (omega arith))
   each {e} (Formula.pair o a b) h =
       each_to (e + (1 + (size a + size b))) (omega arith) (each_first h
-          (each-join (each {e = e + 1} a (occurs_left h)) (each {e = e + 1 + size a} b (occurs_right h))))
+      (each-join (each {e = e + 1} a (occurs_left h)) (each {e = e + 1 + size a} b (occurs_right h))))
   each {e} (Formula.next a) h = each_to (e + (1 + size a)) (omega arith) (each_first h (each {e = e + 1} a (occurs_next h)))
   each {e} (Formula.fix g a) h = each_to (e + (1 + size a)) (omega arith) (each_first h (each {e = e + 1} a (occurs_body h)))
 

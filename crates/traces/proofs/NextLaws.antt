@@ -51,7 +51,7 @@ module _ (rows : List ℕ) (e f : ℕ) (marks t u : List ℕ) (s : RowFilled row
           → get_or (set u (f * 12 + next_rank rows e) (get_or marks e 0)) (f * 12 + next_rank rows i) 0 ≡ get_or marks i 0
       at i h p (yes y) =
           subst⁻¹ (λ (j : ℕ). get_or (set u (f * 12 + next_rank rows e) (get_or marks e 0)) (f * 12 + next_rank rows j) 0 ≡ get_or
-              marks j 0) y
+          marks j 0) y
           (get_or-set_same u (f * 12 + next_rank rows e) (get_or marks e 0) 0 (omega arith))
       at i h p (no y) =
           let less = before-less (next_at rows) i e (omega arith) p in
