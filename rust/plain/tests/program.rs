@@ -11,12 +11,12 @@ use yuktrob_plain::truth::{by_laps, Truth};
 
 /// What the program prints if its input arrives in these pieces, one after another. It may end before it has read them all.
 fn printed<'a>(pieces: impl IntoIterator<Item = &'a [u8]>) -> String {
-    let program = concat!(env!("CARGO_MANIFEST_DIR"), "/../../target/bin/yuktrob");
+    let program = concat!(env!("CARGO_MANIFEST_DIR"), "/../../crates/yuktrob/out/yuktrob");
     let mut child = Command::new(program)
         .stdin(Stdio::piped())
         .stdout(Stdio::piped())
         .spawn()
-        .unwrap_or_else(|why| panic!("{program}: {why}; `rt check yuktrob` builds it"));
+        .unwrap_or_else(|why| panic!("{program}: {why}; `rt run` in crates/yuktrob builds it"));
     let mut input = child.stdin.take().expect("standard input");
     for (i, piece) in pieces.into_iter().enumerate() {
         if i > 0 {
