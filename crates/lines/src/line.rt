@@ -54,8 +54,12 @@ fn filled(chunk: &mut [u8], place: Place) -> Place {
     }
 }
 
+// One byte, so that a line is answered as soon as it has come.
 fn read(chunk: &mut [u8]) -> usize {
-    io::read_full(0, chunk)
+    if chunk.len() == 0 {
+        return 0;
+    }
+    io::read_full(0, &mut chunk[..1])
 }
 
 // The next byte, or 256 at the input's end.
