@@ -19,6 +19,7 @@ use Rattle.tableau.specs.Foremost.{Foremost}
 use Rattle.tableau.proofs.ForemostLaws.{one-foremost, foremost_by}
 use Rattle.profile.specs.Cycle.{AcceptingCycle}
 use Rattle.construction.specs.Construction.{node_count}
+use Rattle.construction.specs.declared.Question.TheVariants.{Profiles}
 use Rattle.decision.specs.Verdict as decision
 use Rattle.decision.specs.Contract.{Witness}
 use Rattle.decision.proofs.Answer as whole
@@ -32,7 +33,7 @@ use Rattle.safety.proofs.Demands.{IsAnswer, NoLasso, Says, one-formula, verdict-
 -- the answer of the decision as that of the other
 abbrev pub Same : decision.Verdict → Verdict → Type 0
 Same (decision.Verdict.unread why) o = Unit {0}
-Same (decision.Verdict.refused code) o = Unit {0}
+Same (decision.Verdict.refused q) o = Unit {0}
 Same (decision.Verdict.satisfiable stem cycle K c letters) o = o ≡ Verdict.satisfiable stem cycle K letters
 Same (decision.Verdict.unsatisfiable K P) o = o ≡ Verdict.unsatisfiable K
 
@@ -58,7 +59,7 @@ agree bytes d (Verdict.unread why) m n h = absurd h
 agree bytes d (Verdict.least_at place) m n h = absurd h
 agree bytes d (Verdict.refused s) m n h = absurd h
 agree bytes (decision.Verdict.unread why) (Verdict.satisfiable stem cycle K letters) m n h = tt
-agree bytes (decision.Verdict.refused code) (Verdict.satisfiable stem cycle K letters) m n h = tt
+agree bytes (decision.Verdict.refused q) (Verdict.satisfiable stem cycle K letters) m n h = tt
 agree bytes (decision.Verdict.satisfiable stem' cycle' K' c letters') (Verdict.satisfiable stem cycle K letters) m n h =
     let f = one-formula (sym n.reads ∙ m.reads) in
     let (p, q, r) =
@@ -69,7 +70,7 @@ agree bytes (decision.Verdict.satisfiable stem' cycle' K' c letters') (Verdict.s
 agree bytes (decision.Verdict.unsatisfiable K' P) (Verdict.satisfiable stem cycle K letters) m n h =
     absurd (not_both bytes m.reads n.reads m.none_holds (whole.lasso letters stem) n.such n.holds)
 agree bytes (decision.Verdict.unread why) (Verdict.unsatisfiable K) m n h = tt
-agree bytes (decision.Verdict.refused code) (Verdict.unsatisfiable K) m n h = tt
+agree bytes (decision.Verdict.refused q) (Verdict.unsatisfiable K) m n h = tt
 agree bytes (decision.Verdict.satisfiable stem cycle K' c letters) (Verdict.unsatisfiable K) m n h =
     absurd (not_both bytes n.reads m.reads n.none_holds (whole.lasso letters stem) m.such m.holds)
 agree bytes (decision.Verdict.unsatisfiable K' P) (Verdict.unsatisfiable K) m n h =
@@ -109,7 +110,7 @@ module _ (N M w b : ℕ) (bytes : List ℕ) (f : Formula) (reads : parse bytes �
   this h = one-formula (sym h.reads ∙ reads)
 
   -- Theorem: where the decision gives 15, the other answers.
-  pub answers_for_15 : decision.verdict N M w b bytes ≡ decision.Verdict.refused 15
+  pub answers_for_15 : decision.verdict N M w b bytes ≡ decision.Verdict.refused Profiles
       → (w' b' : ℕ) → 8 * N ≤ w' → N ≤ b' → IsAnswer (verdict N w' b' bytes)
   answers_for_15 e =
       let (g, h, k, p, c) = (demands.refused_15_exactly N M w b bytes).0 e in

@@ -1,14 +1,9 @@
 -- The shared functions on lists that are put together: gathering, keeping and testing go part by part, a run of numbers can be cut
 -- anywhere, and gathering goes through maps; and two lists that are equal have equal parts. Assumes nothing.
-use mathlib.Core.Path.{◌≡◌, refl, sym, ap, ◌∙◌}
-use mathlib.Core.Logic.{inl, inr}
-use mathlib.Core.Bool.{Bool, true, false, cond, ◌||◌}
+use Rattle.std.proofs.Common.{◌≡◌, refl, sym, ap, ◌∙◌, inl, inr, Bool, true, false, cond, ◌||◌, List, [], ◌∷◌, ◌++◌, map, append_assoc, ℕ}
+use Rattle.std.proofs.Common.{zero, suc, ◌+◌, ◌<◌, zero-add, suc-add, add-suc, add-zero, arith, length, length-append}
+use mathlib.Core.List.{map-append, Memᴰ}
 use mathlib.Core.List.Memᴰ
-use mathlib.Core.List.{List, [], ◌∷◌, ◌++◌, map, map-append, append_assoc, Memᴰ}
-use Prim.Native.Nat.{ℕ, zero, suc, ◌+◌, ◌<◌}
-use native.Mathlib.Nat.{zero-add, suc-add, add-suc, add-zero}
-use native.Mathlib.Omega.{arith}
-use lib.ListN.{length, length-append}
 use Rattle.base.specs.Lists.{range, flat_map, any, filter}
 
 pub any_append : {A : Type 0} (q : A → Bool) (xs ys : List A) → any q (xs ++ ys) ≡ (any q xs || any q ys)

@@ -2,10 +2,7 @@
 -- decides it, and of the outcome of whatever comes after; so nested, it says it of a list of questions. The laws of a list: the first
 -- question that is answered by no gives its refusal, whatever comes after (`first_refusal`); behind one that is answered by yes comes what
 -- comes after (`passed`); and if the outcome is not the refusal, the answer was yes (`settled`). Assumes nothing.
-use mathlib.Core.Path.{◌≡◌, refl}
-use mathlib.Core.Bool.{Bool}
-use Prim.Native.Nat.{ℕ, ◌≤◌, ◌<◌}
-use lib.Dec.{T, ltb, leb, ltb→lt, lt→ltb, leb→le, le→leb}
+use Rattle.std.proofs.Common.{◌≡◌, refl, Bool, ℕ, ◌≤◌, ◌<◌, T, ltb, leb, ltb→lt, lt→ltb, leb→le, le→leb}
 use Rattle.base.specs.Ask.{ask}
 use Rattle.base.proofs.BoolLaws.{by_test}
 

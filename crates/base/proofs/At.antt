@@ -1,14 +1,9 @@
 -- The element at a number of a list, as data: it stays there when the list goes on. Where the elements before it fail a test that it
 -- passes, it is the first that passes. Assumes nothing.
-use mathlib.Core.Path.{◌≡◌, refl, sym, ap, subst, ◌∙◌}
-use mathlib.Core.Logic.{◌⊎◌, inl, inr}
-use mathlib.Core.Bool.{Bool, cond}
-use mathlib.Core.Option.{Option}
-use mathlib.Core.List.{List, [], ◌∷◌, ◌++◌, map, Memᴰ}
-use Prim.Native.Nat.{ℕ, zero, suc, ◌<◌}
-use native.Mathlib.Omega.{arith}
-use lib.Dec.{T}
-use lib.ListN.{length, get_or, drop}
+use Rattle.std.proofs.Common.{◌≡◌, refl, sym, ap, subst, ◌∙◌, ◌⊎◌, inl, inr, Bool, cond, List, [], ◌∷◌, ◌++◌, map, ℕ, zero, suc, ◌<◌}
+use Rattle.std.proofs.Common.{arith, T, length, get_or, drop}
+use Rattle.std.proofs.Math.Option.{Option}
+use mathlib.Core.List.{Memᴰ}
 use Rattle.base.specs.Lists.{first}
 pub use Rattle.base.specs.Lists.{At, here, there}
 use Rattle.base.proofs.BoolLaws.{by_test, of_T}

@@ -1,8 +1,6 @@
 -- A Bool as the statement that it is true: what the operators on Bools say, and proofs by cases on a test. Assumes nothing.
-use mathlib.Core.Path.{◌≡◌, refl, subst⁻¹}
-use mathlib.Core.Logic.{◌⊎◌, inl, inr}
-use mathlib.Core.Bool.{Bool, true, false, ◌&&◌, ◌||◌}
-use lib.Dec.{T}
+use Rattle.std.proofs.Common.{◌≡◌, refl, ◌⊎◌, inl, inr, Bool, true, false, ◌&&◌, ◌||◌, T}
+use Rattle.std.proofs.Math.Path.{subst⁻¹}
 use Rattle.base.specs.Lists.{same_bit}
 
 -- by cases on a test, with the test's outcome as a fact

@@ -1,13 +1,12 @@
 -- Numbers in bytes, over the width: what is written is what is read (`number-written`), bytes elsewhere do not count (`number_same`,
 -- `number_behind`), a number of w bytes is below 256^w (`number_small`). `ReadingBytes` and `WritingBytes` say what a loop has done that
 -- reads from the highest byte down, or writes from the lowest byte up. Assumes nothing.
-use mathlib.Core.Path.{◌≡◌, refl, sym, ap, ◌∙◌}
-use mathlib.Core.List.{List, [], ◌∷◌, ◌++◌, append-nil, append_assoc}
-use Prim.Native.Nat.{ℕ, zero, suc, ◌+◌, ◌-◌, ◌*◌, ◌/◌, ◌%◌, ◌^◌, ◌≤◌, ◌<◌}
-use native.Mathlib.Nat.{add-zero, pow-le-pow_right, zero-lt-suc}
-use native.Mathlib.Omega.{arith}
-use lib.ListN.{length, get_or, set, take, drop, length-append, length-set, length-take, length-drop, take-append-drop, get_or-append}
-use lib.Seq.{get_or-append-add, get_or-take, get_or-drop, set_at, drop-cons}
+use Rattle.std.proofs.Common.{◌≡◌, refl, sym, ap, ◌∙◌, List, [], ◌∷◌, ◌++◌, append_assoc, ℕ, zero, suc, ◌+◌, ◌-◌, ◌*◌, ◌/◌, ◌%◌, ◌^◌, ◌≤◌}
+use Rattle.std.proofs.Common.{◌<◌, add-zero, zero-lt-suc, arith, length, get_or, set, take, drop, length-append, length-set, length-take}
+use Rattle.std.proofs.Common.{length-drop, get_or-append-add, get_or-take, get_or-drop, drop-cons}
+use Rattle.std.proofs.Math.ListN.{get_or-append}
+use Rattle.std.proofs.Math.Nat.{pow-le-pow_right}
+use Rattle.std.proofs.Math.Seq.{set_at}
 use Rattle.base.specs.Bytes.{number_at, bytes_of, with_number}
 
 pub length-bytes : (w x : ℕ) → length (bytes_of w x) ≡ w
@@ -101,13 +100,6 @@ pub record WritingBytes (w : ℕ) (a : List ℕ) (at x i y : ℕ) (b : List ℕ)
   pub long : length b ≡ length a
 
 module _ (w : ℕ) (a : List ℕ) (at : ℕ) where
-  pub read_none : ReadingBytes w a at w 0
-  read_none = record {
-    among = omega arith;
-    is = sym (ap (λ (n : ℕ). number_at n a (at + w)) {x = w - w} {y = 0} (omega arith));
-    small = omega (arith, ap (λ (n : ℕ). 256 ^ n) {x = w - w} {y = 0} (omega arith));
-  }
-
   -- one byte more fits into eight
   pub read_fits : {i x : ℕ} → 0 < i → w ≤ 8 → ReadingBytes w a at i x → x < 0x100000000000000
   read_fits {i} h l r = omega (arith, r.small, power_below {n = w - i} (omega (arith, r.among)))
@@ -128,27 +120,7 @@ module _ (w : ℕ) (a : List ℕ) (at : ℕ) where
         omega (arith, power, r.small);
   }
 
-  pub read_all : {i x : ℕ} → i ≤ 0 → ReadingBytes w a at i x → (x ≡ number_at w a at) × (x < 256 ^ w)
-  read_all {i} {x} h r = (is, small)
-    where
-      small : x < 256 ^ w
-      small = omega (arith, r.small, ap (λ (n : ℕ). 256 ^ n) {x = w - i} {y = w} (omega arith))
-
-      is : x ≡ number_at w a at
-      is = r.is ∙ ap (λ (n : ℕ). number_at n a (at + i)) {x = w - i} {y = w} (omega arith)
-          ∙ ap (number_at w a) {x = at + i} {y = at} (omega arith)
-
 module _ (w : ℕ) (a : List ℕ) (at x : ℕ) where
-  pub write_none : WritingBytes w a at x 0 x a
-  write_none = record {
-    among = omega arith;
-    written = [];
-    many = refl;
-    bytes = ap (λ (n : ℕ). bytes_of n x) {x = w} {y = w - 0} (omega arith);
-    area = sym (ap (λ (n : ℕ). take at a ++ drop n a) {x = at + 0} {y = at} (omega arith) ∙ take-append-drop at a);
-    long = refl;
-  }
-
   pub write_more : {i y : ℕ} {b : List ℕ} → i < w → at + w ≤ length a → WritingBytes w a at x i y b
       → WritingBytes w a at x (i + 1) (y / 256) (set b (at + i) (y % 256))
   write_more {i} {y} {b} h l r = record {
@@ -183,10 +155,3 @@ module _ (w : ℕ) (a : List ℕ) (at x : ℕ) where
       apart =
           ap (λ (l : List ℕ). take at a ++ (r.written ++ l)) (drop-cons a (at + i) 0 (omega arith))
           ∙ sym (append_assoc (take at a) r.written (get_or a (at + i) 0 ∷ drop (suc (at + i)) a))
-
-  pub write_all : {i y : ℕ} {b : List ℕ} → w ≤ i → WritingBytes w a at x i y b → b ≡ with_number w a at x
-  write_all {i} {y} {b} h r =
-      let all : bytes_of w x ≡ r.written =
-      r.bytes ∙ ap (λ (n : ℕ). r.written ++ bytes_of n y) {x = w - i} {y = 0} (omega arith) ∙ append-nil r.written in
-      r.area ∙ ap (λ (n : ℕ). take at a ++ (r.written ++ drop n a)) {x = at + i} {y = at + w} (omega (arith, r.among))
-      ∙ ap (λ (l : List ℕ). take at a ++ (l ++ drop (at + w) a)) (sym all)

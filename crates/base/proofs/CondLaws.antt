@@ -1,8 +1,7 @@
 -- The members of a list that stands only where a test holds. Assumes nothing.
-use mathlib.Core.Bool.{Bool, true, false, cond}
+use Rattle.std.proofs.Common.{Bool, true, false, cond, List, [], T}
+use mathlib.Core.List.{Memᴰ}
 use mathlib.Core.List.Memᴰ
-use mathlib.Core.List.{List, [], Memᴰ}
-use lib.Dec.{T}
 
 module _ {A : Type 0} where
   pub cond_of : (b : Bool) (xs : List A) {a : A} → Memᴰ a (cond b xs []) → T b × Memᴰ a xs

@@ -1,18 +1,13 @@
 -- A loop that sets the elements of a list one after the other: after i turns the first i elements are those of a function, and the others
 -- are as they were (`Filled`). Assumes nothing.
-use mathlib.Core.Path.{◌≡◌, refl, sym, ap, ◌∙◌}
-use mathlib.Core.Bool.{Bool, true, false, cond}
-use mathlib.Core.List.{List}
-use Prim.Native.Nat.{ℕ, ◌+◌, ◌≤◌, ◌<◌}
-use native.Mathlib.Omega.{arith}
-use lib.Dec.{eqb, ltb}
-use lib.ListN.{length, get_or, set, length-set}
-use lib.Seq.{get_or-set_same, get_or-set_other}
-use borrow.Author.Tests.{eqb-true, eqb-false, ne_eqb, lt-ltb, le-ltb, ltb-true, ltb-false}
+use Rattle.std.proofs.Common.{◌≡◌, refl, sym, ap, ◌∙◌, Bool, true, false, cond, List, ℕ, ◌+◌, ◌≤◌, ◌<◌, eqb, ltb, length, get_or, set}
+use Rattle.std.proofs.Common.{length-set, arith, get_or-set_same, get_or-set_other, eqb-true, ne_eqb, lt-ltb, le-ltb, ltb-true, ltb-false}
+use Rattle.std.proofs.lemmas.Bool.{eqb-false}
 
 -- an element set
-pub set_at : (d : ℕ) (s : List ℕ) (i v : ℕ) → i < length s → (k : ℕ) → get_or (set s i v) k d ≡ cond (eqb k i) v (get_or s k d)
-set_at d s i v h k = by (eqb k i) refl
+pub set_at : {A : Type 0} (d : A) (s : List A) (i : ℕ) (v : A) → i < length s → (k : ℕ)
+    → get_or (set s i v) k d ≡ cond (eqb k i) v (get_or s k d)
+set_at {A} d s i v h k = by (eqb k i) refl
   where
     by : (b : Bool) → eqb k i ≡ b → get_or (set s i v) k d ≡ cond b v (get_or s k d)
     by true q = ap (λ (j : ℕ). get_or (set s i v) j d) (eqb-true k i q) ∙ get_or-set_same s i v d h

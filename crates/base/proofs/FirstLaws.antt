@@ -1,14 +1,10 @@
 -- The first element that passes a test: there is none only where no element passes, and in a list that stands in order it is ahead of all
 -- others that pass. Assumes nothing.
-use mathlib.Core.Path.{◌≡◌, sym, subst, subst⁻¹, ◌∙◌}
-use mathlib.Core.Logic.{◌⊎◌, inl, inr}
-use mathlib.Core.Bool.{Bool, cond}
-use mathlib.Core.Option.{none, some}
+use Rattle.std.proofs.Common.{◌≡◌, sym, subst, ◌∙◌, ◌⊎◌, inl, inr, Bool, cond, List, [], ◌∷◌, ℕ, arith, T}
+use Rattle.std.proofs.Math.Option.{none, some}
+use Rattle.std.proofs.Math.Path.{subst⁻¹}
+use mathlib.Core.List.{Memᴰ}
 use mathlib.Core.List.Memᴰ
-use mathlib.Core.List.{List, [], ◌∷◌, Memᴰ}
-use Prim.Native.Nat.{ℕ}
-use native.Mathlib.Omega.{arith}
-use lib.Dec.{T}
 use Rattle.base.specs.Lists.{first}
 use Rattle.base.proofs.BoolLaws.{by_test}
 use Rattle.base.proofs.SortedLaws.{Sorted}

@@ -1,15 +1,10 @@
 -- The number of the first element that passes a test: it is below the length exactly if some element passes (`index-any`), one that alone
 -- passes stands there (`index_at`), and tests that agree give the same number (`index_same`). Assumes nothing.
-use mathlib.Core.Path.{◌≡◌, refl, sym, ap, subst, ◌∙◌}
-use mathlib.Core.Logic.{inl, inr}
-use mathlib.Core.Bool.{Bool, true, false, cond, ◌||◌}
+use Rattle.std.proofs.Common.{◌≡◌, refl, sym, ap, subst, ◌∙◌, inl, inr, Bool, true, false, cond, ◌||◌, List, [], ◌∷◌, map, ℕ, suc, ◌≤◌}
+use Rattle.std.proofs.Common.{arith, lt-ltb, T, ltb, length}
+use Rattle.std.proofs.Math.Dec.{leb-suc-suc}
+use mathlib.Core.List.{Memᴰ}
 use mathlib.Core.List.Memᴰ
-use mathlib.Core.List.{List, [], ◌∷◌, map, Memᴰ}
-use Prim.Native.Nat.{ℕ, suc, ◌≤◌}
-use native.Mathlib.Omega.{arith}
-use borrow.Author.Tests.{lt-ltb}
-use lib.Dec.{T, ltb, leb-suc-suc}
-use lib.ListN.{length}
 use Rattle.base.specs.Lists.{any, index}
 use Rattle.base.proofs.BoolLaws.{by_test}
 use Rattle.base.proofs.At.{At}

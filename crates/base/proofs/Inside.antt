@@ -1,13 +1,10 @@
 -- Sets as lists of bits, one inside another: element by element, an order with the empty set below and the full set above. A set that
 -- grows has fewer elements missing, so a chain of sets of n elements grows at most n times; said once for growing and for shrinking,
 -- over the Bool g that the elements leave. Assumes nothing.
-use mathlib.Core.Path.{◌≡◌, refl, sym, ap, ◌∙◌}
-use mathlib.Core.Logic.{◌⊎◌, inl, inr}
-use mathlib.Core.Bool.{Bool, true, false, cond, false≢true}
-use mathlib.Core.List.{List, [], ◌∷◌, ◌++◌, map}
-use Prim.Native.Nat.{ℕ, zero, suc, ◌+◌, ◌≤◌, ◌<◌}
-use native.Mathlib.Omega.{arith}
-use lib.ListN.{length, get_or, length-map}
+use Rattle.std.proofs.Common.{◌≡◌, refl, sym, ap, ◌∙◌, ◌⊎◌, inl, inr, Bool, true, false, cond, List, [], ◌∷◌, ◌++◌, map, ℕ, zero, suc}
+use Rattle.std.proofs.Common.{◌+◌, ◌≤◌, ◌<◌, arith, length, get_or}
+use Rattle.std.proofs.Math.Bool.{false≢true}
+use Rattle.std.proofs.Math.ListN.{length-map}
 use Rattle.base.specs.Lists.{iterate, tail, same_bit}
 use Rattle.base.specs.Sets.{Below, Inside, Toward}
 use Rattle.base.proofs.ListLaws.{iterate_stays, iterate-keeps}

@@ -1,14 +1,10 @@
 -- The layers of a breadth-first search over one list: the items with ways of at most l labels stand first (`Parted`). Those that the first
 -- k turns find are the starts and what goes on from the first k items, so where these are the ones with ways of at most l labels, all that
 -- is then found are the ones with ways of at most l + 1 (`parted_next`). Assumes nothing.
-use mathlib.Core.Path.{◌≡◌, sym, ap, subst, ◌∙◌}
-use mathlib.Core.Logic.{inl, inr}
-use mathlib.Core.Bool.{Bool, true, false, cond}
-use mathlib.Core.List.{List, [], ◌∷◌, Memᴰ}
-use Prim.Native.Nat.{ℕ, zero, suc, ◌+◌, ◌≤◌, ◌<◌}
-use native.Mathlib.Omega.{arith}
-use lib.Dec.{leb, le→leb, leb→le}
-use lib.ListN.{length, length-append, length-map}
+use Rattle.std.proofs.Common.{◌≡◌, sym, ap, subst, ◌∙◌, inl, inr, Bool, true, false, cond, List, [], ◌∷◌, ℕ, zero, suc, ◌+◌, ◌≤◌, ◌<◌}
+use Rattle.std.proofs.Common.{arith, leb, le→leb, leb→le, length, length-append}
+use Rattle.std.proofs.Math.ListN.{length-map}
+use mathlib.Core.List.{Memᴰ}
 use Rattle.base.specs.Lists.{filter}
 use Rattle.base.specs.Search.{Item, within}
 use Rattle.base.specs.Spread.{Numbered, spread, each_label}

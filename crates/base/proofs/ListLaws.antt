@@ -1,10 +1,6 @@
 -- Laws of lists by the number of an element: what holds of each element at its number, elements of a mapped list, of a run of numbers,
 -- and repeating a function. Assumes nothing.
-use Prim.Native.Nat.{ℕ, zero, suc, ◌+◌, ◌<◌}
-use mathlib.Core.Path.{◌≡◌, refl, ap, subst, ◌∙◌}
-use mathlib.Core.List.{List, [], ◌∷◌, ◌++◌, map}
-use native.Mathlib.Omega.{arith}
-use lib.ListN.{length, get_or}
+use Rattle.std.proofs.Common.{ℕ, zero, suc, ◌+◌, ◌<◌, ◌≡◌, refl, ap, subst, ◌∙◌, List, [], ◌∷◌, ◌++◌, map, arith, length, get_or}
 use Rattle.base.specs.Lists.{range, iterate}
 
 module _ {A : Type 0} where

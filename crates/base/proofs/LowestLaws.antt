@@ -1,43 +1,25 @@
 -- The lowest bit of a word stands where its trailing zeros end (`lowest_of`), and to clear bits that a word has is to take them off
 -- (`taken_off`, `without_of`). Assumes nothing.
-use mathlib.Core.Path.{◌≡◌, refl, ap, subst, ◌∙◌}
-use mathlib.Core.Bool.{Bool, true, false, ◌&&◌}
-use Prim.Native.Nat.{ℕ, zero, suc, ◌+◌, ◌/◌, ◌%◌, ◌^◌, ◌<◌}
-use native.Mathlib.Omega.{arith}
-use native.Mathlib.Nat.{pow-succ'}
-use lib.Dec.{T, eqb}
-use lib.Bits.{bit_and, bit_xor, xor_add_and}
-use lib.Count.{count_trailing_zeros, under}
-use borrow.Author.Tests.{eqb-true, eqb-false}
+use Rattle.std.proofs.Common.{◌≡◌, refl, ap, subst, ◌∙◌, Bool, true, false, ◌&&◌, ℕ, ◌+◌, ◌^◌, ◌<◌, T, eqb, bit_and, bit_xor, w64, arith}
+use Rattle.std.proofs.Common.{eqb-true}
+use Rattle.std.specs.Int.{trailing_zeros}
+use Rattle.std.proofs.lemmas.Bool.{eqb-false}
+use Rattle.std.specs.Int.Bits.{xor_add_and}
+use Rattle.std.proofs.lemmas.Nat.Bits.{bit_at-trailing_zeros}
 use Rattle.base.specs.Bits.{bit, Lowest, Without}
 use Rattle.base.proofs.BoolLaws.{to_T}
 use Rattle.base.proofs.BitLaws.{bit-and, bit_other, set_off}
-use Rattle.base.proofs.WordLaws.{bit_zero, bit_suc, same_bits}
+use Rattle.base.proofs.WordLaws.{same_bits}
 
--- e is the lowest bit of w, and below d
-abbrev LowestBelow : (w d e : ℕ) → Type 0
-LowestBelow w d e = (e < d) × (bit w e ≡ true) × ((k : ℕ) → k < e → bit w k ≡ false)
-
--- an odd word has bit 0; an even one has the lowest bit of its half, one further up
-found : (d w : ℕ) → 0 < w → w < 2 ^ d → LowestBelow w d (count_trailing_zeros d w)
-unfolding count_trailing_zeros
-found zero w h l = absurd (omega arith)
-found (suc d) w h l = by (w % 2) refl (λ q. found d (w / 2) (omega arith) (omega (arith, pow-succ' 2 d)))
-  where
-    by : (r : ℕ) → w % 2 ≡ r → (w % 2 ≡ 0 → LowestBelow (w / 2) d (count_trailing_zeros d (w / 2)))
-        → LowestBelow w (suc d) (under r (count_trailing_zeros d (w / 2)))
-    by zero q half =
-        let (a, b, c) = half q in
-        (omega arith, bit_suc w (count_trailing_zeros d (w / 2)) ∙ b, λ k m. lower k m c)
-      where
-        lower : (k : ℕ) → k < suc (count_trailing_zeros d (w / 2)) → ((k : ℕ) → k < count_trailing_zeros d (w / 2) → bit (w / 2) k ≡ false)
-            → bit w k ≡ false
-        lower zero m c = bit_zero w ∙ ap (λ (x : ℕ). eqb x 1) q
-        lower (suc k) m c = bit_suc w k ∙ c k (omega arith)
-    by (suc r) q half = (omega arith, bit_zero w ∙ ap (λ (x : ℕ). eqb x 1) {x = w % 2} {y = 1} (omega arith), λ k m. absurd (omega arith))
-
-pub lowest_of : (w : ℕ) → 0 < w → w < 2 ^ 64 → Lowest w (count_trailing_zeros 64 w)
-lowest_of w h l = let (a, b, c) = found 64 w h l in record { small = a; there = b; none_below = c }
+-- where the trailing zeros end
+pub lowest_of : (w : ℕ) → 0 < w → w < 2 ^ 64 → Lowest w (trailing_zeros w64 w)
+lowest_of w h l =
+    let (small, there, none_below) = bit_at-trailing_zeros w64 w h l in
+    record {
+      small = small;
+      there = ap (λ (x : ℕ). eqb x 1) there;
+      none_below = λ k m. ap (λ (x : ℕ). eqb x 1) (none_below k m);
+    }
 
 -- bits that a word has, cleared
 pub taken_off : (w p : ℕ) → ((k : ℕ) → T (bit p k) → T (bit w k)) → bit_xor w p + p ≡ w

@@ -4,15 +4,11 @@
 -- parent's way and then its own: what `own` says, so that a start may have a label or an empty way. A turn of the one keeps up with a turn
 -- of the other (`adds_matches`), also where the first goes on by fewer edges, if what the missing ones lead to is among the rest (`Thins`).
 -- So the searches match (`search_matches`), and the labels along the parents are those of the way (`labels-letters`). Assumes nothing.
-use mathlib.Core.Path.{◌≡◌, refl, sym, ap, subst, subst⁻¹, ◌∙◌}
-use mathlib.Core.Logic.{inl, inr}
-use mathlib.Core.Bool.{Bool, cond}
+use Rattle.std.proofs.Common.{◌≡◌, refl, sym, ap, subst, ◌∙◌, inl, inr, Bool, cond, List, [], ◌∷◌, ◌++◌, map, append-nil, append_assoc, ℕ}
+use Rattle.std.proofs.Common.{zero, suc, ◌+◌, ◌≤◌, ◌<◌, arith, T, length, length-append}
+use Rattle.std.proofs.Math.Path.{subst⁻¹}
+use mathlib.Core.List.{map-append, Memᴰ}
 use mathlib.Core.List.Memᴰ
-use mathlib.Core.List.{List, [], ◌∷◌, ◌++◌, map, map-append, append-nil, append_assoc, Memᴰ}
-use Prim.Native.Nat.{ℕ, zero, suc, ◌+◌, ◌≤◌, ◌<◌}
-use native.Mathlib.Omega.{arith}
-use lib.Dec.{T}
-use lib.ListN.{length, length-append}
 use Rattle.base.specs.Lists.{any}
 use Rattle.base.specs.Search.{Edge, Item, seen_in, fresh, walk, search_from}
 use Rattle.base.proofs.BoolLaws.{by_test, of_T}

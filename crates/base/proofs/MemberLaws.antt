@@ -1,17 +1,14 @@
 -- The members of the lists that the shared functions make: of what is gathered, kept, mapped from numbers; what a test of all members
 -- says; the parts of a list; and that a list without doubles is no longer than a list that has all its members. Assumes nothing.
-use mathlib.Core.Path.{◌≡◌, refl, sym, ap, subst, subst⁻¹, ◌∙◌}
-use mathlib.Core.Logic.{◌⊎◌, inl, inr}
-use mathlib.Core.Bool.{Bool, cond}
+use Rattle.std.proofs.Common.{◌≡◌, refl, sym, ap, subst, ◌∙◌, ◌⊎◌, inl, inr, Bool, cond, List, [], ◌∷◌, ◌++◌, map, ℕ, zero, suc, ◌+◌, ◌*◌}
+use Rattle.std.proofs.Common.{◌^◌, ◌≤◌, ◌<◌, arith, suc-mul, zero-mul, T, eqb, eqb→eq, length, get_or, length-append}
+use Rattle.std.proofs.Math.Dec.{eqb_refl}
+use Rattle.std.proofs.Math.Decide.{ℕ_discrete}
+use Rattle.std.proofs.Math.ListN.{length-map}
+use Rattle.std.proofs.Math.Nat.{pow-succ'}
+use Rattle.std.proofs.Math.Path.{subst⁻¹}
+use mathlib.Core.List.{Memᴰ, Sublistᴰ}
 use mathlib.Core.List.Memᴰ
-use mathlib.Core.List.{List, [], ◌∷◌, ◌++◌, map, Memᴰ}
-use mathlib.Core.List.{Sublistᴰ}
-use Prim.Native.Nat.{ℕ, zero, suc, ◌+◌, ◌*◌, ◌^◌, ◌≤◌, ◌<◌}
-use native.Mathlib.Omega.{arith}
-use native.Mathlib.Decide.{ℕ_discrete}
-use native.Mathlib.Nat.{pow-succ', suc-mul, zero-mul}
-use lib.Dec.{T, eqb, eqb→eq, eqb_refl}
-use lib.ListN.{length, get_or, length-append, length-map}
 use Rattle.base.specs.Lists.{range, flat_map, any, all, filter, alike, member}
 use Rattle.base.proofs.BoolLaws.{by_test, and_left, and_right, and_both, or_cases, or_left, or_right}
 

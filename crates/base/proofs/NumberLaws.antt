@@ -1,10 +1,6 @@
 -- Laws of a function's values at the numbers from e on, which is how rows, columns and words are decoded: such a list splits and joins
 -- where its numbers do. Assumes nothing.
-use mathlib.Core.Path.{◌≡◌, refl, ap, ◌∙◌}
-use mathlib.Core.List.{List, ◌∷◌, ◌++◌, map}
-use Prim.Native.Nat.{ℕ, zero, suc, ◌+◌, ◌≤◌, ◌<◌}
-use native.Mathlib.Omega.{arith}
-use lib.ListN.{length, get_or}
+use Rattle.std.proofs.Common.{◌≡◌, refl, ap, ◌∙◌, List, ◌∷◌, ◌++◌, map, ℕ, zero, suc, ◌+◌, ◌≤◌, ◌<◌, arith, length, get_or}
 use Rattle.base.specs.Lists.{range}
 
 module _ {A : Type 0} where

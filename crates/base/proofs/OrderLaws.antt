@@ -1,12 +1,9 @@
 -- Comparing sequences of numbers one after another is an order: transitive, and no sequence comes before itself, so that two of which
 -- neither comes after the other are one. What stands behind a difference does not matter, nor what stands in front of both.
 -- Assumes nothing.
-use mathlib.Core.Path.{◌≡◌, refl, sym, subst, subst⁻¹, ◌∙◌}
-use mathlib.Core.Logic.{inl, inr}
-use mathlib.Core.List.{List, [], ◌∷◌, ◌++◌}
-use Prim.Native.Nat.{ℕ, ◌≤◌}
-use native.Mathlib.Omega.{arith}
-use native.Mathlib.Decide.{dec_le}
+use Rattle.std.proofs.Common.{◌≡◌, refl, sym, subst, ◌∙◌, inl, inr, List, [], ◌∷◌, ◌++◌, ℕ, ◌≤◌, arith}
+use Rattle.std.proofs.Math.Decide.{dec_le}
+use Rattle.std.proofs.Math.Path.{subst⁻¹}
 use Rattle.base.specs.Order.{Before, NoLater}
 
 pub before_trans : (xs ys zs : List ℕ) → Before xs ys → Before ys zs → Before xs zs

@@ -1,12 +1,8 @@
 -- Two lists related element by element. Where each element stays the same or becomes smaller, so does the whole list (`total_less`); and
 -- rounds that each change nothing or make something smaller come to rest (`comes_to-rest`). Assumes nothing.
-use mathlib.Core.Path.{◌≡◌, refl, sym, ap, ◌∙◌}
-use mathlib.Core.Logic.{◌⊎◌, inl, inr}
-use mathlib.Core.List.{List, [], ◌∷◌, ◌++◌, map, Memᴰ}
-use Prim.Native.Nat.{ℕ, zero, suc, ◌+◌, ◌*◌, ◌≤◌, ◌<◌}
-use native.Mathlib.Omega.{arith}
-use native.Mathlib.Nat.{suc-mul}
-use lib.ListN.{length}
+use Rattle.std.proofs.Common.{◌≡◌, refl, sym, ap, ◌∙◌, ◌⊎◌, inl, inr, List, [], ◌∷◌, ◌++◌, map, ℕ, zero, suc, ◌+◌, ◌*◌, ◌≤◌, ◌<◌, arith}
+use Rattle.std.proofs.Common.{suc-mul, length}
+use mathlib.Core.List.{Memᴰ}
 use Rattle.base.specs.Lists.{iterate}
 use Rattle.base.proofs.ListLaws.{iterate_stays}
 

@@ -1,15 +1,12 @@
 -- What the breadth-first search finds, without fuel: no vertex twice, and only what ways from the starts lead to. Both are invariants of a
 -- turn of the search, and `ends` is the one induction over its turns: the search ends in a state that has the invariant, and where it found
 -- no more than its fuel, with an empty queue. Assumes nothing.
-use mathlib.Core.Path.{◌≡◌, refl, sym, ap, subst, subst⁻¹, ◌∙◌}
-use mathlib.Core.Logic.{◌⊎◌, inl, inr}
-use mathlib.Core.Bool.{Bool, cond}
+use Rattle.std.proofs.Common.{◌≡◌, refl, sym, ap, subst, ◌∙◌, ◌⊎◌, inl, inr, Bool, cond, List, [], ◌∷◌, ◌++◌, map, append-nil}
+use Rattle.std.proofs.Common.{append_assoc, ℕ, zero, suc, ◌+◌, ◌≤◌, arith, T, length, length-append}
+use Rattle.std.proofs.Math.ListN.{length-map}
+use Rattle.std.proofs.Math.Path.{subst⁻¹}
+use mathlib.Core.List.{Memᴰ}
 use mathlib.Core.List.Memᴰ
-use mathlib.Core.List.{List, [], ◌∷◌, ◌++◌, map, append-nil, append_assoc, Memᴰ}
-use Prim.Native.Nat.{ℕ, zero, suc, ◌+◌, ◌≤◌}
-use native.Mathlib.Omega.{arith}
-use lib.Dec.{T}
-use lib.ListN.{length, length-append, length-map}
 use Rattle.base.specs.Lists.{tail}
 use Rattle.base.specs.Search.{Edge, Item, onward, seen_in, fresh, walk, search_from}
 use Rattle.base.proofs.BoolLaws.{by_test}

@@ -3,14 +3,10 @@
 -- stand in order, each is ahead of one edge more from any of the queue, and from each item gone on from, an edge leads to a vertex whose
 -- item is ahead of that way, or is that way. With an empty queue the last part says that no edge leads out of what is found, or to a better
 -- way. Assumes nothing.
-use mathlib.Core.Path.{◌≡◌, refl, sym, ap, subst, subst⁻¹, ◌∙◌}
-use mathlib.Core.Logic.{◌⊎◌, inl, inr}
-use mathlib.Core.Bool.{Bool, cond}
-use mathlib.Core.List.{List, [], ◌∷◌, ◌++◌, append-nil, Memᴰ}
-use Prim.Native.Nat.{ℕ, ◌≤◌}
-use native.Mathlib.Omega.{arith}
-use lib.Dec.{T}
-use lib.ListN.{length}
+use Rattle.std.proofs.Common.{◌≡◌, refl, sym, ap, subst, ◌∙◌, ◌⊎◌, inl, inr, Bool, cond, List, [], ◌∷◌, ◌++◌, append-nil, ℕ, ◌≤◌, arith}
+use Rattle.std.proofs.Common.{T, length}
+use Rattle.std.proofs.Math.Path.{subst⁻¹}
+use mathlib.Core.List.{Memᴰ}
 use Rattle.base.specs.Search.{Edge, Item, onward, seen_in, fresh, search_from}
 use Rattle.base.proofs.BoolLaws.{by_test}
 use Rattle.base.proofs.SearchLaws.{Visits, visits_cons, onwards, new_items, regroup, ends, Ended, walk-keeps, fresh-given}

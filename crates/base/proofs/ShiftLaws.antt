@@ -1,13 +1,10 @@
 -- Bits of a number below a power of two: a shift moves them down, there are none from the exponent on, a remainder keeps those below it,
 -- and these tell the number. Assumes nothing.
-use mathlib.Core.Path.{◌≡◌, sym, ap, subst, ◌∙◌}
-use mathlib.Core.Bool.{false}
-use Prim.Native.Nat.{ℕ, ◌+◌, ◌-◌, ◌/◌, ◌%◌, ◌^◌, ◌≤◌, ◌<◌}
-use native.Mathlib.Omega.{arith}
-use native.Mathlib.Nat.{div-eq_of_lt, mod-lt}
-use native.Mathlib.Decide.{dec_lt}
-use lib.Dec.{T, eqb}
-use lib.Pow.{pow_pos, pow_mono, shr-shr, field, mod-mod-pow}
+use Rattle.std.proofs.Common.{◌≡◌, sym, ap, subst, ◌∙◌, false, ℕ, ◌+◌, ◌-◌, ◌/◌, ◌%◌, ◌^◌, ◌≤◌, ◌<◌, T, eqb, arith, pow_pos, shr-shr}
+use Rattle.std.proofs.Common.{mod-lt}
+use Rattle.std.proofs.Math.Pow.{field, mod-mod-pow}
+use Rattle.std.proofs.Math.Decide.{dec_lt}
+use Rattle.std.proofs.lemmas.Nat.Bits.{bit_at_above}
 use Rattle.base.specs.Bits.{bit}
 use Rattle.base.proofs.WordLaws.{same_bits}
 
@@ -15,9 +12,7 @@ pub bit_shift : (w s k : ℕ) → bit (w / 2 ^ s) k ≡ bit w (s + k)
 bit_shift w s k = ap (λ (x : ℕ). eqb (x % 2) 1) (shr-shr w s k)
 
 pub bit_high : (n w k : ℕ) → w < 2 ^ n → n ≤ k → bit w k ≡ false
-bit_high n w k h l =
-    let small : w < 2 ^ k = omega (arith, pow_mono {i = n} {j = k} l) in
-    ap (λ (x : ℕ). eqb (x % 2) 1) (div-eq_of_lt small)
+bit_high n w k h l = ap (λ (x : ℕ). eqb x 1) (bit_at_above w n k h l)
 
 -- the bits of a remainder are those of the number below the exponent
 pub low_below : (n w k : ℕ) → T (bit (w % 2 ^ n) k) → k < n

@@ -1,10 +1,8 @@
 -- Lists in which each element stands before those that it is to stand before, for any relation. Assumes nothing.
-use mathlib.Core.Path.{◌≡◌, refl, sym, subst, subst⁻¹, ◌∙◌}
-use mathlib.Core.Logic.{◌⊎◌, inl, inr}
+use Rattle.std.proofs.Common.{◌≡◌, refl, sym, subst, ◌∙◌, ◌⊎◌, inl, inr, List, [], ◌∷◌, ◌++◌, map, ℕ, zero, suc, ◌<◌, arith}
+use Rattle.std.proofs.Math.Path.{subst⁻¹}
+use mathlib.Core.List.{Memᴰ}
 use mathlib.Core.List.Memᴰ
-use mathlib.Core.List.{List, [], ◌∷◌, ◌++◌, map, Memᴰ}
-use Prim.Native.Nat.{ℕ, zero, suc, ◌<◌}
-use native.Mathlib.Omega.{arith}
 use Rattle.base.specs.Lists.{flat_map, range}
 use Rattle.base.proofs.MemberLaws.{flat_map_of}
 

@@ -5,14 +5,10 @@
 -- (`turns_next`); where no item is left, the list is what the search finds (`turns-done`), and before that it is how that begins
 -- (`turns_begin`), so a loop may stop where there is no more room. The labels along the parents are those up to the parent, and the item's
 -- own (`labels_next`). Assumes nothing.
-use mathlib.Core.Path.{◌≡◌, refl, sym, ap, ◌∙◌}
-use mathlib.Core.Logic.{◌⊎◌, inl, inr}
-use mathlib.Core.Bool.{Bool, true, false, cond}
-use mathlib.Core.List.{List, [], ◌∷◌, ◌++◌, append-nil, append_assoc, Memᴰ}
-use Prim.Native.Nat.{ℕ, zero, suc, ◌+◌, ◌-◌, ◌≤◌, ◌<◌}
-use native.Mathlib.Nat.{zero-add}
-use native.Mathlib.Omega.{arith}
-use lib.ListN.{length, drop, length-append, length-drop, drop_of_length-le}
+use Rattle.std.proofs.Common.{◌≡◌, refl, sym, ap, ◌∙◌, ◌⊎◌, inl, inr, Bool, true, false, cond, List, [], ◌∷◌, ◌++◌, append-nil}
+use Rattle.std.proofs.Common.{append_assoc, ℕ, zero, suc, ◌+◌, ◌-◌, ◌≤◌, ◌<◌, zero-add, arith, length, drop, length-append, length-drop}
+use Rattle.std.proofs.Common.{drop_of_length-le}
+use mathlib.Core.List.{Memᴰ}
 use Rattle.base.specs.Spread.{Numbered, seen, add, adds, spread, spread_on, labels_up, labels_to, Linked}
 use Rattle.base.proofs.At.{At, at_split, at_drop}
 
@@ -72,9 +68,6 @@ module _ {L K : Type 0} (same : K → K → Bool) where
             let (a, q) = adds-begins xs (onward p x) in
             let (b, e) = f (adds same xs (onward p x)) in
             (a ++ b, e ∙ ap (λ (l : List (Numbered L K)). l ++ b) q ∙ append_assoc xs a b)
-
-    pub spread-length : (fuel p : ℕ) (xs : List (Numbered L K)) → length xs ≤ length (spread same onward fuel p xs)
-    spread-length fuel p xs = let (more, e) = spread-begins fuel p xs in begins-length xs more e
 
     pub spread-done : (fuel p : ℕ) (xs : List (Numbered L K)) → length xs ≤ p → spread same onward fuel p xs ≡ xs
     spread-done zero p xs h = refl

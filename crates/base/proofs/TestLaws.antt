@@ -1,8 +1,6 @@
 -- The value of a test from what it says: a test that fails is false, and two tests that hold together are equal. Assumes nothing.
-use mathlib.Core.Path.{◌≡◌, refl, subst}
-use mathlib.Core.Bool.{Bool, true, false}
-use Prim.Native.Nat.{ℕ}
-use lib.Dec.{T, eqb, eqb→eq, eqb_refl}
+use Rattle.std.proofs.Common.{◌≡◌, refl, subst, Bool, true, false, ℕ, T, eqb, eqb→eq}
+use Rattle.std.proofs.Math.Dec.{eqb_refl}
 use Rattle.base.proofs.BoolLaws.{by_test}
 
 pub not_of_T : (b : Bool) → (T b → ⊥) → b ≡ false

@@ -2,14 +2,9 @@
 -- number to those of a way; in front of them may stand what belongs to the start. Where the starts have ways of one length and stand in
 -- this order, and so do the edges of each vertex, what is found stands in it, and each vertex is found by the first of all ways to it:
 -- `SearchOrder` for this order. Assumes nothing.
-use mathlib.Core.Path.{◌≡◌, sym, subst⁻¹, ◌∙◌}
-use mathlib.Core.Logic.{inl, inr}
-use mathlib.Core.Bool.{Bool}
-use mathlib.Core.List.{List, [], ◌∷◌, ◌++◌, Memᴰ}
-use Prim.Native.Nat.{ℕ, ◌+◌, ◌≤◌, ◌<◌}
-use native.Mathlib.Omega.{arith}
-use lib.Dec.{T}
-use lib.ListN.{length, length-append}
+use Rattle.std.proofs.Common.{◌≡◌, sym, ◌∙◌, inl, inr, Bool, List, [], ◌∷◌, ◌++◌, ℕ, ◌+◌, ◌≤◌, ◌<◌, arith, T, length, length-append}
+use Rattle.std.proofs.Math.Path.{subst⁻¹}
+use mathlib.Core.List.{Memᴰ}
 use Rattle.base.specs.Order.{Before}
 use Rattle.base.specs.Search.{Edge, Item, onward, search_from}
 use Rattle.base.proofs.OrderLaws.{before_trans, before_front, before-behind}

@@ -2,15 +2,11 @@
 -- l is at most m, and no more than all; no vertex is among them twice if none is among all. Each way is as long as a start's, or longer by
 -- one than that of an item found before it; so the items with ways no longer than a given one are at least as many as its labels, up to the
 -- length of a start (`search_short_within`). Assumes nothing.
-use mathlib.Core.Path.{◌≡◌, refl, sym, ap, subst, subst⁻¹, ◌∙◌}
-use mathlib.Core.Logic.{◌⊎◌, inl, inr}
-use mathlib.Core.Bool.{Bool, cond}
+use Rattle.std.proofs.Common.{◌≡◌, refl, sym, ap, subst, ◌∙◌, ◌⊎◌, inl, inr, Bool, cond, List, [], ◌∷◌, ◌++◌, append-nil, append_assoc, ℕ}
+use Rattle.std.proofs.Common.{suc, ◌+◌, ◌≤◌, ◌<◌, arith, leb, leb→le, le→leb, length, length-append}
+use Rattle.std.proofs.Math.Path.{subst⁻¹}
+use mathlib.Core.List.{Memᴰ}
 use mathlib.Core.List.Memᴰ
-use mathlib.Core.List.{List, [], ◌∷◌, ◌++◌, append-nil, append_assoc, Memᴰ}
-use Prim.Native.Nat.{ℕ, suc, ◌+◌, ◌≤◌, ◌<◌}
-use native.Mathlib.Omega.{arith}
-use lib.Dec.{leb, leb→le, le→leb}
-use lib.ListN.{length, length-append}
 use Rattle.base.specs.Search.{Edge, Item, fresh, search_from, within}
 use Rattle.base.proofs.BoolLaws.{by_test}
 use Rattle.base.proofs.MemberLaws.{filter_of, filter_in, filter-few, filter-fewer}

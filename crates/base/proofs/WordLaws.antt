@@ -1,21 +1,16 @@
 -- The word of a list of bits: its bits are the list's elements, so equal words of one length are equal lists, and to put an element
 -- into the set is to put the bit into the word. By recursion on the list: the head is the word's last digit, the tail its half. Where the
 -- list has a function's values at the numbers below n, bit k is its value at k. Assumes nothing.
-use Prim.Native.Nat.{ℕ, zero, suc, ◌+◌, ◌/◌, ◌%◌, ◌^◌, ◌≤◌, ◌<◌}
-use mathlib.Core.Path.{◌≡◌, refl, sym, ap, subst, ◌∙◌}
-use mathlib.Core.Bool.{Bool, true, false, cond}
-use mathlib.Core.List.{List, [], ◌∷◌, map}
-use native.Mathlib.Omega.{arith}
-use native.Mathlib.Nat.{zero-add, div-eq_of_lt, pow-succ'}
-use lib.Dec.{eqb}
-use lib.Pow.{pow_pos, shr-shr}
-use lib.Bits.{bit_or}
-use lib.ListN.{length, get_or, set, get_or-eq_default}
-use lib.Seq.{get_or-set_same, get_or-set_other}
-use borrow.Author.Tests.{eqb-true, eqb-false}
+use Rattle.std.proofs.Common.{◌≡◌, refl, sym, ap, subst, ◌∙◌, Bool, true, false, cond, List, [], ◌∷◌, map, ℕ, zero, suc, ◌+◌, ◌/◌, ◌%◌}
+use Rattle.std.proofs.Common.{◌^◌, ◌≤◌, ◌<◌, eqb, bit_or, length, get_or, set, arith, zero-add, shr-shr}
+use Rattle.std.proofs.Math.ListN.{get_or-eq_default}
+use Rattle.std.proofs.Math.Nat.{pow-succ'}
+use Rattle.std.proofs.lemmas.Nat.Bits.{bit_at-lt, bit_at-zero, same_from_bits}
+use Rattle.std.specs.Int.{bit_at}
 use Rattle.base.specs.Lists.{range}
 use Rattle.base.specs.Bits.{bit, word}
 use Rattle.base.proofs.BitLaws.{set_on}
+use Rattle.base.proofs.FillLaws.{set_at}
 use Rattle.base.proofs.NumberLaws.{values_length, values_at}
 
 -- bit 0 is the last digit, and the others are the bits of the half
@@ -26,7 +21,7 @@ pub bit_suc : (w k : ℕ) → bit w (suc k) ≡ bit (w / 2) k
 bit_suc w k = ap (λ (x : ℕ). eqb (x % 2) 1) (ap (λ (n : ℕ). w / 2 ^ n) {x = suc k} {y = 1 + k} (omega arith) ∙ sym (shr-shr w 1 k))
 
 pub no-bit : (k : ℕ) → bit 0 k ≡ false
-no-bit k = ap (λ (x : ℕ). eqb (x % 2) 1) (div-eq_of_lt (pow_pos k))
+no-bit k = ap (λ (x : ℕ). eqb x 1) (bit_at-zero k)
 
 word_half : (b : Bool) (v : List Bool) → word (b ∷ v) / 2 ≡ word v
 word_half true v = omega arith
@@ -82,31 +77,16 @@ same_digit (suc zero) (suc zero) h k e = refl
 same_digit (suc zero) (suc (suc b)) h k e = absurd (omega arith)
 same_digit (suc (suc a)) b h k e = absurd (omega arith)
 
-same-below : (n a b : ℕ) → a ≤ n → b ≤ n → ((k : ℕ) → bit a k ≡ bit b k) → a ≡ b
-same-below zero a b h g e = omega arith
-same-below (suc n) a b h g e =
-    let d : a % 2 ≡ b % 2 = same_digit (a % 2) (b % 2) (omega arith) (omega arith) (sym (bit_zero a) ∙ e 0 ∙ bit_zero b) in
-    let q : a / 2 ≡ b / 2 = same-below n (a / 2) (b / 2) (omega arith) (omega arith) (λ k. sym (bit_suc a k) ∙ e (suc k) ∙ bit_suc b k) in
-    omega arith
-
 -- two numbers with the same bits are equal
 pub same_bits : (a b : ℕ) → ((k : ℕ) → bit a k ≡ bit b k) → a ≡ b
-same_bits a b e = same-below (a + b) a b (omega arith) (omega arith) e
-
--- an element set in a list
-pub get_d_set : (v : List Bool) (m : ℕ) (b : Bool) → m < length v → (k : ℕ) → get_or (set v m b) k false ≡ cond (eqb k m) b
-    (get_or v k false)
-get_d_set v m b h k = by (eqb k m) refl
-  where
-    by : (t : Bool) → eqb k m ≡ t → get_or (set v m b) k false ≡ cond t b (get_or v k false)
-    by true q = ap (λ (i : ℕ). get_or (set v m b) i false) (eqb-true k m q) ∙ get_or-set_same v m b false h
-    by false q = get_or-set_other v m k b false (eqb-false k m q)
+same_bits a b e =
+    same_from_bits a b (λ k. same_digit (bit_at a k) (bit_at b k) (bit_at-lt a k) (bit_at-lt b k) (e k))
 
 -- an element put into the set is a bit put into the word
 pub word_set : (v : List Bool) (m : ℕ) → m < length v → word (set v m true) ≡ bit_or (word v) (2 ^ m)
 word_set v m h =
     same_bits (word (set v m true)) (bit_or (word v) (2 ^ m))
-    (λ k. word-bit (set v m true) k ∙ get_d_set v m true h k
+    (λ k. word-bit (set v m true) k ∙ set_at false v m true h k
     ∙ sym (set_on (word v) m k ∙ ap (λ (b : Bool). cond (eqb k m) true b) (word-bit v k)))
 
 -- the empty set

@@ -5,27 +5,7 @@ ghost use Rattle.std.specs.Prelude.{◌≡◌, cond, ℕ, ◌+◌, ◌%◌, ◌�
 ghost use Rattle.base.specs.Bits.{bit, Lowest, Without};
 ghost use Rattle.base.specs.Bytes.{number_at, with_number};
 
-// A byte as a number that can be an index.
-pub fn wide(x: u8) -> usize
-    ensures { result ≡ x }
-{
-    x as usize
-}
-
-// A word of 16 bits as a number that can be an index.
-pub fn wide16(x: u16) -> usize
-    ensures { (result ≡ x) × (result < 65536) }
-{
-    x as usize
-}
-
-// What a count of those that pass a test grows by.
-pub fn one_if(on: bool) -> usize
-    ensures { (result ≡ cond on 1 0) × (result ≤ 1) }
-{
-    if on { 1 } else { 0 }
-}
-
+// Whether a word has bit e.
 pub fn has(word: u64, e: usize) -> bool
     requires { e < 64 }
     ensures { result ≡ bit word e }
@@ -33,6 +13,7 @@ pub fn has(word: u64, e: usize) -> bool
     (word >> e) % 2 == 1
 }
 
+// The word with bit e alone.
 pub fn power(e: usize) -> u64
     requires { e < 64 }
     ensures { result ≡ 2 ^ e }
@@ -67,7 +48,7 @@ pub fn lowest(word: u64) -> usize
     requires { 0 < word }
     ensures { Lowest word result }
 {
-    u64::trailing_zeros(word) as usize
+    word.trailing_zeros() as usize
 }
 
 // The word without its lowest bit, e.
@@ -78,23 +59,15 @@ pub fn without(word: u64, e: usize) -> u64
     word ^ power(e)
 }
 
-fn wide64(x: u8) -> u64
-    ensures { (result ≡ x) × (result < 256) }
-{
-    x as u64
-}
-
 // The number in `width` bytes from an index on, the lowest byte first.
 pub fn number_at(area: &[u8], at: usize, width: usize) -> u64
     requires width_bound { width ≤ 8 }
     requires width_in_bounds { at + width ≤ length area.now }
     ensures { (result ≡ number_at width area.now at) × (result < 256 ^ width) }
 {
-    let mut x = 0u64;
-    let mut i = width;
-    while 0 < i {
-        i -= 1;
-        x = x * 256 + wide64(area[at + i]);
+    let mut x = 0;
+    for i in (0..width).rev() {
+        x = x * 256 + u64::from(area[at + i]);
     }
     x
 }
@@ -105,10 +78,8 @@ pub fn put_number(area: &mut [u8], at: usize, width: usize, x: u64)
     ensures { area.new ≡ with_number width area.old at x }
 {
     let mut left = x;
-    let mut i = 0;
-    while i < width {
+    for i in 0..width {
         area[at + i] = (left % 256) as u8;
-        left = left / 256;
-        i += 1;
+        left /= 256;
     }
 }

@@ -4,11 +4,11 @@ use mathlib.Core.Path.{◌≡◌, refl}
 use mathlib.Core.List.{List, [], ◌∷◌, map}
 use Prim.Native.Nat.{ℕ}
 use Rattle.catalogue.specs.Records.{records_from}
-use Rattle.catalogue.specs.Location.{location}
+use Rattle.catalogue.specs.Location.{Location, found, location}
 use Rattle.catalogue.specs.Contract.{View, handed}
 use Rattle.catalogue.specs.declared.Layer.TheVariants.{Overlay, Base}
-use Rattle.catalogue.specs.declared.Location.{Location}
-use Rattle.catalogue.specs.declared.Location.TheVariants.{Found, Damaged, Missing}
+use Rattle.catalogue.specs.declared.Refusal.TheVariants.{Damaged, Missing}
+use Rattle.std.specs.Prelude.{Err}
 
 pub record Example : Type 0 where
   pub overlay : List ℕ
@@ -28,25 +28,25 @@ dealer = 0x20 ∷ 2 ∷ 0 ∷ 1 ∷ 0x01 ∷ []
 
 abbrev pub examples : List Example
 examples =
-    is dealer factory 1 (Found Base 4 1)
-    ∷ is dealer factory 2 (Found Overlay 4 1)
-    ∷ is dealer factory 3 Missing
-    ∷ is [] factory 2 (Found Base 9 3)
-    ∷ is factory dealer 2 (Found Overlay 9 3)
-    ∷ is [] [] 0 Missing
-    ∷ is (0x20 ∷ 2 ∷ 0 ∷ 0 ∷ []) factory 2 (Found Overlay 4 0)
-    ∷ is (0x20 ∷ 0 ∷ 0 ∷ 0 ∷ []) factory 0 (Found Overlay 4 0)
-    ∷ is [] (0x20 ∷ 255 ∷ 255 ∷ 1 ∷ 0x01 ∷ []) 65535 (Found Base 4 1)
-    ∷ is (0x21 ∷ []) factory 2 (Damaged Overlay 0)
-    ∷ is (0x20 ∷ 2 ∷ 0 ∷ 1 ∷ 0x01 ∷ 0x00 ∷ []) factory 2 (Damaged Overlay 5)
-    ∷ is (0x20 ∷ 2 ∷ 0 ∷ 1 ∷ []) factory 1 (Damaged Overlay 4)
-    ∷ is (0x20 ∷ []) factory 1 (Damaged Overlay 1)
-    ∷ is (0x20 ∷ 2 ∷ 0 ∷ 0 ∷ 0x20 ∷ 2 ∷ 0 ∷ 0 ∷ []) factory 2 (Damaged Overlay 5)
-    ∷ is (0x20 ∷ 2 ∷ 0 ∷ 0 ∷ 0x20 ∷ 1 ∷ 0 ∷ []) factory 2 (Damaged Overlay 5)
-    ∷ is (0x20 ∷ 2 ∷ 0 ∷ 0 ∷ 0x20 ∷ 1 ∷ []) factory 2 (Damaged Overlay 6)
-    ∷ is (0x20 ∷ 255 ∷ 0 ∷ 0 ∷ 0x20 ∷ 0 ∷ 1 ∷ 0 ∷ []) factory 256 (Found Overlay 8 0)
-    ∷ is dealer (0x20 ∷ 1 ∷ []) 2 (Damaged Base 2)
-    ∷ is (0x21 ∷ []) (0x21 ∷ []) 2 (Damaged Overlay 0)
+    is dealer factory 1 (found Base 4 1)
+    ∷ is dealer factory 2 (found Overlay 4 1)
+    ∷ is dealer factory 3 (Err Missing)
+    ∷ is [] factory 2 (found Base 9 3)
+    ∷ is factory dealer 2 (found Overlay 9 3)
+    ∷ is [] [] 0 (Err Missing)
+    ∷ is (0x20 ∷ 2 ∷ 0 ∷ 0 ∷ []) factory 2 (found Overlay 4 0)
+    ∷ is (0x20 ∷ 0 ∷ 0 ∷ 0 ∷ []) factory 0 (found Overlay 4 0)
+    ∷ is [] (0x20 ∷ 255 ∷ 255 ∷ 1 ∷ 0x01 ∷ []) 65535 (found Base 4 1)
+    ∷ is (0x21 ∷ []) factory 2 (Err (Damaged Overlay 0))
+    ∷ is (0x20 ∷ 2 ∷ 0 ∷ 1 ∷ 0x01 ∷ 0x00 ∷ []) factory 2 (Err (Damaged Overlay 5))
+    ∷ is (0x20 ∷ 2 ∷ 0 ∷ 1 ∷ []) factory 1 (Err (Damaged Overlay 4))
+    ∷ is (0x20 ∷ []) factory 1 (Err (Damaged Overlay 1))
+    ∷ is (0x20 ∷ 2 ∷ 0 ∷ 0 ∷ 0x20 ∷ 2 ∷ 0 ∷ 0 ∷ []) factory 2 (Err (Damaged Overlay 5))
+    ∷ is (0x20 ∷ 2 ∷ 0 ∷ 0 ∷ 0x20 ∷ 1 ∷ 0 ∷ []) factory 2 (Err (Damaged Overlay 5))
+    ∷ is (0x20 ∷ 2 ∷ 0 ∷ 0 ∷ 0x20 ∷ 1 ∷ []) factory 2 (Err (Damaged Overlay 6))
+    ∷ is (0x20 ∷ 255 ∷ 0 ∷ 0 ∷ 0x20 ∷ 0 ∷ 1 ∷ 0 ∷ []) factory 256 (found Overlay 8 0)
+    ∷ is dealer (0x20 ∷ 1 ∷ []) 2 (Err (Damaged Base 2))
+    ∷ is (0x21 ∷ []) (0x21 ∷ []) 2 (Err (Damaged Overlay 0))
     ∷ []
 
 pub examples_located :

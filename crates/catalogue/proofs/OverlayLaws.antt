@@ -2,13 +2,12 @@
 -- (`location_exactly`). Assumes nothing.
 use mathlib.Core.Path.{◌≡◌, refl, sym, ap, subst, ◌∙◌}
 use mathlib.Core.List.{List, Memᴰ}
-use mathlib.Core.Option.{none, some}
+use Rattle.std.specs.Prelude.{Some, None}
 use Prim.Native.Nat.{ℕ}
 use Rattle.catalogue.specs.Catalogue.{placed}
 use Rattle.catalogue.specs.Records.{Records, records}
-use Rattle.catalogue.specs.Location.{numbered, chosen, location}
+use Rattle.catalogue.specs.Location.{Location, numbered, chosen, location}
 use Rattle.catalogue.specs.declared.Record.{Record}
-use Rattle.catalogue.specs.declared.Location.{Location}
 use Rattle.catalogue.specs.Overlay.{IsCatalogue, Entered, Lacking, Means}
 use Rattle.catalogue.proofs.FaultLaws.{least_fault, damaged_exactly}
 use Rattle.catalogue.proofs.CatalogueLaws.{catalogue-records, records-catalogue, entry_of, placed_in}
@@ -57,10 +56,10 @@ location_means overlay base n = located_means (location_cases overlay base n)
 -- ---- and back
 module _ {bytes : List ℕ} {n : ℕ} where
   entered-numbered : {start size : ℕ} (i : Entered bytes n start size)
-      → numbered n (placed 0 i.entries) ≡ some (record { number = n; start = start; size = size })
+      → numbered n (placed 0 i.entries) ≡ Some (record { number = n; start = start; size = size })
   entered-numbered i = listed-numbered bytes (catalogue-records i.catalogue) n (record { present = i.stands; has = refl })
 
-  lacking_numbered : (i : Lacking bytes n) → numbered n (placed 0 i.entries) ≡ none
+  lacking_numbered : (i : Lacking bytes n) → numbered n (placed 0 i.entries) ≡ None
   lacking_numbered i =
       unlisted_numbered bytes (catalogue-records i.catalogue) n
       (λ r m h. let o = entry_of i.catalogue r m in i.lacks o.entry o.present (sym o.numbers ∙ h))
@@ -74,7 +73,7 @@ location_exactly {overlay} {base} {n} (Means.found_over i c) =
     ∙ ap (λ o. chosen o (numbered n (placed 0 c.entries))) (entered-numbered i)
 location_exactly {overlay} {base} {n} (Means.found_under k i) =
     location_by overlay base n (catalogue-records k.catalogue) (catalogue-records i.catalogue)
-    ∙ ap (λ o. chosen o (numbered n (placed 0 i.entries))) (lacking_numbered k) ∙ ap (chosen none) (entered-numbered i)
+    ∙ ap (λ o. chosen o (numbered n (placed 0 i.entries))) (lacking_numbered k) ∙ ap (chosen None) (entered-numbered i)
 location_exactly {overlay} {base} {n} (Means.missing k i) =
     location_by overlay base n (catalogue-records k.catalogue) (catalogue-records i.catalogue)
-    ∙ ap (λ o. chosen o (numbered n (placed 0 i.entries))) (lacking_numbered k) ∙ ap (chosen none) (lacking_numbered i)
+    ∙ ap (λ o. chosen o (numbered n (placed 0 i.entries))) (lacking_numbered k) ∙ ap (chosen None) (lacking_numbered i)

@@ -13,11 +13,10 @@ use Rattle.base.specs.Ask.{ask}
 use Rattle.base.proofs.BoolLaws.{by_test, or_cases, or_left, or_right}
 use Rattle.base.proofs.TestLaws.{not_of_T}
 use Rattle.catalogue.specs.Catalogue.{mark}
-use Rattle.catalogue.specs.Records.{byte, number_of, size_of, end_of, record_of, may_be, record_at}
+use Rattle.catalogue.specs.Records.{Due, byte, number_of, size_of, end_of, record_of, may_be, record_at}
 use Rattle.catalogue.specs.Faults.{WholeAt, FaultAt}
 use Rattle.catalogue.specs.declared.Record.{Record}
-use Rattle.catalogue.specs.declared.Due.{Due}
-use Rattle.catalogue.specs.declared.Due.TheVariants.{End, Fault, Whole}
+use Rattle.std.specs.Prelude.{Some, None, Ok, Err}
 
 -- a test of two numbers that fails
 not_leb : (a b : ℕ) → (T (leb a b) → ⊥) → b < a
@@ -43,13 +42,13 @@ may_not_be bytes at least n = (
 
 -- ---- which outcome the answers lead to
 module _ (bytes : List ℕ) (at least : ℕ) where
-  pub at_end : length bytes ≤ at → record_at bytes at least ≡ End
+  pub at_end : length bytes ≤ at → record_at bytes at least ≡ Ok None
   at_end h = simp (le-leb (length bytes) at h)
 
-  pub at-unmarked : at < length bytes → (byte bytes at ≡ mark → ⊥) → record_at bytes at least ≡ Fault at
+  pub at-unmarked : at < length bytes → (byte bytes at ≡ mark → ⊥) → record_at bytes at least ≡ Err at
   at-unmarked h n = simp (lt-leb (length bytes) at h, ne_eqb (byte bytes at) mark n)
 
-  pub at-unrisen : byte bytes at ≡ mark → at + 2 < length bytes → number_of bytes at < least → record_at bytes at least ≡ Fault (at + 1)
+  pub at-unrisen : byte bytes at ≡ mark → at + 2 < length bytes → number_of bytes at < least → record_at bytes at least ≡ Err (at + 1)
   at-unrisen m h l = simp (
     lt-leb (length bytes) at (omega arith),
     eq-eqb (byte bytes at) mark m,
@@ -58,7 +57,7 @@ module _ (bytes : List ℕ) (at least : ℕ) where
   )
 
   pub at-cut_short : at < length bytes → byte bytes at ≡ mark → (at + 2 < length bytes → least ≤ number_of bytes at)
-      → length bytes < end_of bytes at → record_at bytes at least ≡ Fault (length bytes)
+      → length bytes < end_of bytes at → record_at bytes at least ≡ Err (length bytes)
   at-cut_short h m r c = simp (
     lt-leb (length bytes) at h,
     eq-eqb (byte bytes at) mark m,
@@ -66,7 +65,7 @@ module _ (bytes : List ℕ) (at least : ℕ) where
     lt-leb (end_of bytes at) (length bytes) c,
   )
 
-  pub at-whole : WholeAt bytes at → least ≤ number_of bytes at → record_at bytes at least ≡ Whole (record_of bytes at)
+  pub at-whole : WholeAt bytes at → least ≤ number_of bytes at → record_at bytes at least ≡ Ok (Some (record_of bytes at))
   at-whole w l = simp (
     lt-leb (length bytes) at (whole_before w),
     eq-eqb (byte bytes at) mark w.marked,
@@ -79,18 +78,18 @@ module _ (bytes : List ℕ) (at least : ℕ) where
 
   -- the same of a number and a size that were read
   pub as_whole : {n z : ℕ} → n ≡ number_of bytes at → z ≡ size_of bytes at → byte bytes at ≡ mark → least ≤ n → at + 4 + z ≤ length bytes
-      → Whole (record { number = n; start = at + 4; size = z }) ≡ record_at bytes at least
+      → Ok (Some (record { number = n; start = at + 4; size = z })) ≡ record_at bytes at least
   as_whole {n} {z} p q m l e =
-      ap (λ (k : ℕ). Whole (record { number = k; start = at + 4; size = z })) p
-      ∙ ap (λ (k : ℕ). Whole (record { number = number_of bytes at; start = at + 4; size = k })) q
+      ap (λ (k : ℕ). Ok (Some (record { number = k; start = at + 4; size = z }))) p
+      ∙ ap (λ (k : ℕ). Ok (Some (record { number = number_of bytes at; start = at + 4; size = k }))) q
       ∙ sym (at-whole (record { marked = m; ended = omega arith }) (omega arith))
 
 -- ---- what each outcome says
 -- What stands at a place: nothing, behind the last byte; a fault, of which none there has a smaller place; or a whole record.
 pub data Stands (bytes : List ℕ) (at least : ℕ) : Due → Type 0 where
-  ended : length bytes ≤ at → Stands bytes at least End
-  faulty : {p : ℕ} → FaultAt bytes at least p → ((q : ℕ) → FaultAt bytes at least q → p ≤ q) → Stands bytes at least (Fault p)
-  whole : WholeAt bytes at → least ≤ number_of bytes at → Stands bytes at least (Whole (record_of bytes at))
+  ended : length bytes ≤ at → Stands bytes at least (Ok None)
+  faulty : {p : ℕ} → FaultAt bytes at least p → ((q : ℕ) → FaultAt bytes at least q → p ≤ q) → Stands bytes at least (Err p)
+  whole : WholeAt bytes at → least ≤ number_of bytes at → Stands bytes at least (Ok (Some (record_of bytes at)))
 
 module _ (bytes : List ℕ) (at least : ℕ) where
   -- a whole record with a number that may be has no fault
@@ -119,32 +118,32 @@ module _ (bytes : List ℕ) (at least : ℕ) where
   cut_least m r _ (FaultAt.cut_short k g c) = omega arith
 
   abbrev sized : Due
-  sized = ask (leb (end_of bytes at) (length bytes)) (Fault (length bytes)) (Whole (record_of bytes at))
+  sized = ask (leb (end_of bytes at) (length bytes)) (Err (length bytes)) (Ok (Some (record_of bytes at)))
 
   sized-stands : at < length bytes → byte bytes at ≡ mark → (at + 2 < length bytes → least ≤ number_of bytes at)
       → Stands bytes at least sized
   sized-stands h m r =
       by_test (leb (end_of bytes at) (length bytes))
-      (λ b. Stands bytes at least (ask b (Fault (length bytes)) (Whole (record_of bytes at))))
+      (λ b. Stands bytes at least (ask b (Err (length bytes)) (Ok (Some (record_of bytes at)))))
       (λ t. let e = leb→le (end_of bytes at) (length bytes) t in
       Stands.whole (record { marked = m; ended = e }) (r (omega arith)))
       (λ n. Stands.faulty (FaultAt.cut_short h m (not_leb (end_of bytes at) (length bytes) n)) (cut_least m r))
 
   abbrev asked : Due
-  asked = ask (may_be bytes at least) (Fault (at + 1)) sized
+  asked = ask (may_be bytes at least) (Err (at + 1)) sized
 
   asked-stands : at < length bytes → byte bytes at ≡ mark → Stands bytes at least asked
   asked-stands h m =
-      by_test (may_be bytes at least) (λ b. Stands bytes at least (ask b (Fault (at + 1)) sized))
+      by_test (may_be bytes at least) (λ b. Stands bytes at least (ask b (Err (at + 1)) sized))
       (λ t. sized-stands h m (may_be_means bytes at least t))
       (λ n. let (r, u) = may_not_be bytes at least n in Stands.faulty (FaultAt.unrisen m r u) (unrisen-least m r))
 
   abbrev marked : Due
-  marked = ask (eqb (byte bytes at) mark) (Fault at) asked
+  marked = ask (eqb (byte bytes at) mark) (Err at) asked
 
   marked-stands : at < length bytes → Stands bytes at least marked
   marked-stands h =
-      by_test (eqb (byte bytes at) mark) (λ b. Stands bytes at least (ask b (Fault at) asked))
+      by_test (eqb (byte bytes at) mark) (λ b. Stands bytes at least (ask b (Err at) asked))
       (λ t. asked-stands h (eqb→eq (byte bytes at) mark t))
       (λ n. let k = unequal n in Stands.faulty (FaultAt.unmarked h k) (unmarked-least k))
     where
@@ -153,21 +152,21 @@ module _ (bytes : List ℕ) (at least : ℕ) where
 
   pub record_stands : Stands bytes at least (record_at bytes at least)
   record_stands =
-      by_test (leb (length bytes) at) (λ b. Stands bytes at least (cond b End marked))
+      by_test (leb (length bytes) at) (λ b. Stands bytes at least (cond b (Ok None) marked))
       (λ t. Stands.ended (leb→le (length bytes) at t))
       (λ n. marked-stands (not_leb (length bytes) at n))
 
 -- A record lies behind the place where it is due, and within the bytes.
 abbrev pub Ahead : List ℕ → (at : ℕ) → Due → Type 0
-Ahead bytes at End = Unit {0}
-Ahead bytes at (Fault p) = Unit {0}
-Ahead bytes at (Whole r) = (r.start ≡ at + 4) × (r.start + r.size ≤ length bytes)
+Ahead bytes at (Ok None) = Unit {0}
+Ahead bytes at (Err p) = Unit {0}
+Ahead bytes at (Ok (Some r)) = (r.start ≡ at + 4) × (r.start + r.size ≤ length bytes)
 
 stands_ahead : {bytes : List ℕ} {at least : ℕ} {d : Due} → Stands bytes at least d → Ahead bytes at d
 stands_ahead (Stands.ended h) = tt
 stands_ahead (Stands.faulty f l) = tt
 stands_ahead (Stands.whole w l) = (refl, w.ended)
 
-pub record_ahead : (bytes : List ℕ) (at least : ℕ) {r : Record} → record_at bytes at least ≡ Whole r
+pub record_ahead : (bytes : List ℕ) (at least : ℕ) {r : Record} → record_at bytes at least ≡ Ok (Some r)
     → (r.start ≡ at + 4) × (r.start + r.size ≤ length bytes)
 record_ahead bytes at least e = subst (Ahead bytes at) e (stands_ahead (record_stands bytes at least))

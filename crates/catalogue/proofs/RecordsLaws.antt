@@ -5,10 +5,9 @@ use mathlib.Core.List.{List, []}
 use Prim.Native.Nat.{ℕ, zero, suc, ◌+◌, ◌≤◌}
 use native.Mathlib.Omega.{arith}
 use lib.ListN.{length}
-use Rattle.catalogue.specs.Records.{record_at, Records, behind, onward, number_of, end_of, record_of, records_within, records_from}
+use Rattle.catalogue.specs.Records.{Due, record_at, Records, behind, onward, number_of, end_of, record_of, records_within, records_from}
 use Rattle.catalogue.specs.declared.Record.{Record}
-use Rattle.catalogue.specs.declared.Due.{Due}
-use Rattle.catalogue.specs.declared.Due.TheVariants.{End, Fault, Whole}
+use Rattle.std.specs.Prelude.{Some, None, Ok, Err}
 use Rattle.catalogue.proofs.RecordLaws.{at_end, Stands, record_stands}
 
 -- Two ways to go on that agree behind a record that may stand here come to the same.
@@ -35,12 +34,12 @@ records_unfold bytes at least = within_same (length bytes) (suc (length bytes)) 
 
 -- and by what stands there
 module _ (bytes : List ℕ) (at least : ℕ) where
-  pub records_end : record_at bytes at least ≡ End → records_from bytes at least ≡ Records.whole []
+  pub records_end : record_at bytes at least ≡ Ok None → records_from bytes at least ≡ Records.whole []
   records_end e = records_unfold bytes at least ∙ ap (onward (records_from bytes)) e
 
-  pub records_fault : {p : ℕ} → record_at bytes at least ≡ Fault p → records_from bytes at least ≡ Records.damaged p
+  pub records_fault : {p : ℕ} → record_at bytes at least ≡ Err p → records_from bytes at least ≡ Records.damaged p
   records_fault e = records_unfold bytes at least ∙ ap (onward (records_from bytes)) e
 
-  pub records-whole : {r : Record} → record_at bytes at least ≡ Whole r
+  pub records-whole : {r : Record} → record_at bytes at least ≡ Ok (Some r)
       → records_from bytes at least ≡ behind r (records_from bytes (r.start + r.size) (r.number + 1))
   records-whole e = records_unfold bytes at least ∙ ap (onward (records_from bytes)) e

@@ -9,10 +9,9 @@ use native.Mathlib.Omega.{arith}
 use lib.ListN.{length, get_or}
 use Rattle.base.proofs.BytesLaws.{number_small}
 use Rattle.base.proofs.SortedLaws.{Sorted}
-use Rattle.catalogue.specs.Records.{Records, behind, onward, number_of, end_of, record_of, records_within, records_from, records}
+use Rattle.catalogue.specs.Records.{Due, Records, behind, onward, number_of, end_of, record_of, records_within, records_from, records}
 use Rattle.catalogue.specs.Faults.{WholeAt, FaultAt}
 use Rattle.catalogue.specs.declared.Record.{Record}
-use Rattle.catalogue.specs.declared.Due.{Due}
 use Rattle.catalogue.proofs.RecordLaws.{Stands, record_stands}
 
 -- From a place on there are these records, and then the end.

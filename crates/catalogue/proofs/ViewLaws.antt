@@ -7,8 +7,7 @@ use lib.ListN.{length}
 use denote.Ref.{Bor}
 use Rattle.catalogue.specs.Contract.{of_layer, View, view, part, handed}
 use Rattle.catalogue.specs.declared.Layer.{Layer}
-use Rattle.catalogue.specs.declared.Location.{Location}
-use Rattle.catalogue.specs.declared.Location.TheVariants.{Found}
+use Rattle.catalogue.specs.Location.{Location, found}
 use Rattle.catalogue.proofs.LocationLaws.{of_layer-map}
 
 module _ (overlay base : Bor (List ℕ)) where
@@ -19,7 +18,7 @@ module _ (overlay base : Bor (List ℕ)) where
 
   -- a part of the catalogue of a layer is the part that is handed back
   pub part-handed : {c : Bor (List ℕ)} {v : View} (layer : Layer) (start size : ℕ) → c ≡ of_layer layer overlay base
-      → v ≡ part (view c) start size → v ≡ handed (Found layer start size) (view overlay) (view base)
+      → v ≡ part (view c) start size → v ≡ handed (found layer start size) (view overlay) (view base)
   part-handed layer start size e h = h ∙ ap (λ v. part v start size) (ap view e ∙ of_layer-map view layer overlay base)
 
   -- what is within the lengths of the two is within that of the one that is taken

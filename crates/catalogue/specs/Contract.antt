@@ -1,17 +1,17 @@
 -- What callers get of a location (MEANING 9.3, 9.4): its number with what it carries, and the part of a catalogue that it is. A reference
 -- is seen as where it points and what stands there, so that a part is told from a copy of its bytes. Assumes nothing.
-use Rattle.std.specs.Prelude.{List, ℕ, ◌+◌, take, drop}
+use Rattle.std.specs.Prelude.{List, ℕ, ◌+◌, take, drop, Ok, Err}
 use Rattle.std.specs.Borrow.{Bor}
+use Rattle.catalogue.specs.Location.{Location}
 use Rattle.catalogue.specs.declared.Layer.{Layer}
 use Rattle.catalogue.specs.declared.Layer.TheVariants.{Overlay, Base}
-use Rattle.catalogue.specs.declared.Location.{Location}
-use Rattle.catalogue.specs.declared.Location.TheVariants.{Found, Damaged, Missing}
+use Rattle.catalogue.specs.declared.Refusal.TheVariants.{Damaged, Missing}
 
 -- the number of the question that is answered by no, or 0
 abbrev pub code : Location → ℕ
-code (Found layer start size) = 0
-code (Damaged layer place) = 30
-code Missing = 31
+code (Ok f) = 0
+code (Err (Damaged layer place)) = 30
+code (Err Missing) = 31
 
 -- which catalogue: 0 for the overlay, 1 for the base catalogue
 abbrev pub layer_number : Layer → ℕ
@@ -25,21 +25,20 @@ of_layer Base overlay base = base
 
 -- the catalogue of which the location tells; 31 is about both, and has 0
 abbrev pub layer_told : Location → ℕ
-layer_told (Found layer start size) = layer_number layer
-layer_told (Damaged layer place) = layer_number layer
-layer_told Missing = 0
+layer_told (Ok f) = layer_number f.layer
+layer_told (Err (Damaged layer place)) = layer_number layer
+layer_told (Err Missing) = 0
 
 -- where the formula begins, or where the fault is; 0 for 31
 abbrev pub place_told : Location → ℕ
-place_told (Found layer start size) = start
-place_told (Damaged layer place) = place
-place_told Missing = 0
+place_told (Ok f) = f.start
+place_told (Err (Damaged layer place)) = place
+place_told (Err Missing) = 0
 
 -- how many bytes the part has: none, where it is refused
 abbrev pub size_told : Location → ℕ
-size_told (Found layer start size) = size
-size_told (Damaged layer place) = 0
-size_told Missing = 0
+size_told (Ok f) = f.size
+size_told (Err why) = 0
 
 -- A slice: the block of memory that it is in, the place there where it begins, and its bytes.
 pub record View : Type 0 where
@@ -56,6 +55,5 @@ part v start size = record { block = v.block; offset = v.offset + start; bytes =
 
 -- the part of one of two catalogues that is handed back; where it is refused, the empty one at the beginning of the overlay
 abbrev pub handed : Location → (overlay base : View) → View
-handed (Found layer start size) overlay base = part (of_layer layer overlay base) start size
-handed (Damaged layer place) overlay base = part overlay 0 0
-handed Missing overlay base = part overlay 0 0
+handed (Ok f) overlay base = part (of_layer f.layer overlay base) f.start f.size
+handed (Err why) overlay base = part overlay 0 0

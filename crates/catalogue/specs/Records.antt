@@ -1,12 +1,11 @@
 -- The records of a byte string, one after another, or the place where it is damaged (MEANING 9.2). That this tells catalogues from other
 -- strings, and that the place is the least of all faults', are theorems: proofs/CatalogueLaws.antt, proofs/FaultLaws.antt. Assumes nothing.
 use Rattle.std.specs.Prelude.{Bool, cond, ◌||◌, List, [], ◌∷◌, ℕ, zero, suc, ◌+◌, eqb, leb, length, get_or}
+use Rattle.std.specs.Prelude.{Option, Some, None, Result, Ok, Err}
 use Rattle.base.specs.Ask.{ask}
 use Rattle.base.specs.Bytes.{number_at}
 use Rattle.catalogue.specs.Catalogue.{mark}
 use Rattle.catalogue.specs.declared.Record.{Record}
-use Rattle.catalogue.specs.declared.Due.{Due}
-use Rattle.catalogue.specs.declared.Due.TheVariants.{End, Fault, Whole}
 
 -- a byte, or 0 behind the last
 abbrev pub byte : List ℕ → (at : ℕ) → ℕ
@@ -29,15 +28,19 @@ record_of bytes at = record { number = number_of bytes at; start = at + 4; size 
 abbrev pub may_be : List ℕ → (at least : ℕ) → Bool
 may_be bytes at least = leb (length bytes) (at + 2) || leb least (number_of bytes at)
 
--- What stands at a place where a record is due that may have the numbers from `least` on: nothing, at the end; a fault, with its place; or
--- a record, its number, and where its formula begins and how long it is.
+-- what stands where a record is due: nothing more, at the end; or a record; or a fault, with its place
+abbrev pub Due : Type 0
+Due = Result (Option Record) ℕ
+
+-- What stands at a place where a record is due that may have the numbers from `least` on; of a record its number, where its formula begins
+-- and how long it is.
 abbrev pub record_at : List ℕ → (at least : ℕ) → Due
 record_at bytes at least =
-    cond (leb (length bytes) at) End
-    (ask (eqb (byte bytes at) mark) (Fault at)
-    (ask (may_be bytes at least) (Fault (at + 1))
-    (ask (leb (end_of bytes at) (length bytes)) (Fault (length bytes))
-    (Whole (record_of bytes at)))))
+    cond (leb (length bytes) at) (Ok None)
+    (ask (eqb (byte bytes at) mark) (Err at)
+    (ask (may_be bytes at least) (Err (at + 1))
+    (ask (leb (end_of bytes at) (length bytes)) (Err (length bytes))
+    (Ok (Some (record_of bytes at))))))
 
 -- A byte string is damaged at a place, or whole, with its records.
 pub data Records : Type 0 where
@@ -51,9 +54,9 @@ behind r (Records.whole rs) = Records.whole (r ∷ rs)
 
 -- what stands at a place, with what comes behind a record
 abbrev pub onward : (rest : (at least : ℕ) → Records) → Due → Records
-onward rest End = Records.whole []
-onward rest (Fault place) = Records.damaged place
-onward rest (Whole r) = behind r (rest (r.start + r.size) (r.number + 1))
+onward rest (Ok None) = Records.whole []
+onward rest (Err place) = Records.damaged place
+onward rest (Ok (Some r)) = behind r (rest (r.start + r.size) (r.number + 1))
 
 -- The records from a place on, so many at most; each takes four bytes or more, so as many as there are bytes are enough.
 abbrev pub records_within : ℕ → List ℕ → (at least : ℕ) → Records

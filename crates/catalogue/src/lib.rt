@@ -4,10 +4,9 @@
 
 ghost use Rattle.std.specs.Prelude.{◌≡◌, ◌+◌, ◌≤◌, length};
 ghost use Rattle.catalogue.specs.Records.{record_at, records};
-ghost use Rattle.catalogue.specs.Location.{location};
+ghost use Rattle.catalogue.specs.Location.{chosen, location};
 ghost use Rattle.catalogue.specs.Contract.{code, layer_number, layer_told, place_told, size_told, of_layer, view, part, handed};
-ghost use Rattle.catalogue.specs.Inner.{Small, kept, scanned, told};
-ghost use Rattle.catalogue.specs.declared.Scanned.TheVariants.{Has, Lacks};
+ghost use Rattle.catalogue.specs.Inner.{Small, scanned};
 
 // A formula's number, and where its bytes stand in the catalogue.
 #[derive(Clone, Copy)]
@@ -17,14 +16,6 @@ pub struct Record {
     pub size: usize,
 }
 
-// What stands where a record is due: nothing more; a fault, with its place; a record.
-#[derive(Clone, Copy)]
-pub enum Due {
-    End,
-    Fault(usize),
-    Whole(Record),
-}
-
 // One of the two catalogues.
 #[derive(Clone, Copy)]
 pub enum Layer {
@@ -32,156 +23,109 @@ pub enum Layer {
     Base,
 }
 
-// Where the formula of a number is: the place of its bytes in one of the catalogues; or a fault of one of them; or nowhere.
+// Where the formula of a number is: the place of its bytes in one of the catalogues.
 #[derive(Clone, Copy)]
-pub enum Location {
-    Found {
-        layer: Layer,
-        start: usize,
-        size: usize,
-    },
-    Damaged {
-        layer: Layer,
-        place: usize,
-    },
-    Missing,
+pub struct Found {
+    pub layer: Layer,
+    pub start: usize,
+    pub size: usize,
 }
 
-// What one catalogue has for a number.
+// Why there is none: a fault of one of the catalogues, or neither has the number.
 #[derive(Clone, Copy)]
-enum Scanned {
-    Has { start: usize, size: usize },
-    Lacks,
-    Broken(usize),
+pub enum Refusal {
+    Damaged { layer: Layer, place: usize },
+    Missing,
 }
 
 // The byte that opens a record.
 const MARK: u8 = 0x20;
 
-// What stands at a place where a record is due that may have the numbers from `least` on. The number is looked at as soon as both its bytes
-// are there: its fault comes before that of a record that is cut short.
-pub fn next_record(catalogue: &[u8], at: usize, least: usize) -> Due
+// The record at a place where one is due that may have the numbers from `least` on, or none at the end; or the place of the fault there.
+// The number is looked at as soon as both its bytes are there: its fault comes before that of a record that is cut short.
+pub fn next_record(catalogue: &[u8], at: usize, least: usize) -> Result<Option<Record>, usize>
     ensures is { result ≡ record_at catalogue.now at least }
     ensures small { Small result }
 {
     let length = catalogue.len();
     if length <= at {
-        return Due::End;
+        return Ok(None);
     }
     if catalogue[at] != MARK {
-        return Due::Fault(at);
+        return Err(at);
     }
     if length - at < 3 {
-        return Due::Fault(length);
+        return Err(length);
     }
     let number = base::number_at(catalogue, at + 1, 2) as usize;
     if number < least {
-        return Due::Fault(at + 1);
+        return Err(at + 1);
     }
     if length - at < 4 {
-        return Due::Fault(length);
+        return Err(length);
     }
     let start = at + 4;
-    let size = base::wide(catalogue[at + 3]);
+    let size = usize::from(catalogue[at + 3]);
     if length - start < size {
-        return Due::Fault(length);
+        return Err(length);
     }
-    Due::Whole(Record {
+    Ok(Some(Record {
         number,
         start,
         size,
-    })
+    }))
 }
 
-// What there is for a number once a record was passed.
-fn passed(found: Scanned, r: Record, number: usize) -> Scanned
-    ensures { result ≡ kept number found r }
-{
-    match found {
-        Scanned::Has { start, size } => Scanned::Has { start, size },
-        Scanned::Lacks => {
-            if r.number == number {
-                return Scanned::Has {
-                    start: r.start,
-                    size: r.size,
-                };
-            }
-            Scanned::Lacks
-        }
-        Scanned::Broken(place) => Scanned::Broken(place),
-    }
-}
-
-// Goes through a catalogue to its end, or to its first fault.
-fn scan(catalogue: &[u8], number: usize) -> Scanned
+// The record of a number in a catalogue, if it has one; or the catalogue's first fault, though the number be found before it.
+fn scan(catalogue: &[u8], number: usize) -> Result<Option<Record>, usize>
     ensures { result ≡ scanned number (records catalogue.now) }
 {
-    let mut at = 0usize;
-    let mut least = 0usize;
-    let mut found = Scanned::Lacks;
-    loop {
-        match next_record(catalogue, at, least) {
-            Due::End => return found,
-            Due::Fault(place) => return Scanned::Broken(place),
-            Due::Whole(r) => {
-                found = passed(found, r, number);
-                at = r.start + r.size;
-                least = r.number + 1;
-            }
+    let mut at = 0;
+    let mut least = 0;
+    let mut found = None;
+    while let Some(r) = next_record(catalogue, at, least)? {
+        if found.is_none() && r.number == number {
+            found = Some(r);
         }
+        at = r.start + r.size;
+        least = r.number + 1;
     }
+    Ok(found)
 }
 
-// The overlay has the number: of the base catalogue it is asked only whether it is whole.
-fn overlaid(start: usize, size: usize, under: Scanned) -> Location
-    ensures { result ≡ told (Has start size) under }
+// The overlay's record before that of the base catalogue.
+fn chosen(over: Option<Record>, under: Option<Record>) -> Result<Found, Refusal>
+    ensures { result ≡ chosen over under }
 {
-    let here = Location::Found {
-        layer: Layer::Overlay,
-        start,
-        size,
-    };
-    match under {
-        Scanned::Broken(place) => Location::Damaged {
-            layer: Layer::Base,
-            place,
-        },
-        Scanned::Has { start: _, size: _ } => here,
-        Scanned::Lacks => here,
-    }
-}
-
-// The overlay lacks the number.
-fn below(under: Scanned) -> Location
-    ensures { result ≡ told Lacks under }
-{
-    match under {
-        Scanned::Broken(place) => Location::Damaged {
-            layer: Layer::Base,
-            place,
-        },
-        Scanned::Has { start, size } => Location::Found {
+    match (over, under) {
+        (Some(Record { start, size, .. }), _) => Ok(Found {
+            layer: Layer::Overlay,
+            start,
+            size,
+        }),
+        (None, Some(Record { start, size, .. })) => Ok(Found {
             layer: Layer::Base,
             start,
             size,
-        },
-        Scanned::Lacks => Location::Missing,
+        }),
+        (None, None) => Err(Refusal::Missing),
     }
 }
 
 // Where the formula of a number is.
-pub fn locate(overlay: &[u8], base: &[u8], number: u16) -> Location
+pub fn locate(overlay: &[u8], base: &[u8], number: u16) -> Result<Found, Refusal>
     ensures { result ≡ location overlay.now base.now number }
 {
-    let n = base::wide16(number);
-    match scan(overlay, n) {
-        Scanned::Broken(place) => Location::Damaged {
-            layer: Layer::Overlay,
-            place,
-        },
-        Scanned::Has { start, size } => overlaid(start, size, scan(base, n)),
-        Scanned::Lacks => below(scan(base, n)),
-    }
+    let n = usize::from(number);
+    let over = scan(overlay, n).map_err(|place| Refusal::Damaged {
+        layer: Layer::Overlay,
+        place,
+    })?;
+    let under = scan(base, n).map_err(|place| Refusal::Damaged {
+        layer: Layer::Base,
+        place,
+    })?;
+    chosen(over, under)
 }
 
 // So many bytes of a catalogue from a place on.
@@ -207,26 +151,19 @@ pub fn lookup<'a>(overlay: &'a [u8], base: &'a [u8], number: u16) -> &'a [u8]
         (location overlay.now base.now number) (view overlay.entry) (view base.entry) }
 {
     match locate(overlay, base, number) {
-        Location::Found { layer, start, size } => {
-            part(catalogue_of(overlay, base, layer), start, size)
-        }
-        Location::Damaged { layer: _, place: _ } => part(overlay, 0, 0),
-        Location::Missing => part(overlay, 0, 0),
+        Ok(f) => part(catalogue_of(overlay, base, f.layer), f.start, f.size),
+        Err(_) => part(overlay, 0, 0),
     }
 }
 
 // The number of a refusal, or 0.
-pub fn code_of(l: Location) -> u8
+pub fn code_of(l: Result<Found, Refusal>) -> u8
     ensures { result ≡ code l }
 {
     match l {
-        Location::Found {
-            layer: _,
-            start: _,
-            size: _,
-        } => 0,
-        Location::Damaged { layer: _, place: _ } => 30,
-        Location::Missing => 31,
+        Ok(_) => 0,
+        Err(Refusal::Damaged { .. }) => 30,
+        Err(Refusal::Missing) => 31,
     }
 }
 
@@ -240,46 +177,32 @@ fn layer_number(layer: Layer) -> usize
 }
 
 // Which catalogue it is, 0 for the overlay and 1 for the base catalogue.
-pub fn layer_of(l: Location) -> usize
+pub fn layer_of(l: Result<Found, Refusal>) -> usize
     ensures { (result ≡ layer_told l) × (result ≤ 1) }
 {
     match l {
-        Location::Found {
-            layer,
-            start: _,
-            size: _,
-        } => layer_number(layer),
-        Location::Damaged { layer, place: _ } => layer_number(layer),
-        Location::Missing => 0,
+        Ok(Found { layer, .. }) | Err(Refusal::Damaged { layer, .. }) => layer_number(layer),
+        Err(Refusal::Missing) => 0,
     }
 }
 
 // Where the formula begins, or where the fault is.
-pub fn place_of(l: Location) -> usize
+pub fn place_of(l: Result<Found, Refusal>) -> usize
     ensures { result ≡ place_told l }
 {
     match l {
-        Location::Found {
-            layer: _,
-            start,
-            size: _,
-        } => start,
-        Location::Damaged { layer: _, place } => place,
-        Location::Missing => 0,
+        Ok(Found { start, .. }) => start,
+        Err(Refusal::Damaged { place, .. }) => place,
+        Err(Refusal::Missing) => 0,
     }
 }
 
 // How many bytes the part has.
-pub fn size_of(l: Location) -> usize
+pub fn size_of(l: Result<Found, Refusal>) -> usize
     ensures { result ≡ size_told l }
 {
     match l {
-        Location::Found {
-            layer: _,
-            start: _,
-            size,
-        } => size,
-        Location::Damaged { layer: _, place: _ } => 0,
-        Location::Missing => 0,
+        Ok(Found { size, .. }) => size,
+        Err(_) => 0,
     }
 }

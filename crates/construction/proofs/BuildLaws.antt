@@ -1,12 +1,7 @@
 -- From the questions of the code to the promise of building: each of 11, 12 and 14 is the definition's, and what is left in the workspace
 -- is what MEANING 5.11 says. Assumes nothing.
-use mathlib.Core.Path.{◌≡◌, refl, sym, ap, subst, ◌∙◌}
-use mathlib.Core.Bool.{Bool, true, false}
-use mathlib.Core.List.{List, ◌++◌}
-use Prim.Native.Nat.{ℕ, ◌≤◌, ◌<◌}
-use native.Mathlib.Omega.{arith}
-use lib.Dec.{T}
-use lib.ListN.{length, drop}
+use Rattle.std.proofs.Common.{◌≡◌, refl, sym, ap, subst, ◌∙◌, Bool, true, false, List, ◌++◌, ℕ, ◌≤◌, ◌<◌, length, drop, Result, Ok, Err}
+use Rattle.std.proofs.Common.{arith, T}
 use Rattle.base.proofs.AskLaws.{Asked, asked, asked_le, first_refusal, passed}
 use Rattle.base.proofs.BoolLaws.{to_T}
 use Rattle.formula.specs.Formula.{Formula}
@@ -21,8 +16,9 @@ use Rattle.construction.specs.Construction.{Construction, between, max_nodes, no
 use Rattle.construction.specs.Construction.{after_reading, construction}
 use Rattle.construction.specs.Contract.{says, leaves, Constructed}
 use Rattle.construction.specs.Inner.{Settled}
-use Rattle.construction.specs.declared.Construction as code
-use Rattle.construction.specs.declared.Construction.TheVariants.{Built, Refused, Unread}
+use Rattle.construction.specs.declared.Question.TheVariants.{Capacity, Workspace, Nodes}
+use Rattle.construction.specs.declared.Refusal as code
+use Rattle.construction.specs.declared.Refusal.TheVariants.{Unread, No}
 use Rattle.construction.proofs.RangeLaws.{between_of, between_in}
 use Rattle.construction.proofs.LayoutLaws.{words_count, cleared_front, behind-zeros}
 use Rattle.construction.proofs.LayoutLaws.{held-beyond, held-many, held-count, held-laid_out}
@@ -42,9 +38,9 @@ module _ (N : ℕ) {b : Bool} (is : b ≡ between 1 max_nodes N) where
 -- the questions in their order
 abbrev pub AskedRoom : (N workspace : ℕ) → Table → Construction → Type 0
 AskedRoom N workspace t =
-    Asked (InRange N) (Construction.refused 11)
-    (Asked (nodes_size N ≤ workspace) (Construction.refused 12)
-    (Asked (node_count t ≤ N) (Construction.refused 14)
+    Asked (InRange N) (Construction.refused Capacity)
+    (Asked (nodes_size N ≤ workspace) (Construction.refused Workspace)
+    (Asked (node_count t ≤ N) (Construction.refused Nodes)
     (λ o. o ≡ Construction.built (node_words t))))
 
 -- Theorem: the definition asks them so.
@@ -63,10 +59,10 @@ module _ (N : ℕ) (w : List ℕ) (t : Table) where
   settles : {o : Construction} → ask_room N (length w) t ≡ o → Settled t N w (leaves N o w) (says o)
   settles e = record { answered = ap says (sym e); worked = ap (λ (o : Construction). leaves N o w) (sym e) }
 
-  pub settled_11 : (InRange N → ⊥) → Settled t N w w (Refused 11)
+  pub settled_11 : (InRange N → ⊥) → Settled t N w w (Err (No Capacity))
   settled_11 n = settles (first_refusal asked_of n)
 
-  pub settled_12 : InRange N → length w < nodes_size N → Settled t N w w (Refused 12)
+  pub settled_12 : InRange N → length w < nodes_size N → Settled t N w w (Err (No Workspace))
   settled_12 r h = settles (first_refusal (passed asked_of r) (λ k. omega arith))
 
   -- the nodes, searched over zeros
@@ -75,9 +71,9 @@ module _ (N : ℕ) (w : List ℕ) (t : Table) where
     over : a ≡ zeros (nodes_size N) ++ drop (nodes_size N) w
     over = e ∙ cleared_front (nodes_size N) w
 
-    pub settled_14 : {w' : List ℕ} → N < known → w' ≡ cleared 0 (nodes_size N) area → Settled t N w w' (Refused 14)
+    pub settled_14 : {w' : List ℕ} → N < known → w' ≡ cleared 0 (nodes_size N) area → Settled t N w w' (Err (No Nodes))
     settled_14 {w'} h c =
-        subst (λ (v : List ℕ). Settled t N w v (Refused 14)) (sym all)
+        subst (λ (v : List ℕ). Settled t N w v (Err (No Nodes))) (sym all)
         (settles (first_refusal (passed (passed asked_of r) room) (λ k. omega (arith, held-many t held h))))
       where
         all : w' ≡ zeros (nodes_size N) ++ drop (nodes_size N) w
@@ -86,12 +82,12 @@ module _ (N : ℕ) (w : List ℕ) (t : Table) where
             ∙ ap (λ (l : List ℕ). zeros (nodes_size N) ++ l)
             (held-beyond t held ∙ ap (drop (nodes_size N)) over ∙ behind-zeros (nodes_size N) (drop (nodes_size N) w))
 
-    pub settled-built : known ≤ N → Settled t N w area (Built known)
+    pub settled-built : known ≤ N → Settled t N w area (Ok known)
     settled-built h =
         let fits : node_count t ≤ N = omega (arith, held-count t held h) in
         let s = settles (passed (passed (passed asked_of r) room) fits) in
         record {
-          answered = ap Built (held-count t held h ∙ sym (words_count t)) ∙ s.answered;
+          answered = ap Ok (held-count t held h ∙ sym (words_count t)) ∙ s.answered;
           worked = held-laid_out t held h (drop (nodes_size N) w) over ∙ s.worked;
         }
 
@@ -100,7 +96,7 @@ module _ (bytes : List ℕ) (N : ℕ) (w : List ℕ) where
   abbrev whole : Construction
   whole = construction N (length w) bytes
 
-  settled_constructed : {w' : List ℕ} {r : code.Construction} (f : Formula) → parse bytes ≡ Reading.accepted f
+  settled_constructed : {w' : List ℕ} {r : Result ℕ code.Refusal} (f : Formula) → parse bytes ≡ Reading.accepted f
       → Settled (table f) N w w' r → Constructed bytes N w w' r
   unfolding construction
   settled_constructed f p s =
@@ -111,13 +107,13 @@ module _ (bytes : List ℕ) (N : ℕ) (w : List ℕ) where
       }
 
   -- Theorem: settled over the table of the formula that was read, it is built.
-  pub held_constructed : {w' : List ℕ} {r : code.Construction} {t : Stored} → HoldsFormula bytes t
+  pub held_constructed : {w' : List ℕ} {r : Result ℕ code.Refusal} {t : Stored} → HoldsFormula bytes t
       → Settled (table_of t.rows t.count) N w w' r → Constructed bytes N w w' r
   held_constructed {w'} {r} h s =
       settled_constructed h.formula h.parsed (subst (λ (u : Table). Settled u N w w' r) h.operators s)
 
   -- Theorem: a refusal of reading, passed on.
-  pub unread_constructed : {why : Refusal} → parse bytes ≡ Reading.refused why → Constructed bytes N w w (Unread why)
+  pub unread_constructed : {why : Refusal} → parse bytes ≡ Reading.refused why → Constructed bytes N w w (Err (Unread why))
   unfolding construction
   unread_constructed {why} p =
       let e : whole ≡ Construction.unread why = ap (after_reading N (length w)) p in

@@ -1,17 +1,13 @@
 -- Question 36. The test says what it means (`nodes_exactly`), and so: it is answered by yes exactly if building with this N, in this
 -- workspace, would report this K and change nothing (`rebuilt_exactly`). What building leaves passes it (`built-nodes`). The code works the
 -- nodes out over zeros of its own and compares (`check_many`, `check_other`, `check_same`). Assumes nothing.
-use mathlib.Core.Path.{◌≡◌, refl, sym, ap, subst, ◌∙◌}
-use mathlib.Core.Logic.{◌↔◌}
-use mathlib.Core.Bool.{Bool, true, false, ◌&&◌}
-use mathlib.Core.List.{List, [], ◌∷◌, ◌++◌, map, append_assoc}
-use Prim.Native.Nat.{ℕ, ◌+◌, ◌-◌, ◌≤◌, ◌<◌}
-use native.Mathlib.Numerals.{add-one}
-use native.Mathlib.Omega.{arith}
-use lib.Dec.{T, eqb, leb, leb→le, le→leb, eqb→eq, eqb_refl}
-use lib.ListN.{length, get_or, take, drop, length-take, take-append-drop, replicate-append-replicate}
-use lib.Seq.{take-suc}
-use borrow.Author.Tests.{le-leb, lt-leb, eq-eqb, ne_eqb}
+use Rattle.std.proofs.Common.{◌≡◌, refl, sym, ap, subst, ◌∙◌, ◌↔◌, Result, Ok, Bool, true, false, ◌&&◌, List, [], ◌∷◌, ◌++◌, map}
+use Rattle.std.proofs.Common.{append_assoc, ℕ, ◌+◌, ◌-◌, ◌≤◌, ◌<◌, length, take, drop, take-append-drop, arith, T, eqb, leb, leb→le}
+use Rattle.std.proofs.Common.{le→leb, eqb→eq, le-leb, eq-eqb, ne_eqb}
+use Rattle.std.proofs.Math.Dec.{eqb_refl}
+use Rattle.std.proofs.lemmas.Bool.{lt-leb}
+use Rattle.std.proofs.lemmas.List.{replicate-append-replicate}
+use Rattle.std.specs.Cmp.Lexicographic.{pointwise}
 use Rattle.base.specs.Bits.{word}
 use Rattle.base.specs.Lists.{flat_map, alike}
 use Rattle.base.proofs.AskLaws.{Asked, asked_le, passed}
@@ -26,33 +22,16 @@ use Rattle.tableau.proofs.NodeReads.{reachable-sized}
 use Rattle.tableau.proofs.SizeLaws.{words_small}
 use Rattle.construction.specs.Construction.{Construction, node_count, node_words, nodes_size, laid_out, construct, are_nodes}
 use Rattle.construction.specs.Contract.{says, leaves}
-use Rattle.construction.specs.declared.Construction.TheVariants.{Built}
+use Rattle.construction.specs.declared.Question.TheVariants.{Nodes}
+use Rattle.construction.specs.declared.Refusal.{Refusal}
 use Rattle.construction.proofs.LayoutLaws.{words_are, words_count, laid_first, held-many, held-count, held-laid_out}
 
--- two lists, one element more
-alike-last : (xs ys : List ℕ) (x y : ℕ) → length xs ≡ length ys
-    → alike eqb (xs ++ (x ∷ [])) (ys ++ (y ∷ [])) ≡ (alike eqb xs ys && eqb x y)
-alike-last [] [] x y e = by (eqb x y)
-  where
-    by : (b : Bool) → (b && true) ≡ b
-    by true = refl
-    by false = refl
-alike-last [] (z ∷ ys) x y e = absurd (omega arith)
-alike-last (z ∷ xs) [] x y e = absurd (omega arith)
-alike-last (z ∷ xs) (u ∷ ys) x y e = by (eqb z u) _ (alike eqb xs ys) (alike-last xs ys x y (omega arith))
-  where
-    by : (b c d : Bool) → c ≡ (d && eqb x y) → (b && c) ≡ ((b && d) && eqb x y)
-    by true c d q = q
-    by false c d q = refl
-
--- so many bytes of two areas, one more
-pub alike-more : (a b : List ℕ) (i : ℕ) {same : Bool} → same ≡ alike eqb (take i a) (take i b) → i < length a → i < length b
-    → (same && eqb (get_or a i 0) (get_or b i 0)) ≡ alike eqb (take (i + 1) a) (take (i + 1) b)
-alike-more a b i e h k =
-    ap (λ (s : Bool). s && eqb (get_or a i 0) (get_or b i 0)) e
-    ∙ sym (alike-last (take i a) (take i b) (get_or a i 0) (get_or b i 0) (omega (arith, length-take i a, length-take i b)))
-    ∙ sym (λ j. alike eqb (take-suc a i 0 h j) (take-suc b i 0 k j))
-    ∙ ap (λ (n : ℕ). alike eqb (take n a) (take n b)) (sym (add-one i))
+-- the library's test of two slices is the definition's
+same_test : (xs ys : List ℕ) → pointwise eqb xs ys ≡ alike eqb xs ys
+same_test [] [] = refl
+same_test [] (y ∷ ys) = refl
+same_test (x ∷ xs) [] = refl
+same_test (x ∷ xs) (y ∷ ys) = ap (λ (b : Bool). eqb x y && b) (same_test xs ys)
 
 -- K and the workspace's first bytes are those that building with N gives for a table.
 pub record HasNodes (K N : ℕ) (w : List ℕ) (t : Table) : Type 0 where
@@ -62,11 +41,11 @@ pub record HasNodes (K N : ℕ) (w : List ℕ) (t : Table) : Type 0 where
 
 -- question 14 of building
 construct-asked : (N : ℕ) (t : Table)
-    → Asked (node_count t ≤ N) (Construction.refused 14) (λ o. o ≡ Construction.built (node_words t)) (construct N t)
+    → Asked (node_count t ≤ N) (Construction.refused Nodes) (λ o. o ≡ Construction.built (node_words t)) (construct N t)
 unfolding construct
 construct-asked N t = asked_le (node_count t) N (Construction.built (node_words t)) refl
 
-same_count : {a b : ℕ} → Built a ≡ Built b → a ≡ b
+same_count : {a b : ℕ} → ◌≡◌ {A = Result ℕ Refusal} (Ok a) (Ok b) → a ≡ b
 same_count e = cc
 
 module _ (K N : ℕ) (w : List ℕ) (t : Table) where
@@ -103,20 +82,20 @@ module _ (K N : ℕ) (w : List ℕ) (t : Table) where
 
   -- Theorem: the answer is yes exactly if building with this N would report this K and leave this workspace as it is.
   module _ (room : nodes_size N ≤ length w) where
-    rebuilt : HasNodes K N w t → (says (construct N t) ≡ Built K) × (leaves N (construct N t) w ≡ w)
+    rebuilt : HasNodes K N w t → (says (construct N t) ≡ Ok K) × (leaves N (construct N t) w ≡ w)
     rebuilt h =
         let e = passed (construct-asked N t) h.fits in (
-          ap says e ∙ ap Built (words_count t ∙ sym h.counted),
+          ap says e ∙ ap Ok (words_count t ∙ sym h.counted),
           ap (λ (o : Construction). leaves N o w) e
               ∙ ap (λ (l : List ℕ). l ++ drop (nodes_size N) w) (sym h.bytes_are)
               ∙ take-append-drop (nodes_size N) w,
         )
 
-    unchanged : {o : Construction} → Asked (node_count t ≤ N) (Construction.refused 14) (λ o. o ≡ Construction.built (node_words t)) o
-        → says o ≡ Built K → leaves N o w ≡ w → HasNodes K N w t
+    unchanged : {o : Construction} → Asked (node_count t ≤ N) (Construction.refused Nodes) (λ o. o ≡ Construction.built (node_words t)) o
+        → says o ≡ Ok K → leaves N o w ≡ w → HasNodes K N w t
     unchanged (Asked.answered-no n) e f = let z : ◌≡◌ {A = ℕ} 0 1 = cc in absurd (omega arith)
     unchanged (Asked.answered-yes q b) e f =
-        let g : says (Construction.built (node_words t)) ≡ Built K = ap says (sym b) ∙ e in
+        let g : says (Construction.built (node_words t)) ≡ Ok K = ap says (sym b) ∙ e in
         let few : length (node_words t) ≤ N = omega (arith, words_count t) in
         record {
           counted = sym (same_count g) ∙ words_count t;
@@ -126,7 +105,7 @@ module _ (K N : ℕ) (w : List ℕ) (t : Table) where
               ∙ laid_first N (node_words t) few (drop (nodes_size N) w);
         }
 
-    pub rebuilt_exactly : (are_nodes K N w t ≡ true) ↔ ((says (construct N t) ≡ Built K) × (leaves N (construct N t) w ≡ w))
+    pub rebuilt_exactly : (are_nodes K N w t ≡ true) ↔ ((says (construct N t) ≡ Ok K) × (leaves N (construct N t) w ≡ w))
     rebuilt_exactly =
         (λ e. rebuilt (nodes_exactly.0 e), λ h. nodes_exactly.1 (unchanged (construct-asked N t) h.0 h.1))
 
@@ -136,17 +115,18 @@ module _ (K N : ℕ) (w : List ℕ) (t : Table) where
     unfolding are_nodes
     check_many h = sym (ap (λ (b : Bool). b && (counted? && bytes?)) (lt-leb (node_count t) N (held-many t held h)))
 
-    pub check_other : known ≤ N → (K ≡ known → ⊥) → false ≡ are_nodes K N w t
+    pub check_other : known ≤ N → (K ≡ known → ⊥) → eqb K known ≡ are_nodes K N w t
     unfolding are_nodes
     check_other h n =
-        sym (ap (λ (b : Bool). b && (counted? && bytes?)) (le-leb (node_count t) N (omega (arith, held-count t held h)))
+        ne_eqb K known n
+        ∙ sym (ap (λ (b : Bool). b && (counted? && bytes?)) (le-leb (node_count t) N (omega (arith, held-count t held h)))
         ∙ ap (λ (b : Bool). b && bytes?) (ne_eqb K (node_count t) (λ e. n (e ∙ sym (held-count t held h)))))
 
     pub check_same : known ≤ N → K ≡ known → (rest : List ℕ) → a ≡ zeros (nodes_size N) ++ rest → {b : Bool}
-        → b ≡ alike eqb (take (nodes_size N) w) (take (nodes_size N) area) → b ≡ are_nodes K N w t
+        → b ≡ pointwise eqb (take (nodes_size N) w) (take (nodes_size N) area) → b ≡ are_nodes K N w t
     unfolding are_nodes
     check_same h k rest z {b} e =
-        e ∙ ap (alike eqb (take (nodes_size N) w))
+        e ∙ same_test (take (nodes_size N) w) (take (nodes_size N) area) ∙ ap (alike eqb (take (nodes_size N) w))
         (ap (take (nodes_size N)) (held-laid_out t held h rest z)
         ∙ laid_first N (node_words t) (omega (arith, words_count t, held-count t held h)) rest)
         ∙ sym (ap (λ (b : Bool). b && (counted? && bytes?)) (le-leb (node_count t) N (omega (arith, held-count t held h)))

@@ -1,9 +1,8 @@
 -- The examples of MEANING 5.11, as one statement that the definitions compute through the reading of the bytes. Assumes nothing.
-use mathlib.Core.Path.{◌≡◌, refl}
-use mathlib.Core.List.{List, [], ◌∷◌, map}
-use Prim.Native.Nat.{ℕ}
+use Rattle.std.proofs.Common.{◌≡◌, refl, List, [], ◌∷◌, map, ℕ}
 use Rattle.formula.specs.Refusal.{unguarded}
 use Rattle.construction.specs.Construction.{Construction, construction}
+use Rattle.construction.specs.declared.Question.TheVariants.{Capacity, Workspace, Nodes}
 
 pub record Example : Type 0 where
   pub bytes : List ℕ
@@ -17,10 +16,10 @@ is b N w o = record { bytes = b; capacity = N; workspace = w; outcome = o }
 abbrev pub examples : List Example
 examples =
     is (0x01 ∷ []) 2 16 (Construction.built (0x1 ∷ 0x0 ∷ []))
-    ∷ is (0x01 ∷ []) 1 8 (Construction.refused 14)
-    ∷ is (0x01 ∷ []) 2 15 (Construction.refused 12)
-    ∷ is (0x01 ∷ []) 0 16 (Construction.refused 11)
-    ∷ is (0x01 ∷ []) 1025 8200 (Construction.refused 11)
+    ∷ is (0x01 ∷ []) 1 8 (Construction.refused Nodes)
+    ∷ is (0x01 ∷ []) 2 15 (Construction.refused Workspace)
+    ∷ is (0x01 ∷ []) 0 16 (Construction.refused Capacity)
+    ∷ is (0x01 ∷ []) 1025 8200 (Construction.refused Capacity)
     ∷ is (0x02 ∷ []) 1 8 (Construction.built (0x1 ∷ []))
     ∷ is (0x0A ∷ 0x07 ∷ 0x09 ∷ 0x06 ∷ 0x03 ∷ 0x00 ∷ 0x08 ∷ 0x05 ∷ 0x00 ∷ 0x08 ∷ 0x05 ∷ 0x00 ∷ []) 3 24
     (Construction.built (0x1 ∷ 0x100 ∷ 0x140 ∷ []))

@@ -1,12 +1,10 @@
 -- Nodes laid out in bytes. Over zeros the search of nodes leaves exactly the bytes of the layout (`over_zeros`, `held-laid_out`), and
 -- behind those of N nodes it leaves everything (`held-beyond`). Assumes nothing.
-use mathlib.Core.Path.{◌≡◌, refl, sym, ap, ◌∙◌}
-use mathlib.Core.List.{List, [], ◌∷◌, ◌++◌, map, append_assoc}
-use Prim.Native.Nat.{ℕ, ◌+◌, ◌-◌, ◌*◌, ◌≤◌, ◌<◌}
-use native.Mathlib.Nat.{sub-zero}
-use native.Mathlib.Omega.{arith}
-use lib.ListN.{length, take, drop, length-append, length-map, length-take, length-replicate, replicate-append-replicate}
-use lib.Seq.{take_all, take_at, drop_at, drop-append-add, drop-drop}
+use Rattle.std.proofs.Common.{◌≡◌, refl, sym, ap, ◌∙◌, List, [], ◌∷◌, ◌++◌, map, append_assoc, ℕ, ◌+◌, ◌-◌, ◌*◌, ◌≤◌, ◌<◌, arith, length}
+use Rattle.std.proofs.Common.{take, drop, length-append, length-take, take_all, take_at, drop_at, drop-drop}
+use Rattle.std.proofs.Math.ListN.{length-map, length-replicate, replicate-append-replicate}
+use Rattle.std.proofs.Math.Nat.{sub-zero}
+use Rattle.std.proofs.Math.Seq.{drop-append-add}
 use Rattle.base.specs.Bits.{word}
 use Rattle.base.specs.Lists.{flat_map}
 use Rattle.base.specs.Search.{Item}

@@ -1,10 +1,5 @@
--- A number in a range: the test says what it means (`between_of`, `between_in`), and the code's two comparisons are the test. Assumes
--- nothing.
-use mathlib.Core.Path.{◌≡◌, sym, ap}
-use mathlib.Core.Bool.{Bool, false, ◌&&◌}
-use Prim.Native.Nat.{ℕ, ◌≤◌, ◌<◌}
-use lib.Dec.{T, leb, leb→le, le→leb}
-use borrow.Author.Tests.{le-leb, lt-leb}
+-- A number in a range: the test says what it means (`between_of`, `between_in`). Assumes nothing.
+use Rattle.std.proofs.Common.{ℕ, ◌≤◌, T, leb, leb→le, le→leb}
 use Rattle.base.proofs.BoolLaws.{and_left, and_right, and_both}
 use Rattle.construction.specs.Construction.{between}
 
@@ -14,10 +9,3 @@ module _ (low high n : ℕ) where
 
   pub between_in : low ≤ n → n ≤ high → T (between low high n)
   between_in l h = and_both (leb low n) (leb n high) (le→leb low n l) (le→leb n high h)
-
-  -- the code's test
-  pub below-range : n < low → false ≡ between low high n
-  below-range h = sym (ap (λ (b : Bool). b && leb n high) (lt-leb low n h))
-
-  pub above_low : low ≤ n → leb n high ≡ between low high n
-  above_low h = sym (ap (λ (b : Bool). b && leb n high) (le-leb low n h))

@@ -10,6 +10,8 @@ use Rattle.formula.specs.Formula.{Formula}
 use Rattle.formula.specs.Table.{Table, table}
 use Rattle.formula.specs.Reading.{Reading, parse}
 use Rattle.formula.specs.declared.Refusal.{Refusal}
+use Rattle.construction.specs.declared.Question.{Question}
+use Rattle.construction.specs.declared.Question.TheVariants.{Capacity, Workspace, Nodes}
 use Rattle.tableau.specs.Saturation.{Subset}
 use Rattle.tableau.specs.Transition.{Transition}
 use Rattle.tableau.specs.Nodes.{nodes}
@@ -17,7 +19,7 @@ use Rattle.tableau.specs.Nodes.{nodes}
 -- A refusal of reading; 11, 12 or 14; or the nodes as words, bit e for subformula e, in order of first visit. K is how many.
 pub data Construction : Type 0 where
   unread : Refusal → Construction
-  refused : (code : ℕ) → Construction
+  refused : Question → Construction
   built : (words : List ℕ) → Construction
 
 -- whether a number is in a range, its ends included
@@ -47,14 +49,14 @@ laid_out N words = flat_map (bytes_of 8) words ++ replicate (nodes_size N - node
 -- Question 14, and then the nodes.
 unfoldable pub construct : (N : ℕ) → Table → Construction
 unfolding nodes
-construct N t = ask (leb (node_count t) N) (Construction.refused 14) (Construction.built (node_words t))
+construct N t = ask (leb (node_count t) N) (Construction.refused Nodes) (Construction.built (node_words t))
 
 -- The questions 11 for N and 12 for its bytes, and what comes after them.
 abbrev pub ask_room : (N workspace : ℕ) → Table → Construction
 unfolding construct
 ask_room N workspace t =
-    ask (between 1 max_nodes N) (Construction.refused 11)
-    (ask (leb (nodes_size N) workspace) (Construction.refused 12)
+    ask (between 1 max_nodes N) (Construction.refused Capacity)
+    (ask (leb (nodes_size N) workspace) (Construction.refused Workspace)
     (construct N t))
 
 -- A refusal of reading is handed on.

@@ -1,3 +1,4 @@
+pub mod Questions
 pub mod Construction
 pub mod Contract
 pub mod Inner

@@ -1,22 +1,70 @@
 // Building: the nodes of a formula in a lent workspace, so that they can be searched again and again; and whether a workspace has them.
 #![tactic(auto)]
 
-ghost use Rattle.std.specs.Prelude.{◌≡◌, true, ◌*◌, ◌≤◌, eqb, length, take};
-ghost use Rattle.base.specs.Lists.{alike};
-ghost use Rattle.tableau.specs.Inner.{table_of, Formed};
+ghost use Rattle.std.specs.Prelude.{◌≡◌, true, ◌*◌, ◌≤◌, length};
+ghost use Rattle.tableau.specs.Operators.{operators};
 ghost use Rattle.tableau.specs.Area.{NodeRoom};
 ghost use Rattle.tableau.specs.Origins.{Origins};
+ghost use Rattle.construction.specs.declared.Refusal.TheVariants.{Unread, No};
+ghost use Rattle.construction.specs.Questions.{question_code};
 ghost use Rattle.construction.specs.Construction.{between, are_nodes};
 ghost use Rattle.construction.specs.Contract.{Constructed};
 ghost use Rattle.construction.specs.Inner.{Settled};
 
-use formula::{Outcome, Refusal, Table};
+use tableau::Tableau;
 
-#[derive(Clone, Copy)]
-pub enum Construction {
-    Built(usize),
-    Refused(u8),
-    Unread(Refusal),
+// The questions after reading that an operation with lent room may answer by no.
+#[derive(Clone, Copy, PartialEq, Eq, Debug)]
+pub enum Question {
+    // 11: the capacities are in range.
+    Capacity,
+    // 12: the workspace is large enough.
+    Workspace,
+    // 13: so is the witness buffer.
+    Buffer,
+    // 14: there is room for the nodes.
+    Nodes,
+    // 15: there is room for the profiles.
+    Profiles,
+    // 36: the workspace has the nodes.
+    Built,
+}
+
+// The number of the question: MEANING 5.2 and 5.12.
+pub fn question_code(q: Question) -> u8
+    ensures { result ≡ question_code q }
+{
+    match q {
+        Question::Capacity => 11,
+        Question::Workspace => 12,
+        Question::Buffer => 13,
+        Question::Nodes => 14,
+        Question::Profiles => 15,
+        Question::Built => 36,
+    }
+}
+
+// Why an operation with lent room refuses: the formula is not read, or the answer to a question is no.
+#[derive(Clone, Copy, PartialEq, Eq, Debug)]
+pub enum Refusal {
+    Unread(formula::Refusal),
+    No(Question),
+}
+
+impl From<formula::Refusal> for Refusal {
+    ghost from_gives = { λ why r. r ≡ Unread why };
+
+    fn from(why: formula::Refusal) -> Refusal {
+        Refusal::Unread(why)
+    }
+}
+
+impl From<Question> for Refusal {
+    ghost from_gives = { λ q r. r ≡ No q };
+
+    fn from(q: Question) -> Refusal {
+        Refusal::No(q)
+    }
 }
 
 // What question 11 grants at most.
@@ -28,86 +76,55 @@ pub const NODE_BYTES: usize = 8;
 pub fn between(low: usize, high: usize, n: usize) -> bool
     ensures { result ≡ between low high n }
 {
-    if n < low {
-        return false;
-    }
-    n <= high
+    (low..=high).contains(&n)
 }
 
-// Whether the first n bytes of two areas are the same. It goes on behind a difference: without a test in each turn many bytes are
-// compared at a time.
-fn same_bytes(a: &[u8], b: &[u8], n: usize) -> bool
-    requires { (n ≤ length a.now) × (n ≤ length b.now) }
-    ensures { result ≡ alike eqb (take n a.now) (take n b.now) }
-{
-    let mut same = true;
-    let mut i = 0;
-    while i < n {
-        same = same & (a[i] == b[i]);
-        i += 1;
-    }
-    same
-}
-
-// Question 36: whether so many nodes and the first bytes of the area are what building leaves for the rows. The nodes are worked out in
+// Question 36: whether so many nodes and the first bytes of the area are what building leaves for the formula. The nodes are worked out in
 // room of its own, with notes on where each was found from.
 pub fn are_nodes(
-    rows: &[u8; 144],
-    count: usize,
+    t: &Tableau,
     nodes: usize,
     node_capacity: usize,
     area: &[u8],
     origins: &mut [u16],
 ) -> bool
-    requires formed { Formed rows.now count }
     requires node_room { NodeRoom 1 node_capacity (length area.now) }
     requires node_capacity_in_bounds { 2 * node_capacity ≤ length origins.old }
-    ensures value { result ≡ are_nodes nodes node_capacity area.now (table_of rows.now count) }
-    ensures origins { result ≡ true → Origins (table_of rows.now count) origins.new nodes }
+    ensures value { result ≡ are_nodes nodes node_capacity area.now (operators t.now) }
+    ensures origins { result ≡ true → Origins (operators t.now) origins.new nodes }
 {
     let mut own = [0u8; 8192];
-    let known = tableau::nodes(rows, count, &mut own, node_capacity, origins);
-    if node_capacity < known {
+    let Some(known) = t.nodes(&mut own, node_capacity, origins) else {
         return false;
-    }
-    if nodes != known {
-        return false;
-    }
-    same_bytes(area, &own, NODE_BYTES * node_capacity)
+    };
+    let size = NODE_BYTES * node_capacity;
+    nodes == known && area[..size] == own[..size]
 }
 
 // The questions after reading, in their order, and the nodes.
-fn ask_room(t: Table, node_capacity: usize, workspace: &mut [u8]) -> Construction
-    requires { Formed t.rows t.count }
-    ensures { Settled (table_of t.rows t.count) node_capacity workspace.old workspace.new result }
+fn ask_room(t: &Tableau, node_capacity: usize, workspace: &mut [u8]) -> Result<usize, Refusal>
+    ensures { Settled (operators t.now) node_capacity workspace.old workspace.new result }
 {
     if !between(1, MAX_NODES, node_capacity) {
-        return Construction::Refused(11);
+        return Err(Refusal::No(Question::Capacity));
     }
     let asked = NODE_BYTES * node_capacity;
     if workspace.len() < asked {
-        return Construction::Refused(12);
+        return Err(Refusal::No(Question::Workspace));
     }
-    let rows = t.rows;
-    let mut origins = [0u16; 2048];
     tableau::clear(workspace, 0, asked);
-    let nodes = tableau::nodes(&rows, t.count, workspace, node_capacity, &mut origins);
-    if node_capacity < nodes {
+    let mut origins = [0u16; 2048];
+    let Some(nodes) = t.nodes(workspace, node_capacity, &mut origins) else {
         tableau::clear(workspace, 0, asked);
-        return Construction::Refused(14);
-    }
-    Construction::Built(nodes)
+        return Err(Refusal::No(Question::Nodes));
+    };
+    Ok(nodes)
 }
 
 // Puts the nodes of the formula in the bytes into the workspace's first bytes, with room for so many.
-pub fn build(bytes: &[u8], node_capacity: usize, workspace: &mut [u8]) -> Construction
+pub fn build(bytes: &[u8], node_capacity: usize, workspace: &mut [u8]) -> Result<usize, Refusal>
     ensures { Constructed bytes.now node_capacity workspace.old workspace.new result }
 {
-    let r = formula::read(bytes);
-    let outcome = r.outcome;
-    let t = r.table;
-    match outcome {
-        Outcome::Refused(why) => Construction::Unread(why),
-        Outcome::Accepted => ask_room(t, node_capacity, workspace),
-    }
+    let t = Tableau::new(formula::read(bytes)?);
+    ask_room(&t, node_capacity, workspace)
 }

@@ -12,6 +12,7 @@ use lib.ListN.{length, length-append}
 use Rattle.formula.specs.Formula.{Formula}
 use Rattle.formula.specs.Table.{entries}
 use Rattle.formula.specs.Refusal.{at_byte}
+use Rattle.formula.specs.declared.Fault.TheVariants.{UnboundVariable}
 use Rattle.formula.specs.Reading.{Opcode, Reading, parse}
 use Rattle.formula.specs.Occurrence.{Guards, Guarded, Closed, Ranged}
 use Rattle.formula.specs.Ways.{spelled}
@@ -105,7 +106,7 @@ module _ (old : List ℕ) (c : Context) (a : Formula) (e : parse old ≡ Reading
       ap parse own_spelled ∙ limited_read a (closed-guarded [] around a guarded closed) own_limits
 
   pub own_open : (Closed 0 a → ⊥)
-      → (place : ℕ) × (parse (subformula_bytes old (entries (plugged c a)) (number c)) ≡ Reading.refused (at_byte 7 place))
+      → (place : ℕ) × (parse (subformula_bytes old (entries (plugged c a)) (number c)) ≡ Reading.refused (at_byte UnboundVariable place))
   own_open free =
       let (around, guarded) = own_guarded in
       let (place, refused) = open_read around a guarded own_limits free in
@@ -114,7 +115,7 @@ module _ (old : List ℕ) (c : Context) (a : Formula) (e : parse old ≡ Reading
   -- The bytes of a subformula alone: accepted exactly if it is closed, else refused with 7.
   pub own_seven : (Closed 0 a × (parse (subformula_bytes old (entries (plugged c a)) (number c)) ≡ Reading.accepted a)) ⊎
       ((Closed 0 a → ⊥) × ((place : ℕ) ×
-      (parse (subformula_bytes old (entries (plugged c a)) (number c)) ≡ Reading.refused (at_byte 7 place))))
+      (parse (subformula_bytes old (entries (plugged c a)) (number c)) ≡ Reading.refused (at_byte UnboundVariable place))))
   own_seven =
       elim (decide-closed 0 a) [ inl closed ↦ inl (closed, own_read closed) | inr free ↦ inr (free, own_open free) ]
 

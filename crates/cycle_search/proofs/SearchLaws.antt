@@ -2,29 +2,19 @@
 -- profile. It begins with the profiles of one transition, the first layer (`search-start`). Where its last layer has none either, the next
 -- one is made (`search-next`), unless there is no room for it (`search-full`); a layer that adds nothing is the last (`search_end`), and
 -- one with an accepting profile too (`search-found`). Assumes nothing.
-use mathlib.Core.Path.{◌≡◌, refl, sym, ap, subst, subst⁻¹, ◌∙◌}
-use mathlib.Core.Bool.{Bool, false}
-use mathlib.Core.Option.{Option, none, some}
-use mathlib.Core.List.{List}
-use Prim.Native.Nat.{ℕ, suc, ◌-◌, ◌≤◌, ◌<◌}
-use native.Mathlib.Omega.{arith}
-use native.Mathlib.Decide.{dec_lt}
-use lib.ListN.{length}
-use Rattle.base.specs.Lists.{At, range, first}
+use Rattle.std.proofs.Common.{◌≡◌, refl, sym, ap, subst, ◌∙◌, Bool, false, List, ℕ, suc, ◌≤◌, ◌<◌, length, arith}
+use Rattle.std.proofs.Math.Decide.{dec_lt}
+use Rattle.base.specs.Lists.{At}
 use Rattle.base.proofs.At.{at_one, at_before}
-use Rattle.base.proofs.TestLaws.{not_of_T}
-use Rattle.base.proofs.MemberLaws.{range_in}
-use Rattle.base.proofs.FirstLaws.{first-none}
 use Rattle.profile_tables.specs.Runs.{FoundProfile, profiles_from, layer, count_within}
 use Rattle.profile_tables.proofs.LayerLaws.{layer-on, found_begin}
 use Rattle.profile_search.specs.Stored.{record_start, record_of, stored, BytesBetween, Chained, StoreChained, Grown}
 use Rattle.profile_search.specs.declared.Store.{Store}
 use Rattle.profile_search.proofs.RecordLaws.{changed-none, changed_then}
 use Rattle.profile_search.proofs.GrowLaws.{stored-length, record_at, stored-kept}
-use Rattle.cycle_search.specs.Layers.{Layers, ComesTo}
+use Rattle.cycle_search.specs.Layers.{First, Layers, ComesTo}
 use Rattle.cycle_search.specs.declared.Sought.{Sought}
 use Rattle.cycle_search.specs.declared.Sought.TheVariants as sought
-use Rattle.cycle_search.proofs.AcceptingLaws.{first-is}
 
 -- The search has come to the layer from number `from` up to number `all`.
 pub record Searching (test : FoundProfile → Bool) (s : Store) (singles : ℕ) (a b : List ℕ) (from all : ℕ) : Type 0 where
@@ -67,23 +57,15 @@ module _ (test : FoundProfile → Bool) (s : Store) (singles : ℕ) (a : List �
     tested p = test (record_of s b p)
 
     -- the accepting profile that is found first in the last layer is the first of all
-    pub search-found : {o : Option ℕ} {p : ℕ} → o ≡ first tested (range from (all - from)) → o ≡ some p
-        → ComesTo test s ones b (sought.Accepting p all)
-    search-found {p = p} q e =
-        let f = first-is tested from (all - from) (sym q ∙ e) in
-        ComesTo.accepting {p = p} k.number k.layers (omega (arith, f.below, k.low)) f.passes
+    pub search-found : {p : ℕ} → First tested from all p → ComesTo test s ones b (sought.Accepting p all)
+    search-found {p} f =
+        ComesTo.accepting {p = p} k.number k.layers f.below f.passes
         (λ i h. elim (dec_lt i from) [ yes l ↦ k.layers.none_passes i l | no n ↦ f.before i (omega arith) h ]) f.from
 
     -- where none is found there, none of all is accepting
-    module _ {o : Option ℕ} (q : o ≡ first tested (range from (all - from))) (e : o ≡ none) where
+    module _ (none : (i : ℕ) → from ≤ i → i < all → tested i ≡ false) where
       none_yet : (p : ℕ) → p < all → tested p ≡ false
-      none_yet p h =
-          elim (dec_lt p from) [
-            | yes l ↦ k.layers.none_passes p l
-            | no n ↦
-                not_of_T (tested p)
-                (first-none tested (range from (all - from)) (sym q ∙ e) (range_in from (all - from) p (omega arith) (omega arith)))
-          ]
+      none_yet p h = elim (dec_lt p from) [ yes l ↦ k.layers.none_passes p l | no n ↦ none p (omega arith) h ]
 
       -- and so none of those that the list with the next layer begins with
       none-listed : (i : ℕ) (x : FoundProfile) → At (profiles_from all s.n ones) i x → i < all → test x ≡ false
@@ -91,7 +73,7 @@ module _ (test : FoundProfile → Bool) (s : Store) (singles : ℕ) (a : List �
           let (more, begins) = found_begin s.n ones from all k.low in
           let long = ap length k.layers.records in
           let there : At (stored s b all) i x =
-          subst⁻¹ (λ (l : List FoundProfile). At l i x) k.layers.records
+          subst (λ (l : List FoundProfile). At l i x) (sym k.layers.records)
           (at_before (profiles_from from s.n ones) more (subst (λ (l : List FoundProfile). At l i x) begins c)
           (omega (arith, long, stored-length s b all))) in
           ap test (at_one there (record_at s b all i h)) ∙ none_yet i h

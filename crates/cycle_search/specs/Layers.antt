@@ -1,14 +1,11 @@
 -- What the search for an accepting cycle promises. It goes by layers: once all profiles of runs of at most l transitions are gone on from,
 -- those of at most l + 1 are there (`count_within`, profile_tables). A reader of the decision's contract need not read it. Assumes nothing.
-use Rattle.std.specs.Prelude.{◌≡◌, Bool, true, false, not, ◌&&◌, List, ℕ, suc, ◌≤◌, ◌<◌, eqb}
-use Rattle.std.proofs.Math.Option.{Option, none, some}
+use Rattle.std.specs.Prelude.{◌≡◌, Bool, true, false, not, ◌&&◌, List, ℕ, suc, ◌≤◌, ◌<◌, eqb, Option, Some, None}
 use Rattle.base.specs.Lists.{At}
 use Rattle.profile_tables.specs.Triples.{rejecting}
 use Rattle.profile_tables.specs.Runs.{FoundProfile, profiles_from, count_within}
 use Rattle.profile_search.specs.Stored.{record_of, stored}
 use Rattle.profile_search.specs.declared.Store.{Store}
-use Rattle.cycle_search.specs.declared.Cycle.{Cycle}
-use Rattle.cycle_search.specs.declared.Cycle.TheVariants as cycle
 use Rattle.cycle_search.specs.declared.Sought.{Sought}
 use Rattle.cycle_search.specs.declared.Sought.TheVariants as sought
 
@@ -17,10 +14,17 @@ unfoldable pub accepts : (ℕ → Bool) → ℕ → FoundProfile → Bool
 unfolding rejecting
 accepts least n x = eqb x.at.first x.at.last && not (rejecting least n x.at.triple_set)
 
--- the number of the profile of an accepting cycle, if there is one
-abbrev pub number_in : Cycle → Option ℕ
-number_in (cycle.Accepting p) = some p
-number_in cycle.None = none
+-- p is the first number from k up to n that passes.
+pub record First (test : ℕ → Bool) (k n p : ℕ) : Type 0 where
+  pub from : k ≤ p
+  pub below : p < n
+  pub passes : test p ≡ true
+  pub before : (i : ℕ) → k ≤ i → i < p → test i ≡ false
+
+-- the first number from k up to n that passes, or none where none does
+abbrev pub FirstOf : (ℕ → Bool) → (k n : ℕ) → Option ℕ → Type 0
+FirstOf test k n (Some p) = First test k n p
+FirstOf test k n None = (i : ℕ) → k ≤ i → i < n → test i ≡ false
 
 -- The store has the first l + 1 layers, whose profiles are `all`, of which the first l have `from`; none of these passes the test.
 pub record Layers (test : FoundProfile → Bool) (s : Store) (ones : List FoundProfile) (area : List ℕ) (l from all : ℕ) : Type 0 where

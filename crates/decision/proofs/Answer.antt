@@ -1,11 +1,8 @@
 -- What the verdict says of the formula is so: MET comes with a lasso over the alphabet that meets it, NOT is given only where no such lasso
 -- meets it, and where nothing is refused the verdict is MET exactly if some such lasso meets the formula. From the laws of the verdict and
 -- the two halves of the core theorem. Assumes nothing.
-use mathlib.Core.Path.{◌≡◌, refl, subst, subst⁻¹}
-use mathlib.Core.Logic.{◌↔◌}
-use mathlib.Core.Bool.{true}
-use mathlib.Core.List.{List}
-use Prim.Native.Nat.{ℕ, ◌≤◌}
+use Rattle.std.proofs.Common.{◌≡◌, refl, subst, ◌↔◌, true, List, ℕ, ◌≤◌}
+use Rattle.std.proofs.Math.Path.{subst⁻¹}
 use Rattle.base.proofs.AskLaws.{Asked, passed, every_outcome}
 use Rattle.formula.specs.Formula.{Formula}
 use Rattle.formula.specs.Table.{Table, table}
@@ -15,6 +12,7 @@ use Rattle.theory.proofs.Soundness.{lasso_of}
 use Rattle.theory.proofs.ReadLaws.{run-such, run_holds, no-lasso}
 use Rattle.decision.specs.Verdict.{Verdict, verdict}
 use Rattle.construction.specs.Construction.{node_count}
+use Rattle.construction.specs.declared.Question.{Question}
 use Rattle.decision.specs.Contract.{Witness, Met, Unmet}
 use Rattle.decision.specs.Lends.{Lends}
 use Rattle.decision.proofs.VerdictLaws.{ProfilesFit, Concluded, From11, DecidedCases, VerdictCases, verdict-answered}
@@ -24,14 +22,14 @@ lasso letters stem = record { letters = letters; stem = stem }
 
 abbrev pub Says : (bytes : List ℕ) → Verdict → Type 0
 Says bytes (Verdict.unread why) = parse bytes ≡ Reading.refused why
-Says bytes (Verdict.refused code) = Unit {0}
+Says bytes (Verdict.refused q) = Unit {0}
 Says bytes (Verdict.satisfiable stem cycle K c letters) = Met bytes stem cycle K c letters
 Says bytes (Verdict.unsatisfiable K P) = Unmet bytes K P
 
 -- the verdict is MET
 abbrev pub IsMet : Verdict → Type 0
 IsMet (Verdict.unread why) = ⊥
-IsMet (Verdict.refused code) = ⊥
+IsMet (Verdict.refused q) = ⊥
 IsMet (Verdict.satisfiable stem cycle K c letters) = Unit {0}
 IsMet (Verdict.unsatisfiable K P) = ⊥
 
@@ -88,8 +86,8 @@ module _ (bytes : List ℕ) (f : Formula) (reads : parse bytes ≡ Reading.accep
         profiles_counted = refl;
       }
 
-  asked-says : {Question : Type 0} {code : ℕ} {After : Verdict → Type 0} → ((o : Verdict) → After o → Says bytes o)
-      → (o : Verdict) → Asked Question (Verdict.refused code) After o → Says bytes o
+  asked-says : {Yes : Type 0} {q : Question} {After : Verdict → Type 0} → ((o : Verdict) → After o → Says bytes o)
+      → (o : Verdict) → Asked Yes (Verdict.refused q) After o → Says bytes o
   asked-says s = every_outcome (Says bytes) tt (λ q. s)
 
   decided-says : {N M workspace buffer : ℕ} {o : Verdict} → DecidedCases N M workspace buffer (table f) o → Says bytes o

@@ -1,13 +1,11 @@
 -- How large the numbers of a verdict are. Where one is given N bounds K and M bounds the profiles that it counts, a witness has fewer than
 -- K positions before its cycle and at most as many in it as these profiles are, and its letters have sixteen bits; a refusal's number is
 -- at most 15, and the places of a refusal of reading at most 97. Assumes nothing.
-use mathlib.Core.Path.{◌≡◌, refl, sym, subst⁻¹, ◌∙◌}
-use mathlib.Core.Logic.{inl, inr}
+use Rattle.std.proofs.Common.{◌≡◌, refl, sym, ◌∙◌, inl, inr, List, [], ◌∷◌, ◌++◌, map, ℕ, ◌≤◌, ◌<◌, Ok, Err, arith, length}
+use Rattle.std.proofs.Math.ListN.{length-map}
+use Rattle.std.proofs.Math.Path.{subst⁻¹}
+use mathlib.Core.List.{map-append, Memᴰ}
 use mathlib.Core.List.Memᴰ
-use mathlib.Core.List.{List, [], ◌∷◌, ◌++◌, map, map-append, Memᴰ}
-use Prim.Native.Nat.{ℕ, ◌≤◌, ◌<◌}
-use native.Mathlib.Omega.{arith}
-use lib.ListN.{length, length-map}
 use Rattle.base.proofs.AskLaws.{Asked, every_outcome}
 use Rattle.formula.specs.Formula.{Formula}
 use Rattle.formula.specs.Table.{Table}
@@ -22,9 +20,11 @@ use Rattle.tableau.proofs.TransitionLaws.{letter_bound}
 use Rattle.profile.proofs.CycleLaws.{run_along}
 use Rattle.decision.specs.Verdict.{Verdict, verdict}
 use Rattle.construction.specs.Construction.{node_count}
-use Rattle.decision.specs.Contract.{says, Witness, Decided}
-use Rattle.decision.specs.declared.Verdict as code
-use Rattle.decision.specs.declared.Verdict.TheVariants.{Satisfiable, Unsatisfiable, Refused, Unread}
+use Rattle.construction.specs.Questions.{question_code}
+use Rattle.construction.specs.declared.Question.{Question}
+use Rattle.construction.specs.declared.Refusal.TheVariants.{Unread, No}
+use Rattle.decision.specs.Contract.{Answer, says, Witness, Decided}
+use Rattle.decision.specs.declared.Verdict.TheVariants.{Satisfiable, Unsatisfiable}
 use Rattle.decision.specs.Lends.{Capacity}
 use Rattle.decision.proofs.VerdictLaws.{ProfilesFit, Concluded, witness-shortest, fit-met, fit-unmet, VerdictCases}
 use Rattle.decision.proofs.VerdictLaws.{verdict-answered}
@@ -36,16 +36,16 @@ pub record AnswerSized (N M stem cycle K P : ℕ) : Type 0 where
   pub nodes-few : K ≤ N
   pub profiles-few : P ≤ M
 
-abbrev pub Bounded : (N M : ℕ) → code.Verdict → Type 0
-Bounded N M (Satisfiable stem cycle K P) = AnswerSized N M stem cycle K P
-Bounded N M (Unsatisfiable K P) = AnswerSized N M 0 0 K P
-Bounded N M (Refused code) = code ≤ 15
-Bounded N M (Unread why) = (code_of why ≤ 9) × PlacesWithin 97 why
+abbrev pub Bounded : (N M : ℕ) → Answer → Type 0
+Bounded N M (Ok (Satisfiable stem cycle K P)) = AnswerSized N M stem cycle K P
+Bounded N M (Ok (Unsatisfiable K P)) = AnswerSized N M 0 0 K P
+Bounded N M (Err (No q)) = question_code q ≤ 15
+Bounded N M (Err (Unread why)) = (code_of why ≤ 9) × PlacesWithin 97 why
 
 module _ {N M : ℕ} where
-  asked_bounded : {Question : Type 0} {code : ℕ} {After : Verdict → Type 0} → code ≤ 15
-      → (Question → (o : Verdict) → After o → Bounded N M (says o))
-      → (o : Verdict) → Asked Question (Verdict.refused code) After o → Bounded N M (says o)
+  asked_bounded : {Yes : Type 0} {q : Question} {After : Verdict → Type 0} → question_code q ≤ 15
+      → (Yes → (o : Verdict) → After o → Bounded N M (says o))
+      → (o : Verdict) → Asked Yes (Verdict.refused q) After o → Bounded N M (says o)
   asked_bounded h s = every_outcome (λ o. Bounded N M (says o)) h s
 
   concluded_bounded : (t : Table) → Capacity N M → node_count t ≤ N → ProfilesFit t M → (o : Verdict) → Concluded t o
@@ -84,7 +84,7 @@ verdict_bounded N M workspace buffer bytes =
     answered_bounded bytes refl (verdict N M workspace buffer bytes) (verdict-answered N M workspace buffer bytes)
 
 -- and so is what the decision answers.
-pub decided_bounded : {bytes : List ℕ} {N M : ℕ} {w w' b b' : List ℕ} {v : code.Verdict} → Decided bytes N M w w' b b' v → Bounded N M v
+pub decided_bounded : {bytes : List ℕ} {N M : ℕ} {w w' b b' : List ℕ} {v : Answer} → Decided bytes N M w w' b b' v → Bounded N M v
 decided_bounded {bytes} {N} {M} {w} {b} d =
     subst⁻¹ (Bounded N M) d.answered (verdict_bounded N M (length w) (length b) bytes)
 

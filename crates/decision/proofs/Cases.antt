@@ -1,9 +1,7 @@
 -- The starred cases of MEANING 5.9, those without a star, those of the scale flags, the examples of capacities, and formulas where
 -- several runs are as short, as statements that the definitions compute through the reading of the bytes. Assumes nothing.
-use mathlib.Core.Path.{◌≡◌, refl}
-use mathlib.Core.Option.{Option, none, some}
-use mathlib.Core.List.{List, [], ◌∷◌, ◌++◌, map}
-use Prim.Native.Nat.{ℕ}
+use Rattle.std.proofs.Common.{◌≡◌, refl, List, [], ◌∷◌, ◌++◌, map, ℕ}
+use Rattle.std.proofs.Math.Option.{Option, none, some}
 use Rattle.base.specs.Search.{Item}
 use Rattle.formula.specs.Formula.{Formula}
 use Rattle.formula.specs.Table.{Table, table}
@@ -13,6 +11,7 @@ use Rattle.tableau.specs.Transition.{Transition}
 use Rattle.tableau.specs.Nodes.{nodes, stem_to}
 use Rattle.tableau.specs.Foremost.{choice_words}
 use Rattle.profile.specs.Profiles.{Profile, profiles, rejecting}
+use Rattle.construction.specs.declared.Question.TheVariants.{Nodes, Profiles}
 use Rattle.decision.specs.Verdict.{Verdict, verdict}
 use Rattle.decision.specs.Inner.{found_in}
 
@@ -103,14 +102,14 @@ with_room N M b o = record { nodes = N; profiles = M; bytes = b; outcome = o }
 -- which there is none, likewise; F with N = 2 and M = 1.
 abbrev pub sized : List Sized
 sized =
-    with_room 1 300 (0x01 ∷ []) (Verdict.refused 14)
-    ∷ with_room 256 3 F (Verdict.refused 15)
+    with_room 1 300 (0x01 ∷ []) (Verdict.refused Nodes)
+    ∷ with_room 256 3 F (Verdict.refused Profiles)
     ∷ with_room 256 4 F (Verdict.satisfiable 1 1 3 4 (0x4001 ∷ 0x4001 ∷ []))
-    ∷ with_room 256 3 H (Verdict.refused 15)
+    ∷ with_room 256 3 H (Verdict.refused Profiles)
     ∷ with_room 256 4 H (Verdict.satisfiable 1 2 3 4 (0x4001 ∷ 0x4000 ∷ 0x4001 ∷ []))
-    ∷ with_room 256 5 I (Verdict.refused 15)
+    ∷ with_room 256 5 I (Verdict.refused Profiles)
     ∷ with_room 256 6 I (Verdict.unsatisfiable 3 6)
-    ∷ with_room 2 1 F (Verdict.refused 14)
+    ∷ with_room 2 1 F (Verdict.refused Nodes)
     ∷ []
 
 pub sized_cases : map (λ (c : Sized). verdict c.nodes c.profiles 59648 556 c.bytes) sized ≡ map (λ (c : Sized). c.outcome) sized

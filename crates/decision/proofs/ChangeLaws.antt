@@ -1,11 +1,7 @@
 -- An area that changed at most from one byte up to another: what lies before and behind is the same (`front_same`, `back-same`). Assumes
 -- nothing.
-use mathlib.Core.Path.{◌≡◌, sym, ap, ◌∙◌}
-use mathlib.Core.List.{List}
-use Prim.Native.Nat.{ℕ, ◌+◌, ◌-◌, ◌≤◌, ◌<◌, min}
-use native.Mathlib.Omega.{arith}
-use lib.ListN.{length, take, drop, length-take, length-drop}
-use lib.Seq.{get_or-take, get_or-drop, ext_get_or}
+use Rattle.std.proofs.Common.{◌≡◌, sym, ap, ◌∙◌, List, ℕ, ◌+◌, ◌-◌, ◌≤◌, ◌<◌, min, arith, take, drop, length-take, length-drop}
+use Rattle.std.proofs.Common.{get_or-take, get_or-drop, ext_get_or}
 use Rattle.profile_search.specs.Stored.{BytesBetween}
 
 module _ {from to : ℕ} {a b : List ℕ} (ch : BytesBetween from to a b) where

@@ -3,14 +3,12 @@
 -- those of the way to its first node. It stands in the last layer, so all that are kept are the profiles of runs no longer than its own:
 -- what the definition counts. Where there is no room for a layer, and none before it has an accepting profile, the definition counts at
 -- least the profiles up to this layer, whether or not it finds an accepting one behind them. Assumes nothing.
-use mathlib.Core.Path.{◌≡◌, refl, sym, ap, subst⁻¹, ◌∙◌}
-use mathlib.Core.Bool.{Bool, true, false}
-use mathlib.Core.Option.{Option, none, some}
-use mathlib.Core.List.{List, [], ◌++◌, map, map-append}
-use Prim.Native.Nat.{ℕ, suc, ◌+◌, ◌≤◌, ◌<◌}
-use native.Mathlib.Omega.{arith}
-use lib.Dec.{T}
-use lib.ListN.{length, length-append, length-map, drop}
+use Rattle.std.proofs.Common.{◌≡◌, refl, sym, ap, ◌∙◌, Bool, true, false, List, [], ◌++◌, map, ℕ, suc, ◌+◌, ◌≤◌, ◌<◌, arith, T, length}
+use Rattle.std.proofs.Common.{length-append, drop, Ok}
+use Rattle.std.proofs.Math.ListN.{length-map}
+use Rattle.std.proofs.Math.Option.{Option, none, some}
+use Rattle.std.proofs.Math.Path.{subst⁻¹}
+use mathlib.Core.List.{map-append}
 use Rattle.base.proofs.BoolLaws.{to_T, of_T}
 use Rattle.base.proofs.At.{At, at_lt, at_get, at_in, at_one, at_unmap}
 use Rattle.base.proofs.WithinLaws.{within-few, within_more}
@@ -40,7 +38,7 @@ use Rattle.witness.proofs.StemLaws.{origins-noted, stem_is}
 use Rattle.witness.proofs.CycleLaws.{counterpart, agreed_linked, cycle_is}
 use Rattle.decision.specs.Verdict.{counted, conclude}
 use Rattle.construction.specs.Construction.{node_count}
-use Rattle.decision.specs.declared.Verdict as code
+use Rattle.decision.specs.Contract.{Answer}
 use Rattle.decision.specs.declared.Verdict.TheVariants.{Satisfiable, Unsatisfiable}
 use Rattle.decision.specs.Inner.{Decoded, Profiled, Ready, Told, Answers, found_in, needed, concluded, onward}
 use Rattle.decision.proofs.SettleLaws.{answers_15, answers-on}
@@ -172,12 +170,12 @@ module _ {rows : List ℕ} {count : ℕ} {origins area : List ℕ} {s : Store} {
 
         -- the witness of this profile, written, is the answer
         witness-answers : {buffer after : List ℕ} {w : Lengths} → WitnessWritten origins s area p buffer after w
-            → Answers (concluded t) buffer after (Satisfiable w.stem w.cycle K all)
+            → Answers (concluded t) buffer after (Ok (Satisfiable w.stem w.cycle K all))
         witness-answers {buffer} {after} {w} written =
             subst⁻¹ (λ (o : Option ItemListed). Answers (conclude (nodes t) (counted o listed) o) buffer after
-            (Satisfiable w.stem w.cycle K all)) is_found
+            (Ok (Satisfiable w.stem w.cycle K all))) is_found
             (record {
-              answered = λ i. Satisfiable (stem-long i) (cycle-long i) (h.nodes_are i) (all-counted i);
+              answered = λ i. Ok (Satisfiable (stem-long i) (cycle-long i) (h.nodes_are i) (all-counted i));
               buffered = written.buffer_is ∙ over_runs stem item.way buffer stem-same cycle-same;
             })
           where
@@ -212,11 +210,11 @@ module _ {rows : List ℕ} {count : ℕ} {origins area : List ℕ} {s : Store} {
       needed-listed : needed t ≡ all
       needed-listed = ap (λ (o : Option ItemListed). length (counted o listed)) is_none ∙ sym all-kept
 
-      none_answers : (buffer : List ℕ) → Answers (concluded t) buffer buffer (Unsatisfiable K all)
+      none_answers : (buffer : List ℕ) → Answers (concluded t) buffer buffer (Ok (Unsatisfiable K all))
       none_answers buffer =
-          subst⁻¹ (λ (o : Option ItemListed). Answers (conclude (nodes t) (counted o listed) o) buffer buffer (Unsatisfiable K all))
+          subst⁻¹ (λ (o : Option ItemListed). Answers (conclude (nodes t) (counted o listed) o) buffer buffer (Ok (Unsatisfiable K all)))
           is_none
-          (record { answered = λ i. Unsatisfiable (h.nodes_are i) (all-kept i); buffered = refl })
+          (record { answered = λ i. Ok (Unsatisfiable (h.nodes_are i) (all-kept i)); buffered = refl })
 
     -- There is no room for the first l + 1 layers, and none of the first l has an accepting profile.
     module _ (l : ℕ) (full : s.capacity < end (suc l))
@@ -245,7 +243,7 @@ module _ {rows : List ℕ} {count : ℕ} {origins area : List ℕ} {s : Store} {
           by (ComesTo.nowhere l y) = tt
           by (ComesTo.no_room l full none_passes) = tt
 
-      pub told-answers : {buffer after : List ℕ} {r : code.Verdict} → Told origins s area K found buffer after r
+      pub told-answers : {buffer after : List ℕ} {r : Answer} → Told origins s area K found buffer after r
           → Answers (onward M t) buffer after r
       told-answers {buffer} {after} {r} = by h.comes_to
         where
@@ -256,8 +254,8 @@ module _ {rows : List ℕ} {count : ℕ} {origins area : List ℕ} {s : Store} {
               (subst⁻¹ (Answers (concluded t) buffer after) e (witness-answers y low passes before late written))
           by (ComesTo.nowhere {all} l y) (e, q) =
               answers-on M t (omega (arith, needed-listed y, y.room))
-              (subst⁻¹ (λ (x : List ℕ × code.Verdict). Answers (concluded t) buffer x.0 x.1) (λ i. (e i, q i))
+              (subst⁻¹ (λ (x : List ℕ × Answer). Answers (concluded t) buffer x.0 x.1) (λ i. (e i, q i))
               (none_answers y buffer))
           by (ComesTo.no_room l full none_passes) (e, q) =
-              subst⁻¹ (λ (x : List ℕ × code.Verdict). Answers (onward M t) buffer x.0 x.1) (λ i. (e i, q i))
+              subst⁻¹ (λ (x : List ℕ × Answer). Answers (onward M t) buffer x.0 x.1) (λ i. (e i, q i))
               (answers_15 M t (omega (arith, more-needed l full none_passes (found_in t) refl)) buffer)

@@ -6,24 +6,20 @@
 -- such lasso meets the formula, there is a shortest accepting cycle, and if c of its length is at most M, the verdict is MET with a short
 -- witness (`met-short`). More room never alters MET or NOT (`more_room`, `more_room_decided`), and the inputs settle the rest too
 -- (`decided-settled`). Assumes nothing.
-use mathlib.Core.Path.{◌≡◌, refl, sym, ap, subst, subst⁻¹, ◌∙◌}
-use mathlib.Core.Logic.{◌↔◌}
-use mathlib.Core.Bool.{true}
-use mathlib.Core.List.{List}
-use Prim.Native.Nat.{ℕ, ◌≤◌, ◌<◌}
-use native.Mathlib.Omega.{arith}
-use lib.ListN.{length}
+use Rattle.std.proofs.Common.{◌≡◌, refl, sym, ap, subst, ◌∙◌, ◌↔◌, true, List, ℕ, ◌≤◌, ◌<◌, Ok, Err, arith, length}
+use Rattle.std.proofs.Math.Path.{subst⁻¹}
 use Rattle.base.proofs.AskLaws.{Asked, first_refusal, passed, settled}
 use Rattle.formula.specs.Formula.{Formula}
 use Rattle.formula.specs.Table.{Table, table}
 use Rattle.formula.specs.Reading.{Reading, parse}
 use Rattle.lasso.specs.Lasso.{Lasso, over_alphabet, meets}
 use Rattle.theory.proofs.ReadLaws.{no-lasso}
+use Rattle.construction.specs.declared.Question.TheVariants.{Nodes, Profiles}
 use Rattle.decision.specs.Verdict.{Verdict, after_reading, verdict}
 use Rattle.construction.specs.Construction.{node_count}
-use Rattle.decision.specs.Contract.{says, profile_count, profile_count_within, Witness, leaves, Decided}
-use Rattle.decision.specs.declared.Verdict as code
-use Rattle.decision.specs.declared.Verdict.TheVariants.{Satisfiable, Unsatisfiable, Refused, Unread}
+use Rattle.construction.specs.Questions.{question_code}
+use Rattle.construction.specs.declared.Question.{Question}
+use Rattle.decision.specs.Contract.{Answer, says, profile_count, profile_count_within, Witness, leaves, Decided}
 use Rattle.decision.specs.Lends.{Lends}
 use Rattle.decision.proofs.VerdictLaws.{Shortest, ProfilesFit, Concluded, witness-shortest, one-shortest}
 use Rattle.decision.proofs.VerdictLaws.{From14, questions, asked-all}
@@ -33,21 +29,21 @@ use Rattle.decision.proofs.Answer.{lasso, past_13, read_of, witness-such, witnes
 -- the verdict is no refusal
 abbrev pub IsAnswer : Verdict → Type 0
 IsAnswer (Verdict.unread why) = ⊥
-IsAnswer (Verdict.refused code) = ⊥
+IsAnswer (Verdict.refused q) = ⊥
 IsAnswer (Verdict.satisfiable stem cycle K c letters) = Unit {0}
 IsAnswer (Verdict.unsatisfiable K P) = Unit {0}
 
 -- the verdict is NOT
 abbrev pub IsNot : Verdict → Type 0
 IsNot (Verdict.unread why) = ⊥
-IsNot (Verdict.refused code) = ⊥
+IsNot (Verdict.refused q) = ⊥
 IsNot (Verdict.satisfiable stem cycle K c letters) = ⊥
 IsNot (Verdict.unsatisfiable K P) = Unit {0}
 
 -- the verdict is no refusal from 1 to 13
 abbrev pub Past13 : Verdict → Type 0
 Past13 (Verdict.unread why) = ⊥
-Past13 (Verdict.refused code) = 14 ≤ code
+Past13 (Verdict.refused q) = 14 ≤ question_code q
 Past13 (Verdict.satisfiable stem cycle K c letters) = Unit {0}
 Past13 (Verdict.unsatisfiable K P) = Unit {0}
 
@@ -75,30 +71,30 @@ abbrev SearchAsked : (N M : ℕ) → Table → Verdict → Type 0
 SearchAsked N M t = From14 N t (ProfilesFit t M) (Concluded t)
 
 -- a question before 14 was answered by yes
-yes-before : {Question : Type 0} {code : ℕ} {After : Verdict → Type 0} {o : Verdict} → Asked Question (Verdict.refused code) After o
-    → code < 14 → Past13 o → Question × After o
+yes-before : {Yes : Type 0} {q : Question} {After : Verdict → Type 0} {o : Verdict} → Asked Yes (Verdict.refused q) After o
+    → question_code q < 14 → Past13 o → Yes × After o
 yes-before a l p = settled a (λ e. before l (subst Past13 e p))
   where
     before : {code : ℕ} → code < 14 → 14 ≤ code → ⊥
     before l k = omega arith
 
-not_refused : {t : Table} {o : Verdict} (code : ℕ) → Concluded t o → o ≡ Verdict.refused code → ⊥
-not_refused code (Concluded.met w) e = let z : ◌≡◌ {A = ℕ} 0 1 = cc in omega arith
-not_refused code (Concluded.unmet n) e = let z : ◌≡◌ {A = ℕ} 0 1 = cc in omega arith
+not_refused : {t : Table} {o : Verdict} {q : Question} → Concluded t o → o ≡ Verdict.refused q → ⊥
+not_refused (Concluded.met w) e = cc
+not_refused (Concluded.unmet n) e = cc
 
-same_code : {a b : ℕ} → Verdict.refused a ≡ Verdict.refused b → a ≡ b
-same_code e = cc
+nodes_apart : Verdict.refused Nodes ≡ Verdict.refused Profiles → ⊥
+nodes_apart e = cc
 
-only_14 : {N M : ℕ} {t : Table} {o : Verdict} → SearchAsked N M t o → o ≡ Verdict.refused 14 → N < node_count t
+only_14 : {N M : ℕ} {t : Table} {o : Verdict} → SearchAsked N M t o → o ≡ Verdict.refused Nodes → N < node_count t
 only_14 (Asked.answered-no n) e = omega arith
-only_14 (Asked.answered-yes q (Asked.answered-no n)) e = absurd (omega (arith, same_code e))
-only_14 (Asked.answered-yes q (Asked.answered-yes r c)) e = absurd (not_refused 14 c e)
+only_14 (Asked.answered-yes q (Asked.answered-no n)) e = absurd (nodes_apart (sym e))
+only_14 (Asked.answered-yes q (Asked.answered-yes r c)) e = absurd (not_refused c e)
 
-only_15 : {N M : ℕ} {t : Table} {o : Verdict} → SearchAsked N M t o → o ≡ Verdict.refused 15
+only_15 : {N M : ℕ} {t : Table} {o : Verdict} → SearchAsked N M t o → o ≡ Verdict.refused Profiles
     → (node_count t ≤ N) × (ProfilesFit t M → ⊥)
-only_15 (Asked.answered-no n) e = absurd (omega (arith, same_code e))
+only_15 (Asked.answered-no n) e = absurd (nodes_apart e)
 only_15 (Asked.answered-yes q (Asked.answered-no n)) e = (q, n)
-only_15 (Asked.answered-yes q (Asked.answered-yes r c)) e = absurd (not_refused 15 c e)
+only_15 (Asked.answered-yes q (Asked.answered-yes r c)) e = absurd (not_refused c e)
 
 past_14 : {N M : ℕ} {t : Table} {o : Verdict} → SearchAsked N M t o → Past13 o
 past_14 (Asked.answered-no n) = omega arith
@@ -108,7 +104,7 @@ past_14 (Asked.answered-yes q (Asked.answered-yes r (Concluded.unmet n))) = tt
 
 pub answer-past : (o : Verdict) → IsAnswer o → Past13 o
 answer-past (Verdict.unread why) h = h
-answer-past (Verdict.refused code) h = absurd h
+answer-past (Verdict.refused q) h = absurd h
 answer-past (Verdict.satisfiable stem cycle K c letters) h = tt
 answer-past (Verdict.unsatisfiable K P) h = tt
 
@@ -154,7 +150,7 @@ module _ (N M workspace buffer : ℕ) (bytes : List ℕ) where
       exactly f e (Concluded.unmet n) = (λ h. no-lasso bytes f e n, λ h. tt)
 
   -- Theorem: the verdict is 14 exactly if nothing of 1 to 13 refuses and K is above N.
-  pub refused_14_exactly : (verdict N M workspace buffer bytes ≡ Verdict.refused 14)
+  pub refused_14_exactly : (verdict N M workspace buffer bytes ≡ Verdict.refused Nodes)
       ↔ ((f : Formula) × Granted N M workspace buffer bytes f × (N < node_count (table f)))
   refused_14_exactly = (
     λ e. let (f, g) = granted_exactly.0 (subst⁻¹ Past13 e (omega arith)) in (f, g, only_14 (from_14 g) e),
@@ -163,7 +159,7 @@ module _ (N M workspace buffer : ℕ) (bytes : List ℕ) where
 
   -- Theorem: the verdict is 15 exactly if nothing of 1 to 13 refuses, K is at most N, P is above M, and so is c of l, l being the length
   -- of a shortest accepting cycle.
-  pub refused_15_exactly : (verdict N M workspace buffer bytes ≡ Verdict.refused 15)
+  pub refused_15_exactly : (verdict N M workspace buffer bytes ≡ Verdict.refused Profiles)
       ↔ ((f : Formula) × Granted N M workspace buffer bytes f × (node_count (table f) ≤ N) × (M < profile_count (table f))
       × ((l : ℕ) → Shortest (table f) l → M < profile_count_within (table f) l))
   refused_15_exactly = (
@@ -215,8 +211,8 @@ module _ (N M workspace buffer : ℕ) (bytes : List ℕ) where
       by (Concluded.unmet n) = absurd (no-lasso bytes f g.reads n c s m)
 
 -- an answer has passed a question
-yes-answered : {Question : Type 0} {code : ℕ} {After : Verdict → Type 0} {o : Verdict} → Asked Question (Verdict.refused code) After o
-    → IsAnswer o → Question × After o
+yes-answered : {Yes : Type 0} {q : Question} {After : Verdict → Type 0} {o : Verdict} → Asked Yes (Verdict.refused q) After o
+    → IsAnswer o → Yes × After o
 yes-answered a h = settled a (λ e. subst IsAnswer e h)
 
 -- More room: N and M may grow, and the areas with them.
@@ -241,20 +237,18 @@ module _ (N M w b N' M' w' b' : ℕ) (nodes-more : N ≤ N') (profiles-more : M 
   more_room bytes h = more_read (parse bytes) h
 
 -- the answer of the operation is MET or NOT
-abbrev pub Answered : code.Verdict → Type 0
-Answered (Satisfiable stem cycle K c) = Unit {0}
-Answered (Unsatisfiable K P) = Unit {0}
-Answered (Refused code) = ⊥
-Answered (Unread why) = ⊥
+abbrev pub Answered : Answer → Type 0
+Answered (Ok v) = Unit {0}
+Answered (Err why) = ⊥
 
 answered-is : (v : Verdict) → Answered (says v) → IsAnswer v
 answered-is (Verdict.unread why) h = h
-answered-is (Verdict.refused code) h = h
+answered-is (Verdict.refused q) h = h
 answered-is (Verdict.satisfiable stem cycle K c letters) h = tt
 answered-is (Verdict.unsatisfiable K P) h = tt
 
 -- Theorem: so it is with the operation itself, whose answer and whose witness are the same.
-pub more_room_decided : {bytes : List ℕ} {N M N' M' : ℕ} {w w₁ b b₁ w' w₁' b' b₁' : List ℕ} {r r' : code.Verdict} → N ≤ N' → M ≤ M'
+pub more_room_decided : {bytes : List ℕ} {N M N' M' : ℕ} {w w₁ b b₁ w' w₁' b' b₁' : List ℕ} {r r' : Answer} → N ≤ N' → M ≤ M'
     → Lends N' M' (length w') (length b') → Decided bytes N M w w₁ b b₁ r → Decided bytes N' M' w' w₁' b' b₁' r' → Answered r
     → (r' ≡ r) × (b₁' ≡ leaves (verdict N M (length w) (length b) bytes) b')
 more_room_decided {bytes} {N} {M} {N'} {M'} {w} {b = b} {w' = w'} {b' = b'} n m l d e h =
@@ -266,6 +260,6 @@ more_room_decided {bytes} {N} {M} {N'} {M'} {w} {b = b} {w' = w'} {b' = b'} n m 
     )
 
 -- Theorem (MEANING 5.8): two calls with the same inputs answer the same, and leave the same in both areas.
-pub decided-settled : {bytes : List ℕ} {N M : ℕ} {w w₁ w₂ b b₁ b₂ : List ℕ} {r s : code.Verdict} → Decided bytes N M w w₁ b b₁ r
+pub decided-settled : {bytes : List ℕ} {N M : ℕ} {w w₁ w₂ b b₁ b₂ : List ℕ} {r s : Answer} → Decided bytes N M w w₁ b b₁ r
     → Decided bytes N M w w₂ b b₂ s → (r ≡ s) × (b₁ ≡ b₂) × (w₁ ≡ w₂)
 decided-settled d e = (d.answered ∙ sym e.answered, d.buffered ∙ sym e.buffered, d.worked ∙ sym e.worked)

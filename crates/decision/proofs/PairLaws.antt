@@ -2,12 +2,11 @@
 -- asks them, both come to the same verdict for every input (`pair_is_decision`); and of two calls, one after the other, the answer and the
 -- buffer are the decision's, and so is the workspace once what the two left in it is cleared away (`two_in_a_row`). Question 36 never
 -- refuses in between, as it accepts what building leaves. Assumes nothing.
-use mathlib.Core.Path.{◌≡◌, refl, sym, ap, subst, subst⁻¹, ◌∙◌}
-use mathlib.Core.List.{List, ◌++◌, append_assoc}
-use Prim.Native.Nat.{ℕ, ◌+◌, ◌≤◌}
-use native.Mathlib.Omega.{arith}
-use lib.ListN.{length, take, drop, length-append, length-take, length-drop, length-replicate, replicate-append-replicate}
-use lib.Seq.{drop_at, drop-append-add, drop-drop}
+use Rattle.std.proofs.Common.{◌≡◌, refl, sym, ap, subst, ◌∙◌, List, ◌++◌, append_assoc, ℕ, ◌+◌, ◌≤◌, arith, length, take, drop}
+use Rattle.std.proofs.Common.{length-append, length-take, length-drop, Result, Ok, Err, drop_at, drop-drop}
+use Rattle.std.proofs.Math.ListN.{length-replicate, replicate-append-replicate}
+use Rattle.std.proofs.Math.Path.{subst⁻¹}
+use Rattle.std.proofs.Math.Seq.{drop-append-add}
 use Rattle.base.proofs.AskLaws.{Asked, first_refusal, passed}
 use Rattle.formula.specs.Formula.{Formula}
 use Rattle.formula.specs.Table.{Table, table}
@@ -19,18 +18,17 @@ use Rattle.construction.specs.Construction.{Construction, node_count, node_words
 use Rattle.construction.specs.Construction as building
 use Rattle.construction.specs.Contract as built
 use Rattle.construction.specs.Contract.{Constructed}
-use Rattle.construction.specs.declared.Construction as built-code
-use Rattle.construction.specs.declared.Construction.TheVariants as answer
+use Rattle.construction.specs.declared.Refusal as code
+use Rattle.construction.specs.declared.Refusal.TheVariants.{Unread, No}
 use Rattle.construction.proofs.LayoutLaws.{words_count, laid_length, cleared_front}
 use Rattle.construction.proofs.BuildLaws.{room-asked}
 use Rattle.construction.proofs.CheckLaws.{built-nodes}
-use Rattle.decision.specs.Verdict.{Verdict, decide, search, profiles_size, workspace_size, ask_capacities, after_reading, verdict}
+use Rattle.construction.specs.declared.Question.TheVariants.{Nodes}
+use Rattle.decision.specs.Verdict.{Verdict, decide, profiles_size, workspace_size, ask_capacities, after_reading, verdict}
 use Rattle.decision.specs.Verdict.{search_verdict, search_built, pair_verdict}
 use Rattle.decision.specs.Lends.{Lends}
-use Rattle.decision.specs.Contract.{says, leaves, cleared, zeroed, emptied, kept, Decided, Searched}
+use Rattle.decision.specs.Contract.{Answer, says, leaves, cleared, zeroed, emptied, kept, Decided, Searched}
 use Rattle.decision.specs.Inner.{onward}
-use Rattle.decision.specs.declared.Verdict as code
-use Rattle.decision.specs.declared.Verdict.TheVariants.{Refused, Unread}
 use Rattle.decision.proofs.VerdictLaws.{questions}
 use Rattle.decision.proofs.Answer.{past_13}
 use Rattle.decision.proofs.SettleLaws.{asked_of, from_14, onward_empties, decided_clears, unread-decided}
@@ -63,7 +61,7 @@ module _ (N M : ℕ) (w : List ℕ) (buffer : ℕ) (bytes : List ℕ) (f : Formu
   unfolding construction
   builds = ap (building.after_reading N (length w)) p
 
-  from-room : Asked (node_count t ≤ N) (Construction.refused 14) (λ o. o ≡ Construction.built (node_words t)) (ask_room N (length w) t)
+  from-room : Asked (node_count t ≤ N) (Construction.refused Nodes) (λ o. o ≡ Construction.built (node_words t)) (ask_room N (length w) t)
   from-room = passed (passed (room-asked N (length w) t) (l.capacity.some_nodes, l.capacity.few_nodes)) fits-room
 
   -- Question 36 accepts what building left, so the search over it is the decision.
@@ -80,7 +78,7 @@ module _ (N M : ℕ) (w : List ℕ) (buffer : ℕ) (bytes : List ℕ) (f : Formu
   pair-decide : pair_verdict N M w buffer bytes ≡ decide N M t
   pair-decide = ap (search_built N M w buffer bytes) builds ∙ by from-room
     where
-      by : {o : Construction} → Asked (node_count t ≤ N) (Construction.refused 14) (λ o. o ≡ Construction.built (node_words t)) o
+      by : {o : Construction} → Asked (node_count t ≤ N) (Construction.refused Nodes) (λ o. o ≡ Construction.built (node_words t)) o
           → search_built N M w buffer bytes o ≡ decide N M t
       by (Asked.answered-no n) = sym (first_refusal (from_14 N M t) n)
       by (Asked.answered-yes few e) = ap (search_built N M w buffer bytes) e ∙ search-left few ∙ verdict-is
@@ -130,7 +128,7 @@ module _ (N M : ℕ) (w : List ℕ) (t : Table) (room : nodes_size N ≤ length 
 -- Of two calls, one after the other, where 11 to 13 grant all.
 module _ (bytes : List ℕ) (N M : ℕ) (w b : List ℕ) (l : Lends N M (length w) (length b)) where
   -- the decision's promise, of what comes to its verdict
-  promised : (f : Formula) (p : parse bytes ≡ Reading.accepted f) {v : Verdict} {w' b' : List ℕ} {r : code.Verdict}
+  promised : (f : Formula) (p : parse bytes ≡ Reading.accepted f) {v : Verdict} {w' b' : List ℕ} {r : Answer}
       → decide N M (table f) ≡ v → r ≡ says v → b' ≡ leaves v b → w' ≡ zeroed N M w → Decided bytes N M w w' b b' r
   promised f p e a c z =
       let q = verdict-is N M w (length b) bytes f p l in
@@ -143,7 +141,7 @@ module _ (bytes : List ℕ) (N M : ℕ) (w b : List ℕ) (l : Lends N M (length 
   -- what building comes to here
   data Made : Construction → Type 0 where
     not_read : {why : Refusal} → parse bytes ≡ Reading.refused why → Made (Construction.unread why)
-    too_many : (f : Formula) → parse bytes ≡ Reading.accepted f → (node_count (table f) ≤ N → ⊥) → Made (Construction.refused 14)
+    too_many : (f : Formula) → parse bytes ≡ Reading.accepted f → (node_count (table f) ≤ N → ⊥) → Made (Construction.refused Nodes)
     nodes-left : (f : Formula) → parse bytes ≡ Reading.accepted f → node_count (table f) ≤ N
         → Made (Construction.built (node_words (table f)))
 
@@ -152,7 +150,7 @@ module _ (bytes : List ℕ) (N M : ℕ) (w b : List ℕ) (l : Lends N M (length 
   made_cases = by (parse bytes) refl
     where
       asked-room : (f : Formula) → parse bytes ≡ Reading.accepted f → {o : Construction}
-          → Asked (node_count (table f) ≤ N) (Construction.refused 14) (λ o. o ≡ Construction.built (node_words (table f))) o → Made o
+          → Asked (node_count (table f) ≤ N) (Construction.refused Nodes) (λ o. o ≡ Construction.built (node_words (table f))) o → Made o
       asked-room f p (Asked.answered-no n) = Made.too_many f p n
       asked-room f p (Asked.answered-yes few e) = subst⁻¹ Made e (Made.nodes-left f p few)
 
@@ -162,15 +160,15 @@ module _ (bytes : List ℕ) (N M : ℕ) (w b : List ℕ) (l : Lends N M (length 
 
   -- What a call of building leaves to be done, by its answer, so that it is the decision: nothing where the bytes are not read; after 14
   -- the rest of the bytes is cleared; after K nodes comes a search, whatever it answers, and the nodes are cleared.
-  abbrev pub InARow : built-code.Construction → (left : List ℕ) → Type 0
-  InARow (answer.Unread why) w₁ = Decided bytes N M w w₁ b b (Unread why)
-  InARow (answer.Refused c) w₁ = Decided bytes N M w (area.cleared 0 (workspace_size N M) w₁) b b (Refused c)
-  InARow (answer.Built K) w₁ =
-      (w₂ b₂ : List ℕ) (r : code.Verdict) → Searched bytes K N M w₁ w₂ b b₂ r
+  abbrev pub InARow : Result ℕ code.Refusal → (left : List ℕ) → Type 0
+  InARow (Err (Unread why)) w₁ = Decided bytes N M w w₁ b b (Err (Unread why))
+  InARow (Err (No q)) w₁ = Decided bytes N M w (area.cleared 0 (workspace_size N M) w₁) b b (Err (No q))
+  InARow (Ok K) w₁ =
+      (w₂ b₂ : List ℕ) (r : Answer) → Searched bytes K N M w₁ w₂ b b₂ r
       → Decided bytes N M w (area.cleared 0 (nodes_size N) w₂) b b₂ r
 
   searched-on : (f : Formula) (p : parse bytes ≡ Reading.accepted f) → node_count (table f) ≤ N
-      → InARow (answer.Built (length (node_words (table f)))) (built.leaves N (Construction.built (node_words (table f))) w)
+      → InARow (Ok (length (node_words (table f)))) (built.leaves N (Construction.built (node_words (table f))) w)
   searched-on f p few w₂ b₂ r s =
       promised f p (passed (from_14 N M t) few) (s.answered ∙ ap says on) (s.buffered ∙ ap (λ (v : Verdict). leaves v b) on)
       (ap (area.cleared 0 (nodes_size N)) (s.worked ∙ ap (λ (v : Verdict). kept N M v left) on ∙ onward_empties M t N left)
@@ -187,9 +185,9 @@ module _ (bytes : List ℕ) (N M : ℕ) (w b : List ℕ) (l : Lends N M (length 
           search-left N M w (length b) bytes f p l few ∙ verdict-is N M w (length b) bytes f p l ∙ passed (from_14 N M t) few
 
   -- Theorem: a call of building, and what its answer leaves to be done, are the decision.
-  pub two_in_a_row : {w₁ : List ℕ} {a : built-code.Construction} → Constructed bytes N w w₁ a → InARow a w₁
+  pub two_in_a_row : {w₁ : List ℕ} {a : Result ℕ code.Refusal} → Constructed bytes N w w₁ a → InARow a w₁
   two_in_a_row c =
-      subst⁻¹ (λ (x : built-code.Construction × List ℕ). InARow x.0 x.1) (λ i. (c.answered i, c.worked i)) (each made_cases)
+      subst⁻¹ (λ (x : Result ℕ code.Refusal × List ℕ). InARow x.0 x.1) (λ i. (c.answered i, c.worked i)) (each made_cases)
     where
       emptied_front : List ℕ
       emptied_front = zeros (nodes_size N) ++ drop (nodes_size N) w
@@ -207,5 +205,5 @@ module _ (bytes : List ℕ) (N M : ℕ) (w b : List ℕ) (l : Lends N M (length 
       each (Made.nodes-left f p few) = searched-on f p few
 
   -- the same by what building answered
-  pub in_a_row : {w₁ : List ℕ} {a x : built-code.Construction} → Constructed bytes N w w₁ a → a ≡ x → InARow x w₁
-  in_a_row {w₁} c e = subst (λ (x : built-code.Construction). InARow x w₁) e (two_in_a_row c)
+  pub in_a_row : {w₁ : List ℕ} {a x : Result ℕ code.Refusal} → Constructed bytes N w w₁ a → a ≡ x → InARow x w₁
+  in_a_row {w₁} c e = subst (λ (x : Result ℕ code.Refusal). InARow x w₁) e (two_in_a_row c)

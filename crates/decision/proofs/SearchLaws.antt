@@ -1,25 +1,19 @@
 -- What a search comes to. Where question 36 is answered by yes it is the decision (`search_as_decision`), so all that is proved of the
 -- decision's verdict holds of the search's; where it is answered by no, and nothing before it refuses, it is 36 (`refused_36_exactly`), and
 -- it is nothing else (`search-either`). A search leaves the nodes as they were, so another one finds them (`nodes-stay`). Assumes nothing.
-use mathlib.Core.Path.{◌≡◌, refl, sym, ap, subst, ◌∙◌}
-use mathlib.Core.Logic.{◌↔◌, ◌⊎◌, inl, inr}
-use mathlib.Core.Bool.{Bool, true, false, cond}
-use mathlib.Core.List.{List, ◌++◌}
-use Prim.Native.Nat.{ℕ, ◌≤◌}
-use native.Mathlib.Omega.{arith}
-use lib.Dec.{eqb}
-use lib.ListN.{length, take, length-take}
-use lib.Seq.{take_at}
+use Rattle.std.proofs.Common.{◌≡◌, refl, sym, ap, subst, ◌∙◌, ◌↔◌, ◌⊎◌, inl, inr, Bool, true, false, cond, List, ℕ, ◌≤◌, arith, eqb}
+use Rattle.std.proofs.Common.{length, take, length-take, take_at}
 use Rattle.base.proofs.AskLaws.{Asked, first_refusal, passed}
 use Rattle.formula.specs.Formula.{Formula}
 use Rattle.formula.specs.Table.{Table, table}
 use Rattle.formula.specs.Reading.{Reading, parse}
 use Rattle.construction.specs.Construction.{nodes_size, are_nodes}
+use Rattle.construction.specs.Questions.{question_code}
 use Rattle.construction.proofs.CheckLaws.{HasNodes, nodes_exactly}
-use Rattle.decision.specs.Verdict.{Verdict, decide, search, workspace_size, ask_capacities, after_reading, verdict, search_verdict}
+use Rattle.construction.specs.declared.Question.TheVariants.{Built}
+use Rattle.decision.specs.Verdict.{Verdict, decide, search, ask_capacities, after_reading, verdict, search_verdict}
 use Rattle.decision.specs.Lends.{Lends}
-use Rattle.decision.specs.Contract.{says, emptied, kept, Searched}
-use Rattle.decision.specs.declared.Verdict as code
+use Rattle.decision.specs.Contract.{Answer, says, emptied, kept, Searched}
 use Rattle.decision.proofs.VerdictLaws.{From11, questions, search-questions}
 use Rattle.decision.proofs.Answer.{past_13}
 use Rattle.decision.proofs.Bounds.{Bounded, verdict_bounded}
@@ -76,7 +70,7 @@ module _ (K N M : ℕ) (w : List ℕ) (buffer : ℕ) (bytes : List ℕ) where
         ∙ sym decided-is
 
     -- over anything else it is 36, unless 11 to 13 refuse as the decision does
-    search-elsewhere : are_nodes K N w (table f) ≡ false → (searched ≡ decided) ⊎ (searched ≡ Verdict.refused 36)
+    search-elsewhere : are_nodes K N w (table f) ≡ false → (searched ≡ decided) ⊎ (searched ≡ Verdict.refused Built)
     search-elsewhere n =
         elim (asked-either N M (length w) buffer (search K N M w (table f)) (decide N M (table f))) [
           | inl e ↦ inl (searched-is ∙ e ∙ sym decided-is)
@@ -85,32 +79,32 @@ module _ (K N M : ℕ) (w : List ℕ) (buffer : ℕ) (bytes : List ℕ) where
 
   -- Theorem: it is the decision's verdict or 36.
   pub search-either : (search_verdict K N M w buffer bytes ≡ verdict N M (length w) buffer bytes)
-      ⊎ (search_verdict K N M w buffer bytes ≡ Verdict.refused 36)
+      ⊎ (search_verdict K N M w buffer bytes ≡ Verdict.refused Built)
   unfolding verdict search_verdict
   search-either = by (parse bytes) refl
     where
       checked : (f : Formula) → parse bytes ≡ Reading.accepted f → (b : Bool) → are_nodes K N w (table f) ≡ b
-          → (searched ≡ decided) ⊎ (searched ≡ Verdict.refused 36)
+          → (searched ≡ decided) ⊎ (searched ≡ Verdict.refused Built)
       checked f p true e = inl (search_as_decision f p ((nodes_exactly K N w (table f)).0 e))
       checked f p false e = search-elsewhere f p e
 
-      by : (r : Reading Formula) → parse bytes ≡ r → (searched ≡ decided) ⊎ (searched ≡ Verdict.refused 36)
+      by : (r : Reading Formula) → parse bytes ≡ r → (searched ≡ decided) ⊎ (searched ≡ Verdict.refused Built)
       by (Reading.refused why) e =
           inl (ap (after_reading (search-questions K N M w buffer)) e ∙ sym (ap (after_reading (questions N M (length w) buffer)) e))
       by (Reading.accepted f) e = checked f e (are_nodes K N w (table f)) refl
 
   -- the decision never answers 36
-  not_36 : decided ≡ Verdict.refused 36 → ⊥
+  not_36 : decided ≡ Verdict.refused Built → ⊥
   not_36 e =
       let h : 36 ≤ 15 = subst (λ (v : Verdict). Bounded N M (says v)) e (verdict_bounded N M (length w) buffer bytes) in
       omega arith
 
   -- Theorem: where 11 to 13 grant all, it is 36 exactly if K and the bytes are not the formula's.
   module _ (f : Formula) (p : parse bytes ≡ Reading.accepted f) (l : Lends N M (length w) buffer) where
-    pub refused_36_exactly : (search_verdict K N M w buffer bytes ≡ Verdict.refused 36) ↔ (HasNodes K N w (table f) → ⊥)
+    pub refused_36_exactly : (search_verdict K N M w buffer bytes ≡ Verdict.refused Built) ↔ (HasNodes K N w (table f) → ⊥)
     refused_36_exactly = (λ e h. not_36 (sym (search_as_decision f p h) ∙ e), λ n. by (are_nodes K N w (table f)) refl n)
       where
-        by : (b : Bool) → are_nodes K N w (table f) ≡ b → (HasNodes K N w (table f) → ⊥) → searched ≡ Verdict.refused 36
+        by : (b : Bool) → are_nodes K N w (table f) ≡ b → (HasNodes K N w (table f) → ⊥) → searched ≡ Verdict.refused Built
         by true e n = absurd (n ((nodes_exactly K N w (table f)).0 e))
         by false e n =
             searched-is f p ∙ past_13 (asked_of N M (length w) buffer (search K N M w (table f))) l ∙ search_36 K N M w (table f) refl e
@@ -122,7 +116,7 @@ module _ (N M : ℕ) (w : List ℕ) (room : nodes_size N ≤ length w) where
 
   kept_front : (v : Verdict) → take (nodes_size N) (kept N M v w) ≡ take (nodes_size N) w
   kept_front (Verdict.unread why) = refl
-  kept_front (Verdict.refused c) = by (eqb c 15)
+  kept_front (Verdict.refused q) = by (eqb (question_code q) 15)
     where
       by : (b : Bool) → take (nodes_size N) (cond b (emptied N M w) w) ≡ take (nodes_size N) w
       by true = emptied-keeps
@@ -130,7 +124,7 @@ module _ (N M : ℕ) (w : List ℕ) (room : nodes_size N ≤ length w) where
   kept_front (Verdict.satisfiable stem cycle K c letters) = emptied-keeps
   kept_front (Verdict.unsatisfiable K P) = emptied-keeps
 
-  pub nodes-stay : {bytes w' b b' : List ℕ} {K : ℕ} {r : code.Verdict} {t : Table} → Searched bytes K N M w w' b b' r
+  pub nodes-stay : {bytes w' b b' : List ℕ} {K : ℕ} {r : Answer} {t : Table} → Searched bytes K N M w w' b b' r
       → HasNodes K N w t → HasNodes K N w' t
   nodes-stay {bytes} {b = b} {K = K} s h =
       record {

@@ -1,13 +1,9 @@
 -- The nodes and then the profiles in the workspace: what the searches promise, put together. The nodes stand at the beginning of the
 -- workspace, found from the root or left there by building, and the store of profiles behind them; the search for an accepting cycle
 -- changes the store alone. Assumes nothing.
-use mathlib.Core.Path.{◌≡◌, refl, sym, ap, subst, ◌∙◌}
-use mathlib.Core.Bool.{Bool, true}
-use mathlib.Core.List.{List, [], ◌++◌, map, Memᴰ}
-use Prim.Native.Nat.{ℕ, ◌+◌, ◌*◌, ◌-◌, ◌≤◌, ◌<◌}
-use native.Mathlib.Omega.{arith}
-use lib.ListN.{length, length-append, length-take, length-drop, get_or, take, drop}
-use lib.Seq.{get_or-append-add, get_or-drop}
+use Rattle.std.proofs.Common.{◌≡◌, refl, sym, ap, subst, ◌∙◌, Bool, true, List, [], ◌++◌, map, ℕ, ◌+◌, ◌*◌, ◌-◌, ◌≤◌, ◌<◌, arith, length}
+use Rattle.std.proofs.Common.{length-append, length-take, length-drop, get_or, take, drop, get_or-append-add, get_or-drop, Err}
+use mathlib.Core.List.{Memᴰ}
 use Rattle.base.specs.Lists.{flat_map}
 use Rattle.base.specs.Bits.{word}
 use Rattle.base.proofs.At.{at_lt, at_of}
@@ -22,7 +18,7 @@ use Rattle.tableau.proofs.NodeLaws.{nodes-first}
 use Rattle.tableau.proofs.LoopLaws.{table-length}
 use Rattle.tableau.proofs.AreaLaws.{stored-length}
 use Rattle.tableau.proofs.NodeReads.{reachable-sized, WordsKept, nodes-kept}
-use Rattle.construction.specs.Construction.{node_count, nodes_size, are_nodes}
+use Rattle.construction.specs.Construction.{nodes_size, are_nodes}
 use Rattle.construction.proofs.LayoutLaws.{reachable-count, held-many, held-count}
 use Rattle.construction.proofs.CheckLaws.{nodes_exactly, has_words}
 use Rattle.profile_tables.specs.Runs.{number_of, singles, accepting}
@@ -36,11 +32,12 @@ use Rattle.profile_search.proofs.SingleLaws.{nodes_in_are, node_in_are, node-set
 use Rattle.cycle_search.specs.Layers.{ComesTo}
 use Rattle.cycle_search.specs.declared.Sought.{Sought}
 use Rattle.witness.specs.Letters.{over}
-use Rattle.decision.specs.Verdict.{Verdict, decide, workspace_size}
+use Rattle.construction.specs.declared.Question.TheVariants.{Nodes}
+use Rattle.decision.specs.Verdict.{decide, workspace_size}
 use Rattle.decision.specs.Lends.{Lends}
 use Rattle.decision.specs.Inner.{Decoded, StorePlaced, Profiled, Ready, Told, onward, NodesReady, CameTo}
-use Rattle.decision.specs.declared.Verdict as code
-use Rattle.decision.specs.declared.Verdict.TheVariants.{Refused}
+use Rattle.decision.specs.Contract.{Answer}
+use Rattle.construction.specs.declared.Refusal.TheVariants.{No}
 use Rattle.decision.proofs.ChangeLaws.{change_wider, change_twice}
 use Rattle.decision.proofs.ConcludeLaws.{told-ready, told-answers}
 use Rattle.decision.proofs.SettleLaws.{answers_as, answers-refused, from_14}
@@ -87,7 +84,7 @@ module _ {rows : List ℕ} {count : ℕ} (d : Decoded rows count) {N M buffer : 
 
     -- Theorem: without room for them the answer is 14;
     pub nodes_14 : N < known → (letters : List ℕ)
-        → CameTo (decide N M t) 0 (workspace_size N M) a area letters letters (Refused 14)
+        → CameTo (decide N M t) 0 (workspace_size N M) a area letters letters (Err (No Nodes))
     nodes_14 h letters =
         record {
           answers = answers-refused (first_refusal (from_14 N M t) (λ k. omega (arith, held-many t held h))) letters;
@@ -115,7 +112,7 @@ module _ {rows : List ℕ} {count : ℕ} (d : Decoded rows count) {N M buffer : 
         }
 
     -- and what it comes to is the answer.
-    pub root-on : {area' before after : List ℕ} {r : code.Verdict} → known ≤ N
+    pub root-on : {area' before after : List ℕ} {r : Answer} → known ≤ N
         → CameTo (onward M t) (nodes_size N) (workspace_size N M) area area' before after r
         → CameTo (decide N M t) 0 (workspace_size N M) a area' before after r
     root-on h c =
@@ -223,7 +220,7 @@ module _ {rows : List ℕ} {count N M K : ℕ} {origins area : List ℕ} {buffer
     answer-ready =
         told-ready search_profiled M b.store_is.capacity_is (omega (arith, b.ready.nodes_are, b.ready.fits)) lent.buffer_fits
 
-    pub answer-on : {before after' : List ℕ} {v : code.Verdict} → Told origins s after K found before after' v
+    pub answer-on : {before after' : List ℕ} {v : Answer} → Told origins s after K found before after' v
         → CameTo (onward M table') (nodes_size N) (workspace_size N M) area after before after' v
     answer-on v =
         record {

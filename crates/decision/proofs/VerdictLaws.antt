@@ -2,13 +2,8 @@
 -- K and c of its cycle's length, or NOT where there is no accepting cycle, with K and P. `VerdictCases` is the list of questions as a
 -- relation, without search and fuel; `ProfilesFit` is question 15 so. The verdict's definition meets it (`verdict-answered`), and it
 -- leaves nothing open (`answered-settled`), since there is one witness (`one-witness`). Assumes nothing.
-use mathlib.Core.Path.{◌≡◌, refl, sym, ap, subst, ◌∙◌}
-use mathlib.Core.Option.{Option, none, some}
-use mathlib.Core.List.{List, ◌++◌, map}
-use Prim.Native.Nat.{ℕ, ◌≤◌}
-use native.Mathlib.Omega.{arith}
-use lib.Dec.{leb, leb→le, le→leb}
-use lib.ListN.{length}
+use Rattle.std.proofs.Common.{◌≡◌, refl, sym, ap, subst, ◌∙◌, List, ◌++◌, map, ℕ, ◌≤◌, arith, leb, leb→le, le→leb, length}
+use Rattle.std.proofs.Math.Option.{Option, none, some}
 use Rattle.base.specs.Search.{Item}
 use Rattle.base.proofs.WithinLaws.{within-few}
 use Rattle.base.proofs.AskLaws.{Asked, asked, asked_le, first_refusal, passed}
@@ -23,6 +18,7 @@ use Rattle.tableau.proofs.ForemostLaws.{one-foremost}
 use Rattle.profile.specs.Profiles.{Profile, profiles}
 use Rattle.profile.proofs.RootLaws.{root-apart}
 use Rattle.profile.proofs.CycleLaws.{run_along}
+use Rattle.construction.specs.declared.Question.TheVariants as question
 use Rattle.decision.specs.Verdict.{Verdict, counted, conclude, decide, search, within_capacity, workspace_size, witness_size}
 use Rattle.decision.specs.Verdict.{ask_capacities, after_reading, verdict}
 use Rattle.decision.specs.Lends.{Capacity}
@@ -95,16 +91,16 @@ fit-unmet (ProfilesFit.early l s h) n = absurd (n s.node s.around s.accepted)
 -- the questions 11 to 13 in their order, and then what comes after
 abbrev pub From11 : (N M workspace buffer : ℕ) → (Verdict → Type 0) → Verdict → Type 0
 From11 N M workspace buffer After =
-    Asked (Capacity N M) (Verdict.refused 11)
-    (Asked (workspace_size N M ≤ workspace) (Verdict.refused 12)
-    (Asked (witness_size N M ≤ buffer) (Verdict.refused 13)
+    Asked (Capacity N M) (Verdict.refused question.Capacity)
+    (Asked (workspace_size N M ≤ workspace) (Verdict.refused question.Workspace)
+    (Asked (witness_size N M ≤ buffer) (Verdict.refused question.Buffer)
     After))
 
 -- the questions 14 and 15, the latter as a statement, and then what comes after
 abbrev pub From14 : (N : ℕ) → Table → (fit : Type 0) → (Verdict → Type 0) → Verdict → Type 0
 From14 N t fit After =
-    Asked (node_count t ≤ N) (Verdict.refused 14)
-    (Asked fit (Verdict.refused 15)
+    Asked (node_count t ≤ N) (Verdict.refused question.Nodes)
+    (Asked fit (Verdict.refused question.Profiles)
     After)
 
 -- all of them
@@ -136,7 +132,7 @@ capacities_asked N M workspace buffer v a =
 
 -- 15,
 pub onward-asked : (M : ℕ) (t : Table) {fit : Type 0} {After : Verdict → Type 0} → (needed t ≤ M → fit) → (fit → needed t ≤ M)
-    → After (concluded t) → Asked fit (Verdict.refused 15) After (onward M t)
+    → After (concluded t) → Asked fit (Verdict.refused question.Profiles) After (onward M t)
 onward-asked M t f g a =
     asked (concluded t) (leb (needed t) M) (λ h. f (leb→le (needed t) M h)) (λ q. le→leb (needed t) M (g q))
     a

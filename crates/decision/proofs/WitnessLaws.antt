@@ -2,11 +2,9 @@
 -- each with the first of the runs that have it, and each node with the first of the runs to it. So the first accepting profile, with the
 -- way to its first node, stands before every accepting cycle with whatever stem; and where no profile is accepting, there is no accepting
 -- cycle. Assumes nothing.
-use mathlib.Core.Path.{◌≡◌, refl, ap}
-use mathlib.Core.Logic.{inl, inr}
-use mathlib.Core.Option.{none, some}
-use mathlib.Core.List.{List, ◌++◌, map, Memᴰ}
-use lib.ListN.{length}
+use Rattle.std.proofs.Common.{◌≡◌, refl, ap, inl, inr, List, ◌++◌, map, length}
+use Rattle.std.proofs.Math.Option.{none, some}
+use mathlib.Core.List.{Memᴰ}
 use Rattle.base.specs.Search.{Item}
 use Rattle.base.proofs.FirstLaws.{first-none, Least, first_some}
 use Rattle.base.proofs.OrderLaws.{no_later_trans}

@@ -2,6 +2,7 @@
 -- equations (`Decided`, `Searched`); and what a verdict says of the formula (`Met`, `Unmet`), which proofs/Answer.antt proves of every
 -- verdict. Assumes nothing.
 use Rattle.std.specs.Prelude.{◌≡◌, true, cond, List, [], ◌++◌, map, ℕ, ◌+◌, ◌≤◌, ◌<◌, eqb, leb, length, take, drop, replicate}
+use Rattle.std.specs.Prelude.{Result, Ok, Err}
 use Rattle.base.specs.Search.{within}
 use Rattle.formula.specs.Formula.{Formula}
 use Rattle.formula.specs.Table.{Table, table}
@@ -14,15 +15,22 @@ use Rattle.profile.specs.Profiles.{profiles}
 use Rattle.profile.specs.Cycle.{AcceptingCycle}
 use Rattle.construction.specs.Construction.{nodes_size, node_count}
 use Rattle.decision.specs.Verdict.{Verdict, profiles_size, workspace_size, verdict, search_verdict}
+use Rattle.construction.specs.Questions.{question_code}
+use Rattle.construction.specs.declared.Refusal.{Refusal}
+use Rattle.construction.specs.declared.Refusal.TheVariants.{Unread, No}
 use Rattle.decision.specs.declared.Verdict as code
-use Rattle.decision.specs.declared.Verdict.TheVariants.{Satisfiable, Unsatisfiable, Refused, Unread}
+use Rattle.decision.specs.declared.Verdict.TheVariants.{Satisfiable, Unsatisfiable}
 
--- the answer for each verdict, with the numbers of MEANING 5.2 and 5.3
-abbrev pub says : Verdict → code.Verdict
-says (Verdict.unread why) = Unread why
-says (Verdict.refused c) = Refused c
-says (Verdict.satisfiable stem cycle K c letters) = Satisfiable stem cycle K c
-says (Verdict.unsatisfiable K P) = Unsatisfiable K P
+-- what is answered: a verdict, or why there is none
+abbrev pub Answer : Type 0
+Answer = Result code.Verdict Refusal
+
+-- the answer for each verdict of the definition, with the numbers of MEANING 5.3
+abbrev pub says : Verdict → Answer
+says (Verdict.unread why) = Err (Unread why)
+says (Verdict.refused q) = Err (No q)
+says (Verdict.satisfiable stem cycle K c letters) = Ok (Satisfiable stem cycle K c)
+says (Verdict.unsatisfiable K P) = Ok (Unsatisfiable K P)
 
 -- P
 abbrev pub profile_count : Table → ℕ
@@ -65,14 +73,14 @@ pub record Unmet (bytes : List ℕ) (K P : ℕ) : Type 0 where
 -- the letters of the witness; without one there are none
 abbrev pub letters_of : Verdict → List ℕ
 letters_of (Verdict.unread why) = []
-letters_of (Verdict.refused c) = []
+letters_of (Verdict.refused q) = []
 letters_of (Verdict.satisfiable stem cycle K c letters) = letters
 letters_of (Verdict.unsatisfiable K P) = []
 
 -- the witness buffer after each verdict (MEANING 5.5): for MET the letters first, then what was there
 abbrev pub leaves : Verdict → List ℕ → List ℕ
 leaves (Verdict.unread why) l = l
-leaves (Verdict.refused c) l = l
+leaves (Verdict.refused q) l = l
 leaves (Verdict.satisfiable stem cycle K c letters) l = letters ++ drop (stem + cycle) l
 leaves (Verdict.unsatisfiable K P) l = l
 
@@ -83,12 +91,12 @@ zeroed N M w = replicate (workspace_size N M) 0 ++ drop (workspace_size N M) w
 -- the workspace after each verdict: MEANING 5.5
 abbrev pub cleared : (N M : ℕ) → Verdict → List ℕ → List ℕ
 cleared N M (Verdict.unread why) w = w
-cleared N M (Verdict.refused c) w = cond (leb 14 c) (zeroed N M w) w
+cleared N M (Verdict.refused q) w = cond (leb 14 (question_code q)) (zeroed N M w) w
 cleared N M (Verdict.satisfiable stem cycle K c letters) w = zeroed N M w
 cleared N M (Verdict.unsatisfiable K P) w = zeroed N M w
 
 -- The whole promise of the decision: a formula's bytes, the capacities, the workspace and the buffer before and after, the answer.
-pub record Decided (bytes : List ℕ) (N M : ℕ) (workspace workspace' buffer buffer' : List ℕ) (answer : code.Verdict) : Type 0 where
+pub record Decided (bytes : List ℕ) (N M : ℕ) (workspace workspace' buffer buffer' : List ℕ) (answer : Answer) : Type 0 where
   pub answered : answer ≡ says (verdict N M (length workspace) (length buffer) bytes)
   pub buffered : buffer' ≡ leaves (verdict N M (length workspace) (length buffer) bytes) buffer
   pub worked : workspace' ≡ cleared N M (verdict N M (length workspace) (length buffer) bytes) workspace
@@ -100,12 +108,12 @@ emptied N M w = take (nodes_size N) w ++ (replicate (profiles_size M) 0 ++ drop 
 -- the workspace after each outcome of a search: MEANING 5.12
 abbrev pub kept : (N M : ℕ) → Verdict → List ℕ → List ℕ
 kept N M (Verdict.unread why) w = w
-kept N M (Verdict.refused c) w = cond (eqb c 15) (emptied N M w) w
+kept N M (Verdict.refused q) w = cond (eqb (question_code q) 15) (emptied N M w) w
 kept N M (Verdict.satisfiable stem cycle K c letters) w = emptied N M w
 kept N M (Verdict.unsatisfiable K P) w = emptied N M w
 
 -- The whole promise of a search: the number of nodes that is handed to it too.
-pub record Searched (bytes : List ℕ) (K N M : ℕ) (workspace workspace' buffer buffer' : List ℕ) (answer : code.Verdict) : Type 0 where
+pub record Searched (bytes : List ℕ) (K N M : ℕ) (workspace workspace' buffer buffer' : List ℕ) (answer : Answer) : Type 0 where
   pub answered : answer ≡ says (search_verdict K N M workspace (length buffer) bytes)
   pub buffered : buffer' ≡ leaves (search_verdict K N M workspace (length buffer) bytes) buffer
   pub worked : workspace' ≡ kept N M (search_verdict K N M workspace (length buffer) bytes) workspace

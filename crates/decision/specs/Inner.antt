@@ -1,6 +1,6 @@
 -- What the functions promise that ask the questions, build the tableau, search the profiles and answer. A reader of the decision's contract
 -- need not read it. Assumes nothing.
-use Rattle.std.specs.Prelude.{◌≡◌, List, map, ℕ, ◌*◌, ◌≤◌, ◌<◌, length}
+use Rattle.std.specs.Prelude.{◌≡◌, List, map, ℕ, ◌*◌, ◌≤◌, length, Ok, Err}
 use Rattle.std.proofs.Math.Option.{Option}
 use Rattle.base.specs.Bits.{word}
 use Rattle.base.specs.Search.{Item}
@@ -13,6 +13,10 @@ use Rattle.tableau.specs.Inner.{table_of}
 use Rattle.tableau.specs.Area.{words_at, reachable}
 use Rattle.tableau.specs.Origins.{Origins}
 use Rattle.construction.specs.Construction.{node_count}
+use Rattle.construction.specs.Questions.{question_code}
+use Rattle.construction.specs.declared.Question.{Question}
+use Rattle.construction.specs.declared.Question.TheVariants.{Profiles}
+use Rattle.construction.specs.declared.Refusal.TheVariants.{No}
 use Rattle.profile.specs.Profiles as literal
 use Rattle.profile_tables.specs.Runs.{singles, accepting}
 use Rattle.traces.specs.Inner.{RowsLimited}
@@ -25,9 +29,8 @@ use Rattle.witness.specs.Letters.{WitnessReady, WitnessWritten}
 use Rattle.witness.specs.declared.Lengths.{Lengths}
 use Rattle.decision.specs.Verdict.{Verdict, counted, chosen, conclude, searched, ask_capacities}
 use Rattle.decision.specs.Lends.{Lends}
-use Rattle.decision.specs.Contract.{says, leaves}
-use Rattle.decision.specs.declared.Verdict as code
-use Rattle.decision.specs.declared.Verdict.TheVariants.{Satisfiable, Unsatisfiable, Refused}
+use Rattle.decision.specs.Contract.{Answer, says, leaves}
+use Rattle.decision.specs.declared.Verdict.TheVariants.{Satisfiable, Unsatisfiable}
 
 -- The rows hold the table of a formula that was read.
 pub record Decoded (rows : List ℕ) (count : ℕ) : Type 0 where
@@ -60,14 +63,14 @@ Ready origins s area len (sought.Nowhere count) = Unit {0}
 Ready origins s area len sought.NoRoom = Unit {0}
 
 -- The answer with K nodes, and the witness buffer: for an accepting profile its witness is written.
-abbrev pub Told : (origins : List ℕ) → Store → (area : List ℕ) → (K : ℕ) → Sought → (before after : List ℕ) → code.Verdict → Type 0
+abbrev pub Told : (origins : List ℕ) → Store → (area : List ℕ) → (K : ℕ) → Sought → (before after : List ℕ) → Answer → Type 0
 Told origins s area K (sought.Accepting p count) before after r =
-    (w : Lengths) × WitnessWritten origins s area p before after w × (r ≡ Satisfiable w.stem w.cycle K count)
-Told origins s area K (sought.Nowhere count) before after r = (after ≡ before) × (r ≡ Unsatisfiable K count)
-Told origins s area K sought.NoRoom before after r = (after ≡ before) × (r ≡ Refused 15)
+    (w : Lengths) × WitnessWritten origins s area p before after w × (r ≡ Ok (Satisfiable w.stem w.cycle K count))
+Told origins s area K (sought.Nowhere count) before after r = (after ≡ before) × (r ≡ Ok (Unsatisfiable K count))
+Told origins s area K sought.NoRoom before after r = (after ≡ before) × (r ≡ Err (No Profiles))
 
 -- The answer to a verdict, and what it leaves in the witness buffer.
-pub record Answers (v : Verdict) (before after : List ℕ) (r : code.Verdict) : Type 0 where
+pub record Answers (v : Verdict) (before after : List ℕ) (r : Answer) : Type 0 where
   pub answered : r ≡ says v
   pub buffered : after ≡ leaves v before
 
@@ -87,11 +90,10 @@ concluded t = conclude (nodes t) (counted (found_in t) (literal.profiles t (node
 abbrev pub onward : (M : ℕ) → Table → Verdict
 onward M t = searched M t (nodes t)
 
--- The questions 11 to 13 in their order: the code of the first that refuses, or 0.
-pub record GrantedOr (N M workspace buffer code : ℕ) : Type 0 where
-  pub granted : code ≡ 0 → Lends N M workspace buffer
-  pub early : code ≤ 13
-  pub refuses : 0 < code → (v : Verdict) → ask_capacities N M workspace buffer v ≡ Verdict.refused code
+-- Of the questions 11 to 13 this is the first that refuses.
+pub record RefusedBy (N M workspace buffer : ℕ) (q : Question) : Type 0 where
+  pub early : question_code q ≤ 13
+  pub refuses : (v : Verdict) → ask_capacities N M workspace buffer v ≡ Verdict.refused q
 
 -- The area has the K nodes of the rows' table at its beginning, their notes are right, and there is as much room as the capacities ask.
 pub record NodesReady (rows : List ℕ) (count N M K : ℕ) (origins area : List ℕ) (buffer : ℕ) : Type 0 where
@@ -104,12 +106,6 @@ pub record NodesReady (rows : List ℕ) (count N M K : ℕ) (origins area : List
   pub notes_room : 2 * N ≤ length origins
 
 -- The answer to a verdict, and of the area only the bytes from one up to another have changed, if any.
-pub record CameTo (v : Verdict) (from to : ℕ) (area area' before after : List ℕ) (r : code.Verdict) : Type 0 where
+pub record CameTo (v : Verdict) (from to : ℕ) (area area' before after : List ℕ) (r : Answer) : Type 0 where
   pub answers : Answers v before after r
   pub changed : BytesBetween from to area area'
-
--- The answer to all questions after reading, and what it leaves in both areas.
-pub record Settled (areas : Verdict → List ℕ → List ℕ) (v : Verdict) (workspace workspace' buffer buffer' : List ℕ) (r : code.Verdict)
-    : Type 0 where
-  pub answers : Answers v buffer buffer' r
-  pub worked : workspace' ≡ areas v workspace

@@ -16,13 +16,15 @@ use Rattle.tableau.specs.Transition.{Transition, letter}
 use Rattle.tableau.specs.Nodes.{nodes, stem_to}
 use Rattle.construction.specs.Construction.{Construction, between, max_nodes, nodes_size, construction, are_nodes}
 use Rattle.construction.specs.Contract as built
+use Rattle.construction.specs.declared.Question.{Question}
+use Rattle.construction.specs.declared.Question.TheVariants.{Capacity, Workspace, Buffer, Nodes, Profiles, Built}
 use Rattle.profile.specs.Profiles.{Profile, profiles, rejecting, accepting}
 
 -- A refusal of reading; 11 to 15, and 36 of the search; MET with the lengths of stem and cycle, K, c of the cycle's length and the letters;
 -- NOT with K and P.
 pub data Verdict : Type 0 where
   unread : Refusal → Verdict
-  refused : (code : ℕ) → Verdict
+  refused : Question → Verdict
   satisfiable : (stem cycle K c : ℕ) (letters : List ℕ) → Verdict
   unsatisfiable : (K P : ℕ) → Verdict
 
@@ -49,7 +51,7 @@ searched M t ns =
     let ps = profiles t ns in
     let found = chosen t ps in
     let qs = counted found ps in
-    ask (leb (length qs) M) (Verdict.refused 15)
+    ask (leb (length qs) M) (Verdict.refused Profiles)
     (conclude ns qs found)
 
 -- The questions 14 and 15, and then that.
@@ -57,14 +59,14 @@ unfoldable pub decide : (N M : ℕ) → Table → Verdict
 unfolding letter_of nodes profiles rejecting
 decide N M t =
     let ns = nodes t in
-    ask (leb (length ns) N) (Verdict.refused 14)
+    ask (leb (length ns) N) (Verdict.refused Nodes)
     (searched M t ns)
 
 -- The questions 36 and 15 of a search over nodes that were built, K of them: MEANING 5.12.
 unfoldable pub search : (K N M : ℕ) (workspace : List ℕ) → Table → Verdict
 unfolding letter_of nodes profiles rejecting are_nodes
 search K N M workspace t =
-    ask (are_nodes K N workspace t) (Verdict.refused 36)
+    ask (are_nodes K N workspace t) (Verdict.refused Built)
     (searched M t (nodes t))
 
 -- the most profiles that there may be room for
@@ -87,12 +89,12 @@ workspace_size N M = nodes_size N + profiles_size M
 abbrev pub witness_size : (N M : ℕ) → ℕ
 witness_size N M = N + M
 
--- The questions 11 to 13 (MEANING 5.2), whatever a refusal with a number is, and what comes after them.
-abbrev pub ask_room : {A : Type 0} → (refusal : ℕ → A) → (N M workspace buffer : ℕ) (after : A) → A
+-- The questions 11 to 13 (MEANING 5.2), whatever a refusal is, and what comes after them.
+abbrev pub ask_room : {A : Type 0} → (refusal : Question → A) → (N M workspace buffer : ℕ) (after : A) → A
 ask_room refusal N M workspace buffer after =
-    ask (within_capacity N M) (refusal 11)
-    (ask (leb (workspace_size N M) workspace) (refusal 12)
-    (ask (leb (witness_size N M) buffer) (refusal 13)
+    ask (within_capacity N M) (refusal Capacity)
+    (ask (leb (workspace_size N M) workspace) (refusal Workspace)
+    (ask (leb (witness_size N M) buffer) (refusal Buffer)
     after))
 
 -- of a verdict
@@ -118,7 +120,7 @@ search_verdict K N M workspace buffer bytes =
 -- What comes behind building (MEANING 5.13): its refusal, or the search over the nodes that it leaves.
 abbrev pub search_built : (N M : ℕ) (workspace : List ℕ) (buffer : ℕ) (bytes : List ℕ) → Construction → Verdict
 search_built N M workspace buffer bytes (Construction.unread why) = Verdict.unread why
-search_built N M workspace buffer bytes (Construction.refused code) = Verdict.refused code
+search_built N M workspace buffer bytes (Construction.refused q) = Verdict.refused q
 search_built N M workspace buffer bytes (Construction.built words) =
     search_verdict (length words) N M (built.leaves N (Construction.built words) workspace) buffer bytes
 

@@ -1,20 +1,16 @@
--- The loops that expand a level, each as one turn: `Expanded` for no vertex, for one, and for those of two tests together. The tests of the
--- two loops: the bits of a word that were taken already (`taken_one`, `taken_all`), and the vertices in the first words of a level
--- (`passed-word`, `passed_end`). Assumes nothing.
-use mathlib.Core.Path.{◌≡◌, refl, sym, ap, subst, ◌∙◌}
-use mathlib.Core.Bool.{Bool, true, false, cond, not, ◌&&◌, ◌||◌, or-true, or-false, and-false}
-use mathlib.Core.Logic.{◌⊎◌, inl, inr, ⊎_elim}
-use mathlib.Core.List.{List}
-use Prim.Native.Nat.{ℕ, ◌+◌, ◌*◌, ◌/◌, ◌%◌, ◌≤◌, ◌<◌}
-use native.Mathlib.Omega.{arith}
-use native.Mathlib.Decide.{dec_lt}
-use lib.Dec.{T, eqb, eqb→eq, eqb_refl, ltb}
-use lib.ListN.{length, get_or, set, length-set}
-use borrow.Author.Tests.{eqb-true, eqb-false, eq-eqb, ne_eqb, lt-ltb, le-ltb}
+-- The loops that expand a level, each as one turn: `Expanded` for one vertex, and for those of two tests together. The tests of the two
+-- loops: the bits of a word that were taken already (`taken_one`), and the vertices in the first words of a level (`passed-word`). Assumes
+-- nothing.
+use Rattle.std.proofs.Common.{◌≡◌, refl, sym, ap, subst, ◌∙◌, Bool, true, false, cond, not, ◌&&◌, ◌||◌, ◌⊎◌, inl, inr, ⊎_elim, List, ℕ}
+use Rattle.std.proofs.Common.{◌+◌, ◌*◌, ◌/◌, ◌%◌, ◌<◌, arith, T, eqb, eqb→eq, ltb, length, get_or, set, length-set, eqb-true, eq-eqb}
+use Rattle.std.proofs.Common.{ne_eqb, lt-ltb, le-ltb}
+use Rattle.std.proofs.Math.Bool.{or-true, or-false}
+use Rattle.std.proofs.Math.Dec.{eqb_refl}
+use Rattle.std.proofs.Math.Decide.{dec_lt}
+use Rattle.std.proofs.lemmas.Bool.{eqb-false}
 use Rattle.base.specs.Bits.{bit, Lowest, Without}
 use Rattle.base.proofs.BoolLaws.{of_T, to_T, or_cases, or_left, or_right}
 use Rattle.base.proofs.TestLaws.{same_truth}
-use Rattle.base.proofs.WordLaws.{no-bit}
 use Rattle.relation.specs.Relation.{linked}
 use Rattle.distances.specs.Inner.{has_vertex, in_word, Joined, Leads, Expanded}
 use Rattle.base.proofs.FillLaws.{set_at}
@@ -24,30 +20,6 @@ leads_by : {r : List ℕ} {test test' : ℕ → Bool} {x : ℕ} → ((y : ℕ) �
 leads_by f l = record { next = l.next; passes = f l.next l.passes; link = l.link }
 
 module _ {r : List ℕ} {far : ℕ} where
-  pub expanded_none : (test : ℕ → Bool) (steps s : List ℕ) → ((x : ℕ) → test x ≡ false) → length steps ≡ 1024 → length s ≡ 16
-      → Expanded r test far steps s steps s
-  expanded_none test steps s e long wide =
-      record {
-        noted = λ x. sym (ap (λ (b : Bool). cond b far (get_or steps x 1024)) (e x));
-        long = long;
-        wide = wide;
-        kept = λ x h. h;
-        gained = λ x l. absurd (subst T (e l.next) l.passes);
-        only = λ x h. inl h;
-      }
-
-  pub expanded_same : {test test' : ℕ → Bool} {steps s steps' s' : List ℕ} → ((x : ℕ) → test' x ≡ test x)
-      → Expanded r test far steps s steps' s' → Expanded r test' far steps s steps' s'
-  expanded_same {test} {test'} {steps} {s} e h =
-      record {
-        noted = λ x. h.noted x ∙ ap (λ (b : Bool). cond b far (get_or steps x 1024)) (sym (e x));
-        long = h.long;
-        wide = h.wide;
-        kept = h.kept;
-        gained = λ x l. h.gained x (leads_by (λ y. subst T (e y)) l);
-        only = λ x t. ⊎_elim inl (λ l. inr (leads_by (λ y. subst T (sym (e y))) l)) (h.only x t);
-      }
-
   expanded_one : {steps s s' : List ℕ} (u : ℕ) → u < 1024 → length steps ≡ 1024 → Joined (linked r u) s s'
       → Expanded r (λ (x : ℕ). eqb x u) far steps s (set steps u far) s'
   expanded_one {steps} {s} {s'} u h long j =
@@ -102,29 +74,6 @@ taken at level left x = eqb (x / 64) at && (bit level (x % 64) && not (bit left 
 pub record Left (level left : ℕ) : Type 0 where
   pub inside : (k : ℕ) → T (bit left k) → T (bit level k)
 
-pub left-all : (level : ℕ) → Left level level
-left-all level = record { inside = λ k t. t }
-
-pub taken_none : (at level : ℕ) (x : ℕ) → taken at level level x ≡ false
-taken_none at level x = by (eqb (x / 64) at) (bit level (x % 64))
-  where
-    by : (a b : Bool) → (a && (b && not b)) ≡ false
-    by true true = refl
-    by true false = refl
-    by false b = refl
-
-pub taken_all : (at level : ℕ) {left : ℕ} → left ≤ 0 → (x : ℕ) → in_word at level x ≡ taken at level left x
-taken_all at level {left} z x =
-    sym (ap (λ (b : Bool). eqb (x / 64) at && (bit level (x % 64) && not b)) none ∙ by (eqb (x / 64) at) (bit level (x % 64)))
-  where
-    none : bit left (x % 64) ≡ false
-    none = ap (λ (w : ℕ). bit w (x % 64)) {x = left} {y = 0} (omega arith) ∙ no-bit (x % 64)
-
-    by : (a b : Bool) → (a && (b && true)) ≡ (a && b)
-    by true true = refl
-    by true false = refl
-    by false b = refl
-
 module _ {level left e left' : ℕ} (i : Left level left) (l : Lowest left e) (w : Without left e left') where
   pub left_less : Left level left'
   left_less = record { inside = λ k t. i.inside k (from k (eqb k e) (subst T (w.bits k) t)) }
@@ -163,9 +112,6 @@ module _ {level left e left' : ℕ} (i : Left level left) (l : Lowest left e) (w
 abbrev pub passed : (level : List ℕ) (i : ℕ) → ℕ → Bool
 passed level i x = ltb (x / 64) i && has_vertex level x
 
-pub passed_none : (level : List ℕ) (x : ℕ) → passed level 0 x ≡ false
-passed_none level x = ap (λ (b : Bool). b && has_vertex level x) (le-ltb (x / 64) 0 (omega arith))
-
 pub passed-word : (level : List ℕ) (i : ℕ) (x : ℕ) → passed level (i + 1) x ≡ (passed level i x || in_word i (get_or level i 0) x)
 unfolding has_vertex
 passed-word level i x = by (dec_lt (x / 64) i) (eqb (x / 64) i) refl
@@ -184,14 +130,6 @@ passed-word level i x = by (dec_lt (x / 64) i) (eqb (x / 64) i) refl
     by (no h) false q =
         ap (λ (b : Bool). b && has_vertex level x) (le-ltb (x / 64) (i + 1) (omega (arith, eqb-false (x / 64) i q)))
         ∙ ap (λ (b : Bool). (b && has_vertex level x) || false) (sym (le-ltb (x / 64) i (omega arith)))
-
-pub passed_end : {words i : ℕ} (level : List ℕ) → ((x : ℕ) → T (has_vertex level x) → x < 64 * words)
-    → words ≤ i → (x : ℕ) → has_vertex level x ≡ passed level i x
-passed_end {words} {i} level f done x = by (has_vertex level x) refl
-  where
-    by : (b : Bool) → has_vertex level x ≡ b → b ≡ (ltb (x / 64) i && b)
-    by true q = ap (λ (b : Bool). b && true) (sym (lt-ltb (x / 64) i (omega (arith, f x (to_T (has_vertex level x) q)))))
-    by false q = sym (and-false (ltb (x / 64) i))
 
 -- a turn of the loop over the bits of a word
 pub expanded_bit : {r : List ℕ} {far : ℕ} (at : ℕ) {level left e left' : ℕ} {steps s steps' s' s'' : List ℕ}

@@ -4,22 +4,17 @@
 -- (`next_in`). So the next set has the searched vertex exactly if that has a closed walk of one step more (`found`, `still_open`), and what
 -- of it was not seen is the next level (`search-next`). If all of it was seen, every vertex with a walk was, and the searched vertex has no
 -- closed walk (`exhausted`). Assumes nothing.
-use mathlib.Core.Path.{◌≡◌, refl, sym, ap, subst, ◌∙◌}
-use mathlib.Core.Bool.{Bool, true, false, cond, not, ◌||◌}
-use mathlib.Core.Logic.{◌⊎◌, inl, inr, ⊎_elim}
-use mathlib.Core.List.{List}
-use Prim.Native.Nat.{ℕ, zero, suc, ◌+◌, ◌*◌, ◌/◌, ◌%◌, ◌^◌, ◌≤◌, ◌<◌}
-use native.Mathlib.Numerals.{add-one}
-use native.Mathlib.Omega.{arith}
-use native.Mathlib.Decide.{dec_le}
-use lib.Dec.{T, T_not, not_T, eqb, eqb→eq, eqb_refl}
-use lib.ListN.{length, get_or, set, length-set}
+use Rattle.std.proofs.Common.{None, Some}
+use Rattle.std.proofs.Common.{◌≡◌, refl, sym, ap, subst, ◌∙◌, Bool, true, false, cond, not, ◌||◌, ◌⊎◌, inl, inr, ⊎_elim, List, ℕ, zero}
+use Rattle.std.proofs.Common.{suc, ◌*◌, ◌/◌, ◌%◌, ◌^◌, ◌≤◌, ◌<◌, arith, T, T_not, eqb, eqb→eq, length, get_or, set, length-set}
+use Rattle.std.proofs.Math.Dec.{not_T, eqb_refl}
+use Rattle.std.proofs.Math.Decide.{dec_le}
 use Rattle.base.proofs.BoolLaws.{by_test, to_T, and_left, and_right, and_both, or_cases}
 use Rattle.relation.specs.Relation.{linked}
 use Rattle.distances.specs.Walks.{Walk, Distance, Distances}
-use Rattle.distances.specs.Inner.{has_vertex, Rows, Expanded, Parted, Unnoted, ShortestOf}
+use Rattle.distances.specs.Inner.{has_vertex, Expanded, Parted, Unnoted, Closed, ShortestOf}
 use Rattle.distances.proofs.SetLaws.{no-vertex, none-long, none_has, one_has}
-use Rattle.distances.proofs.WalkLaws.{onward, at_rest, walk_covered, distance_one}
+use Rattle.distances.proofs.WalkLaws.{Rows, onward, at_rest, walk_covered, distance_one}
 
 -- what is not below a number
 at_least : (n m : ℕ) → (m < n → ⊥) → n ≤ m
@@ -139,15 +134,16 @@ module _ {r : List ℕ} {to far : ℕ} {level seen steps steps' next : List ℕ}
       by false q = ⊎_elim (λ l. inl (omega arith)) (λ l. inr (q ∙ l)) (s.held x)
 
   -- the next set has the searched vertex
-  pub found : {bound : ℕ} → far + 1 < bound → far < 1024 → T (has_vertex next to) → ShortestOf r to bound steps' (far + 1)
-  found {bound} h small t =
-      subst (ShortestOf r to bound steps') (sym (add-one far))
-      (record {
-        long = e.long;
-        most = omega arith;
+  pub found : {n bound : ℕ} → n ≡ suc far → n < bound → far < 1024 → T (has_vertex next to) → ShortestOf r to bound steps' (Some n)
+  found {n} {bound} q h small t = (h, subst (λ (L : ℕ). Closed r to L steps') (sym q) closed)
+    where
+      closed : Closed r to (suc far) steps'
+      closed = record {
+        positive = omega arith;
+        walk = next-walk to t;
         least = λ n p w. at_least (suc far) n (λ l. s.unclosed n p (omega arith) w);
-        found = λ l. record { positive = omega arith; walk = next-walk to t; distances = noted-next small };
-      })
+        distances = noted-next small;
+      }
 
   -- it has not
   module _ (out : T (has_vertex next to) → ⊥) where
@@ -159,9 +155,8 @@ module _ {r : List ℕ} {to far : ℕ} {level seen steps steps' next : List ℕ}
         by (no l) = out (next_in to s.unclosed (subst (λ (k : ℕ). Walk r to k to) {x = n} {y = suc far} (omega arith) w))
 
     -- all of the next set was seen
-    exhausted : {bound : ℕ} → ((x : ℕ) → T (has_vertex next x) → T (has_vertex seen x)) → ShortestOf r to bound steps' bound
-    exhausted {bound} all =
-        record { long = e.long; most = omega arith; least = λ n p w. absurd (never n p w); found = λ l. absurd (omega arith) }
+    exhausted : {bound : ℕ} → ((x : ℕ) → T (has_vertex next x) → T (has_vertex seen x)) → ShortestOf r to bound steps' None
+    exhausted {bound} all n p w = absurd (never n p w)
       where
         next-seen : (x n : ℕ) → n ≤ suc far → Walk r to n x → T (has_vertex seen x)
         next-seen x n h w = by_test (has_vertex seen x) T (λ t. tt) (λ q. q (all x (fresh_in x n q h w)))
@@ -202,9 +197,9 @@ module _ {r : List ℕ} {to far : ℕ} {level seen steps steps' next : List ℕ}
           subst T (sym (p.level_is x (covered x (suc far) (next-walk x t))))
           (and_both (has_vertex next x) (not (has_vertex seen x)) t (not_T (has_vertex seen x) q))
 
-      pub search-next : far < 1024 → Search r to (far + 1) level' seen' steps'
-      search-next small =
-          subst (λ (n : ℕ). Search r to n level' seen' steps') (sym (add-one far))
+      pub search-next : {n : ℕ} → n ≡ suc far → far < 1024 → Search r to n level' seen' steps'
+      search-next q small =
+          subst (λ (n : ℕ). Search r to n level' seen' steps') (sym q)
           (record {
             level_of = level_of;
             level_in = level_in;
@@ -250,16 +245,5 @@ module _ {r : List ℕ} {to far : ℕ} {level seen steps steps' next : List ℕ}
       all_seen z x t =
           by_test (has_vertex seen x) T (λ q. tt) (λ q. p.nothing z x (covered x (suc far) (next-walk x t)) (level_put x t q))
 
-      pub ends : {bound : ℕ} → any ≡ false → ShortestOf r to bound steps' bound
+      pub ends : {bound : ℕ} → any ≡ false → ShortestOf r to bound steps' None
       ends z = exhausted (all_seen z)
-
--- the bound is reached
-pub cut_off : {r : List ℕ} {to far bound : ℕ} {level seen steps : List ℕ} → Search r to far level seen steps → bound ≤ far + 1
-    → ShortestOf r to bound steps bound
-cut_off {r} {to} {far} {bound} s h =
-    record {
-      long = s.long_steps;
-      most = omega arith;
-      least = λ n p w. at_least bound n (λ l. s.unclosed n p (omega arith) w);
-      found = λ l. absurd (omega arith);
-    }

@@ -1,25 +1,23 @@
 -- Sets of vertices as words: the set of no vertex (`none_has`) and of one (`one_has`); the words of a vertex in the relation joined to a
 -- set, one by one (`row-joined`); what a set has that was not seen (`parted`). The word of a vertex tells whether the set has it, so a loop
 -- that has set the first words (`Filled`) has set what they hold. Assumes nothing.
-use mathlib.Core.Path.{◌≡◌, refl, sym, ap, subst, ◌∙◌}
-use mathlib.Core.Bool.{Bool, true, false, cond, not, ◌&&◌, ◌||◌, or-false}
-use mathlib.Core.List.{List}
-use Prim.Native.Nat.{ℕ, ◌+◌, ◌*◌, ◌/◌, ◌%◌, ◌^◌, ◌≤◌, ◌<◌}
-use native.Mathlib.Omega.{arith}
-use native.Mathlib.Decide.{dec_lt}
-use lib.Bits.{bit_or, bit_xor}
-use lib.Dec.{T, eqb, ltb}
-use lib.ListN.{length, get_or, set as put, replicate, length-replicate, get_or-replicate, get_or-eq_default}
-use borrow.Author.Tests.{eqb-true, eqb-false, eq-eqb, ne_eqb, ltb-false}
+use Rattle.std.proofs.Common.{◌≡◌, refl, sym, ap, subst, ◌∙◌, Bool, true, false, cond, not, ◌&&◌, ◌||◌, List, ℕ, ◌+◌, ◌*◌, ◌/◌, ◌%◌, ◌^◌}
+use Rattle.std.proofs.Common.{◌≤◌, ◌<◌, arith, bit_or, bit_xor, T, eqb, ltb, length, get_or, set as put, replicate, eqb-true, eq-eqb}
+use Rattle.std.proofs.Common.{ne_eqb, ltb-false}
+use Rattle.std.proofs.Math.Bool.{or-false}
+use Rattle.std.proofs.Math.Decide.{dec_lt}
+use Rattle.std.proofs.Math.ListN.{length-replicate, get_or-replicate, get_or-eq_default}
+use Rattle.std.proofs.lemmas.Bool.{eqb-false}
 use Rattle.base.specs.Bits.{bit}
 use Rattle.base.proofs.BoolLaws.{to_T, or_left, or_right}
 use Rattle.base.proofs.TestLaws.{not_of_T}
-use Rattle.base.proofs.FillLaws.{set_at, Filled, filled_none, filled-below, filled-above, filled_more}
+use Rattle.base.proofs.FillLaws.{set_at, Filled, filled-below, filled-above, filled_more}
 use Rattle.base.proofs.BitLaws.{bit-or, bit-xor, bit-same, bit_other}
 use Rattle.base.proofs.WordLaws.{no-bit}
 use Rattle.relation.specs.Relation.{linked}
 use Rattle.relation.proofs.RelationLaws.{linked-bit}
-use Rattle.distances.specs.Inner.{has_vertex, Rows, Joined, Parted, Unnoted}
+use Rattle.distances.proofs.WalkLaws.{Rows}
+use Rattle.distances.specs.Inner.{has_vertex, Joined, Parted, Unnoted}
 
 -- the bit of a word
 has-at : (s : List ℕ) (x : ℕ) {w : ℕ} → get_or s (x / 64) 0 ≡ w → has_vertex s x ≡ bit w (x % 64)
@@ -113,9 +111,6 @@ fresh-bit a b e =
 pub record Met (f : ℕ → ℕ) (i any : ℕ) : Type 0 where
   pub bits : (k e : ℕ) → k < i → T (bit (f k) e) → T (bit any e)
 
-met-none : (f : ℕ → ℕ) (any : ℕ) → Met f 0 any
-met-none f any = record { bits = λ k e h t. absurd (omega arith) }
-
 met-more : {f : ℕ → ℕ} {i any v : ℕ} → Met f i any → v ≡ f i → Met f (i + 1) (bit_or any v)
 met-more {f} {i} {any} {v} m q = record { bits = λ k e h t. subst T (sym (bit-or any v e)) (at k e (dec_lt k i) h t) }
   where
@@ -131,10 +126,6 @@ pub record Parting (words : ℕ) (set level seen : List ℕ) (i : ℕ) (level' s
   pub fresh : Filled 0 (fresh-word set seen) i level level'
   pub joined : Filled 0 (seen-word set seen) i seen seen'
   pub met : Met (fresh-word set seen) i any
-
-pub parting_none : (words : ℕ) (set level seen : List ℕ) → Parting words set level seen 0 level seen 0
-parting_none words set level seen =
-    record { upto = omega arith; fresh = filled_none 0 _ level; joined = filled_none 0 _ seen; met = met-none _ 0 }
 
 module _ {words i any : ℕ} {set level seen level' seen' : List ℕ} (p : Parting words set level seen i level' seen' any)
     (l : length level ≡ 16) (s : length seen ≡ 16) where
@@ -179,9 +170,12 @@ module _ {words i any : ℕ} {set level seen level' seen' : List ℕ} (p : Parti
           subst T (ap (λ (w : ℕ). bit w (x % 64)) z ∙ no-bit (x % 64)) (p.met.bits (x / 64) (x % 64) h t)
 
 -- 1,024 everywhere
-pub unnoted : {i : ℕ} {s s' : List ℕ} → length s ≡ 1024 → Filled 1024 (λ (_ : ℕ). 1024) i s s' → 1024 ≤ i → Unnoted s'
-unnoted {i} {s} {s'} l f h = record { long = f.long ∙ l; is = λ x. at x (dec_lt x i) }
+pub unnoted : {steps : List ℕ} {n : ℕ} → steps ≡ replicate n 1024 → n ≡ 1024 → Unnoted steps
+unnoted {steps} {n} e l = subst Unnoted (sym e) (record { long = long ∙ l; is = λ x. at x (dec_lt x n) })
   where
-    at : (x : ℕ) → Dec (x < i) → get_or s' x 1024 ≡ 1024
-    at x (yes k) = filled-below f x k
-    at x (no k) = get_or-eq_default s' 1024 {n = x} (omega (arith, f.long))
+    long : length (replicate {A = ℕ} n 1024) ≡ n
+    long = length-replicate {A = ℕ} n 1024
+
+    at : (x : ℕ) → Dec (x < n) → get_or (replicate {A = ℕ} n 1024) x 1024 ≡ 1024
+    at x (yes h) = get_or-replicate {A = ℕ} n x 1024 1024 h
+    at x (no h) = get_or-eq_default (replicate {A = ℕ} n 1024) 1024 {n = x} (omega (arith, long))

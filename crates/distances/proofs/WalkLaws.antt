@@ -1,13 +1,14 @@
 -- Walks: the first step of one (`onward`), and where one can begin: at its end or where the relation leads from, so at a vertex that the
 -- first words have (`walk_covered`), and a closed one at a vertex below the count (`closed-below`). Assumes nothing.
-use mathlib.Core.Path.{◌≡◌, refl}
-use mathlib.Core.List.{List}
-use Prim.Native.Nat.{ℕ, zero, suc, ◌+◌, ◌*◌, ◌/◌, ◌<◌}
-use native.Mathlib.Omega.{arith}
-use lib.Dec.{T}
+use Rattle.std.proofs.Common.{◌≡◌, refl, List, ℕ, zero, suc, ◌+◌, ◌*◌, ◌/◌, ◌≤◌, ◌<◌, T, length, arith}
 use Rattle.relation.specs.Relation.{linked}
 use Rattle.distances.specs.Walks.{Walk, Steps, Distance}
-use Rattle.distances.specs.Inner.{Rows}
+
+-- The vertices with steps lie in the first blocks, and the list has these.
+pub record Rows (r : List ℕ) (words : ℕ) : Type 0 where
+  pub long : 1024 * words ≤ length r
+  pub fit : words ≤ 16
+  pub cover : (u a : ℕ) → T (linked r u a) → a < 64 * words
 
 -- the first step of a walk, and the rest
 pub record Onward (r : List ℕ) (to n a : ℕ) : Type 0 where
@@ -37,5 +38,9 @@ pub distance_one : {r : List ℕ} {to m n a : ℕ} → Distance r to m a → Dis
 distance_one {r} {to} {m} {n} p q = omega (arith, p.least n q.walk, q.least m p.walk)
 
 -- the blocks that have the vertices
-pub rows_of : {r : List ℕ} {count : ℕ} → Steps r count → Rows r ((count + 63) / 64)
-rows_of s = record { long = s.long; fit = omega (arith, s.few); cover = λ u a l. omega (arith, (s.ends u a l).1) }
+pub rows_of : {r : List ℕ} {count blocks : ℕ} → Steps r count → blocks ≡ (count + 63) / 64 → Rows r blocks
+rows_of s e =
+    record { long = omega (arith, s.long); fit = omega (arith, s.few); cover = λ u a l. omega (arith, (s.ends u a l).1) }
+
+pub in_blocks : {count blocks to : ℕ} → blocks ≡ (count + 63) / 64 → to < count → to < 64 * blocks
+in_blocks e h = omega arith

@@ -1,9 +1,9 @@
 -- What the functions promise that search. A reader of the contract of `shortest` need not read it. Assumes nothing.
-use Rattle.std.specs.Prelude.{◌≡◌, Bool, false, cond, not, ◌&&◌, ◌||◌, ◌⊎◌, List, ℕ, suc, ◌*◌, ◌/◌, ◌%◌, ◌≤◌, ◌<◌, T, eqb, length, get_or}
+use Rattle.std.specs.Prelude.{◌≡◌, Bool, false, cond, not, ◌&&◌, ◌||◌, ◌⊎◌, List, ℕ, ◌*◌, ◌/◌, ◌%◌, ◌≤◌, ◌<◌, T, eqb, length, get_or, Option, None, Some}
 use Rattle.base.specs.Bits.{bit}
 use Rattle.relation.specs.Relation.{linked}
 use Rattle.distances.specs.Walks.{Walk, Distances}
-use Rattle.distances.specs.declared.Found.{Found}
+use Rattle.distances.specs.declared.Cycle.{Cycle}
 
 -- a set of vertices as words of 64 bits: whether it has a vertex
 unfoldable pub has_vertex : List ℕ → ℕ → Bool
@@ -12,12 +12,6 @@ has_vertex s x = bit (get_or s (x / 64) 0) (x % 64)
 -- the vertices in word number `at` of a set
 abbrev pub in_word : (at w : ℕ) → ℕ → Bool
 in_word at w x = eqb (x / 64) at && bit w (x % 64)
-
--- The vertices with steps lie in the first blocks, and the list has these.
-pub record Rows (r : List ℕ) (words : ℕ) : Type 0 where
-  pub long : 1024 * words ≤ length r
-  pub fit : words ≤ 16
-  pub cover : (u a : ℕ) → T (linked r u a) → a < 64 * words
 
 -- The set s' is s with the vertices that pass a test, too.
 pub record Joined (test : ℕ → Bool) (s s' : List ℕ) : Type 0 where
@@ -55,29 +49,30 @@ pub record Unnoted (steps : List ℕ) : Type 0 where
   pub long : length steps ≡ 1024
   pub is : (x : ℕ) → get_or steps x 1024 ≡ 1024
 
--- A closed walk of a vertex, with the distances to it that are smaller.
+-- The shortest closed walk of a vertex has so many steps, and the list has the distances to it that are smaller.
 pub record Closed (r : List ℕ) (to L : ℕ) (steps : List ℕ) : Type 0 where
   pub positive : 0 < L
   pub walk : Walk r to L to
+  pub least : (n : ℕ) → 0 < n → Walk r to n to → L ≤ n
   pub distances : Distances r to L steps
 
--- The length of the shortest closed walk of a vertex if it is below the bound, and else the bound.
-pub record ShortestOf (r : List ℕ) (to bound : ℕ) (steps : List ℕ) (L : ℕ) : Type 0 where
-  pub long : length steps ≡ 1024
-  pub most : L ≤ bound
-  pub least : (n : ℕ) → 0 < n → Walk r to n to → L ≤ n
-  pub found : L < bound → Closed r to L steps
+-- What a search below a bound comes to: the length of the shortest closed walk of a vertex, which is below the bound, or that there is none
+-- so short.
+abbrev pub ShortestOf : (r : List ℕ) (to bound : ℕ) (steps : List ℕ) → Option ℕ → Type 0
+ShortestOf r to bound steps None = (n : ℕ) → 0 < n → Walk r to n to → bound ≤ n
+ShortestOf r to bound steps (Some L) = (L < bound) × Closed r to L steps
 
--- A vertex has a closed walk of so many steps, and those of the vertices before it are all longer.
-pub record FirstOf (r : List ℕ) (count v L : ℕ) : Type 0 where
-  pub positive : 0 < L
-  pub vertex : v < count
-  pub closed : Walk r v L v
-  pub first : (u n : ℕ) → u < v → 0 < n → Walk r u n u → L < n
+-- A vertex has a closed walk of so many steps, at most the count. No closed walk of a vertex before vertex v is shorter, and those of the
+-- vertices before the cycle's are all longer.
+pub record FirstOf (r : List ℕ) (count v : ℕ) (cycle : Cycle) : Type 0 where
+  pub positive : 0 < cycle.length
+  pub short : cycle.length ≤ count
+  pub vertex : cycle.vertex < count
+  pub closed : Walk r cycle.vertex cycle.length cycle.vertex
+  pub least : (u n : ℕ) → u < v → 0 < n → Walk r u n u → cycle.length ≤ n
+  pub first : (u n : ℕ) → u < cycle.vertex → 0 < n → Walk r u n u → cycle.length < n
 
--- The best of the vertices before v: no closed walk of theirs is shorter, and if it has at most `count` steps, it is one of the first
--- vertex that has one so short.
-pub record Best (r : List ℕ) (count v : ℕ) (b : Found) : Type 0 where
-  pub most : b.length ≤ suc count
-  pub least : (u n : ℕ) → u < v → 0 < n → Walk r u n u → b.length ≤ n
-  pub found : b.length ≤ count → FirstOf r count b.vertex b.length
+-- The best of the vertices before v: none of them has a closed walk of at most `count` steps, or the first with the shortest is told.
+abbrev pub Best : (r : List ℕ) (count v : ℕ) → Option Cycle → Type 0
+Best r count v None = (u n : ℕ) → u < v → 0 < n → Walk r u n u → count < n
+Best r count v (Some cycle) = FirstOf r count v cycle

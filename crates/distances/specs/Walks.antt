@@ -1,9 +1,8 @@
 -- Walks along a relation between vertices, which are numbers: closed walks, the shortest of them, and the distances to its vertex. Assumes
 -- nothing.
-use Rattle.std.specs.Prelude.{◌≡◌, List, ℕ, suc, ◌+◌, ◌*◌, ◌/◌, ◌≤◌, ◌<◌, T, length, get_or}
+use Rattle.std.specs.Prelude.{◌≡◌, List, ℕ, suc, ◌+◌, ◌*◌, ◌/◌, ◌≤◌, ◌<◌, T, length, get_or, Option, None, Some}
 use Rattle.relation.specs.Relation.{linked}
 use Rattle.distances.specs.declared.Cycle.{Cycle}
-use Rattle.distances.specs.declared.Cycle.TheVariants.{Through, Nowhere}
 
 -- A walk of so many steps from one vertex to another: no step from the vertex itself; or a step from a to b that the relation has, and a
 -- walk of one step less from b.
@@ -45,7 +44,7 @@ pub record Shortest (r : List ℕ) (count v L : ℕ) (steps : List ℕ) : Type 0
 pub record Acyclic (r : List ℕ) (count : ℕ) : Type 0 where
   pub none : (u n : ℕ) → 0 < n → n ≤ count → Walk r u n u → ⊥
 
--- What the answer says of a relation, with the list of steps that it leaves.
-abbrev pub Answered : (r : List ℕ) (count : ℕ) (steps : List ℕ) → Cycle → Type 0
-Answered r count steps (Through v L) = Shortest r count v L steps
-Answered r count steps Nowhere = Acyclic r count
+-- What the answer says of a relation, with the list of steps that it leaves: there is no closed walk, or the shortest one is told.
+abbrev pub Answered : (r : List ℕ) (count : ℕ) (steps : List ℕ) → Option Cycle → Type 0
+Answered r count steps None = Acyclic r count
+Answered r count steps (Some cycle) = Shortest r count cycle.vertex cycle.length steps

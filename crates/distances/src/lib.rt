@@ -1,196 +1,148 @@
-// Shortest closed walks of a relation between vertices below 1,024, and how many steps each vertex is away from one on such a walk. Sets of
-// vertices are bits of sixteen words. The search goes backwards, from a vertex to those with a step to it, level by level.
+// Shortest closed walks of a relation between vertices below 1,024, and how many steps each vertex is away from one on such a walk. The
+// search goes backwards, from a vertex to those with a step to it, level by level.
 #![tactic(auto)]
 
-ghost use Rattle.std.specs.Prelude.{◌≡◌, ℕ, ◌*◌, ◌≤◌, ◌<◌, T, length};
+ghost use Rattle.std.specs.Prelude.{◌≡◌, ℕ, ◌+◌, ◌*◌, ◌/◌, ◌≤◌, ◌<◌, T};
 ghost use Rattle.relation.specs.Relation.{linked};
 ghost use Rattle.distances.specs.Walks.{Steps, Answered};
-ghost use Rattle.distances.specs.Inner.{Rows, has_vertex, in_word, Joined, Expanded, Parted, Unnoted, ShortestOf, Best};
+ghost use Rattle.distances.specs.Inner.{has_vertex, in_word, Joined, Expanded, Parted, ShortestOf, Best};
 
 use relation::BLOCK_WORDS;
 
-// The shortest closed walk: the first vertex that has one so short, and how many steps it has.
+// A closed walk: a vertex on it, and how many steps it has.
 #[derive(Clone, Copy)]
-pub enum Cycle {
-    Through { vertex: usize, length: usize },
-    Nowhere,
+pub struct Cycle {
+    pub vertex: usize,
+    pub length: usize,
 }
 
 // What stands where no distance is noted.
 pub const UNREACHED: u16 = 1024;
 
-// The best of the vertices passed: the first that has a closed walk of so many steps, the fewest. Until there is one, the length is
-// count + 1, which is longer than any shortest closed walk.
+// A set of vertices: vertex x is bit x % 64 of word x / 64.
+type VertexSet = [u64; 16];
+
+// A number for each vertex.
+type Noted = [u16; 1024];
+
+// A relation with the count of its vertices and of the blocks that they lie in. Past these blocks it leads from nowhere.
 #[derive(Clone, Copy)]
-struct Found {
-    vertex: usize,
-    length: usize,
+struct Graph<'a> {
+    relation: &'a [u64],
+    count: usize,
+    blocks: usize,
+    ghost steps: { Steps relation.now count },
+    ghost all_blocks: { blocks ≡ (count + 63) / 64 },
 }
 
-// Puts the vertices that have a step to one vertex into a set. A vertex has one word in each block, and past the first blocks they are
-// zero.
-fn with_row(relation: &[u64], words: usize, row: usize, set: &mut [u64])
-    requires rows { Rows relation.now words }
-    requires row_bound { row < 1024 }
-    requires set_len { length set.old ≡ 16 }
-    ensures { Joined (linked relation.now row) set.old set.new }
-{
-    let mut i = 0;
-    while i < words {
-        set[i] = set[i] | relation[BLOCK_WORDS * i + row];
-        i += 1;
+impl<'a> Graph<'a> {
+    // Puts the vertices that have a step to one vertex into a set. A vertex has one word in each block.
+    fn with_row(&self, row: usize, set: &mut VertexSet)
+        requires { row < 1024 }
+        ensures { Joined (linked self.now.relation.now row) set.old set.new }
+    {
+        for i in 0..self.blocks {
+            set[i] |= self.relation[BLOCK_WORDS * i + row];
+        }
     }
-}
 
-// Notes how far the vertices in word `at` of a level are, and puts those that have a step to one of them into a set.
-fn expand_word(
-    relation: &[u64],
-    words: usize,
-    at: usize,
-    level: u64,
-    far: u16,
-    steps: &mut [u16],
-    set: &mut [u64],
-)
-    requires rows { Rows relation.now words }
-    requires at_bound { at < 16 }
-    requires steps_len { length steps.old ≡ 1024 }
-    requires set_len { length set.old ≡ 16 }
-    ensures { Expanded relation.now (in_word at level) far steps.old set.old steps.new
-        set.new }
-{
-    let mut left = level;
-    while 0 < left {
-        let e = base::lowest(left);
-        left = base::without(left, e);
-        let vertex = 64 * at + e;
-        steps[vertex] = far;
-        with_row(relation, words, vertex, set);
+    // Notes how far the vertices in word `at` of a level are, and puts those that have a step to one of them into a set.
+    fn expand_word(&self, at: usize, level: u64, far: u16, steps: &mut Noted, set: &mut VertexSet)
+        requires { at < 16 }
+        ensures { Expanded self.now.relation.now (in_word at level) far steps.old set.old steps.new set.new }
+    {
+        let mut left = level;
+        while 0 < left {
+            let e = base::lowest(left);
+            left = base::without(left, e);
+            let vertex = 64 * at + e;
+            steps[vertex] = far;
+            self.with_row(vertex, set);
+        }
     }
-}
 
-// The same for all vertices of a level.
-fn expand(
-    relation: &[u64],
-    words: usize,
-    level: &[u64; 16],
-    far: u16,
-    steps: &mut [u16],
-    set: &mut [u64],
-)
-    requires rows { Rows relation.now words }
-    requires by_index { (x : ℕ) → T (has_vertex level.now x) → x < 64 * words }
-    requires steps_len { length steps.old ≡ 1024 }
-    requires set_len { length set.old ≡ 16 }
-    ensures { Expanded relation.now (has_vertex level.now) far steps.old set.old
-        steps.new set.new }
-{
-    let mut at = 0;
-    while at < words {
-        expand_word(relation, words, at, level[at], far, steps, set);
-        at += 1;
+    // The same for all vertices of a level.
+    fn expand(&self, level: &VertexSet, far: u16, steps: &mut Noted, set: &mut VertexSet)
+        requires { (x : ℕ) → T (has_vertex level.now x) → x < 64 * self.now.blocks }
+        ensures { Expanded self.now.relation.now (has_vertex level.now) far steps.old set.old steps.new set.new }
+    {
+        for at in 0..self.blocks {
+            self.expand_word(at, level[at], far, steps, set);
+        }
+    }
+
+    // How many steps the shortest closed walk of a vertex has, if they are below a bound. Then `steps` has the distances to the vertex that
+    // are smaller.
+    fn distances(&self, to: usize, bound: usize, steps: &mut Noted) -> Option<usize>
+        requires { (to < self.now.count) × (bound ≤ 1025) }
+        ensures { ShortestOf self.now.relation.now to bound steps.new result }
+    {
+        steps.fill(UNREACHED);
+        let mut level = [0u64; 16];
+        level[to / 64] = base::power(to % 64);
+        let mut seen = level;
+        for far in 1..bound {
+            let mut next = [0u64; 16];
+            self.expand(&level, (far - 1) as u16, steps, &mut next);
+            if base::has(next[to / 64], to % 64) {
+                return Some(far);
+            }
+            if !part(self.blocks, &next, &mut level, &mut seen) {
+                return None;
+            }
+        }
+        None
+    }
+
+    // The shortest closed walk of all vertices, at the first vertex that has one so short. A search needs to find only what is shorter than
+    // the best before it, so it is cut off there; before there is one, it is cut off behind the number of vertices.
+    fn first_shortest(&self, steps: &mut Noted) -> Option<Cycle>
+        ensures { Best self.now.relation.now self.now.count self.now.count result }
+    {
+        let mut best: Option<Cycle> = None;
+        for vertex in 0..self.count {
+            let bound = match best {
+                Some(cycle) => cycle.length,
+                None => self.count + 1,
+            };
+            if let Some(length) = self.distances(vertex, bound, steps) {
+                best = Some(Cycle { vertex, length });
+            }
+        }
+        best
     }
 }
 
 // The next level is what a set has that was not seen. It is seen now. Whether there is any: the words are gathered, without a test in each
 // turn.
-fn part(words: usize, set: &[u64; 16], level: &mut [u64], seen: &mut [u64]) -> bool
-    requires words_bound { words ≤ 16 }
-    requires level_len { length level.old ≡ 16 }
-    requires seen_len { length seen.old ≡ 16 }
+fn part(words: usize, set: &VertexSet, level: &mut VertexSet, seen: &mut VertexSet) -> bool
+    requires { words ≤ 16 }
     ensures { Parted words set.now level.old seen.old level.new seen.new result }
 {
-    let mut any = 0u64;
-    let mut i = 0;
-    while i < words {
+    let mut any = 0;
+    for i in 0..words {
         let old = seen[i];
         let both = old | set[i];
         let fresh = both ^ old;
         level[i] = fresh;
         seen[i] = both;
-        any = any | fresh;
-        i += 1;
+        any |= fresh;
     }
     0 < any
 }
 
-// Notes that no vertex is reached.
-fn clear(steps: &mut [u16])
-    requires { length steps.old ≡ 1024 }
-    ensures { Unnoted steps.new }
-{
-    let mut i = 0;
-    while i < 1024 {
-        steps[i] = UNREACHED;
-        i += 1;
-    }
-}
-
-// How many steps the shortest closed walk of a vertex has, if they are below a bound; else the bound. If they are, `steps` has the
-// distances to the vertex that are smaller.
-fn distances(relation: &[u64], count: usize, to: usize, bound: usize, steps: &mut [u16]) -> usize
-    requires steps { Steps relation.now count }
-    requires to_lt_count { (to < count) × (bound ≤ 1025) }
-    requires steps_len { length steps.old ≡ 1024 }
-    ensures { ShortestOf relation.now to bound steps.new result }
-{
-    clear(steps);
-    let words = (count + 63) / 64;
-    let mut level = [0u64; 16];
-    level[to / 64] = base::power(to % 64);
-    let mut seen = level;
-    let mut far = 0;
-    while far + 1 < bound {
-        let mut next = [0u64; 16];
-        expand(relation, words, &level, far as u16, steps, &mut next);
-        far += 1;
-        if base::has(next[to / 64], to % 64) {
-            return far;
-        }
-        if !part(words, &next, &mut level, &mut seen) {
-            return bound;
-        }
-    }
-    bound
-}
-
-// The best of all vertices. A search needs to find only what is shorter than the best before it, so it is cut off there.
-fn first_shortest(relation: &[u64], count: usize, steps: &mut [u16]) -> Found
-    requires steps { Steps relation.now count }
-    requires steps_len { length steps.old ≡ 1024 }
-    ensures { Best relation.now count count result }
-{
-    let mut best = Found {
-        vertex: 0,
-        length: count + 1,
-    };
-    let mut v = 0;
-    while v < count {
-        let length = distances(relation, count, v, best.length, steps);
-        if length < best.length {
-            best = Found {
-                vertex: v,
-                length: length,
-            };
-        }
-        v += 1;
-    }
-    best
-}
-
 // The shortest closed walk, with the distances to its vertex that are below its length. They are noted by one more search: the searches
 // from later vertices have overwritten them.
-pub fn shortest(relation: &[u64], count: usize, steps: &mut [u16; 1024]) -> Cycle
+pub fn shortest(relation: &[u64], count: usize, steps: &mut [u16; 1024]) -> Option<Cycle>
     requires { Steps relation.now count }
     ensures { Answered relation.now count steps.new result }
 {
-    let best = first_shortest(relation, count, steps);
-    if count < best.length {
-        return Cycle::Nowhere;
-    }
-    distances(relation, count, best.vertex, best.length + 1, steps);
-    Cycle::Through {
-        vertex: best.vertex,
-        length: best.length,
-    }
+    let graph = Graph {
+        relation,
+        count,
+        blocks: (count + 63) / 64,
+    };
+    let best = graph.first_shortest(steps)?;
+    graph.distances(best.vertex, best.length + 1, steps);
+    Some(best)
 }

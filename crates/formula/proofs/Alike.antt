@@ -2,16 +2,13 @@
 -- come to the same: the same refusal, or the same formula with bytes left that again look alike. What "look alike" is stays open:
 -- `Looks` lists what is asked of it, and Fuel and Prefix give one relation each. The two may begin at different places: `place` takes
 -- a place in the one to that in the other, and goes on with it from byte to byte; their scopes differ by the same. Assumes nothing.
-use mathlib.Core.Path.{◌≡◌, refl, ap, subst, ◌∙◌}
-use mathlib.Core.Logic.{◌⊎◌, inl, inr, ⊎_elim}
-use mathlib.Core.Bool.{Bool, true, false}
-use mathlib.Core.List.{List, [], ◌∷◌, map}
-use Prim.Native.Nat.{ℕ, zero, suc, ◌+◌, ◌-◌, ◌≤◌, ◌<◌}
-use native.Mathlib.Omega.{arith}
-use lib.Dec.{T, ltb, leb, ltb→lt}
-use lib.ListN.{length, get_or}
+use Rattle.std.proofs.Common.{◌≡◌, refl, ap, subst, ◌∙◌, ◌⊎◌, inl, inr, ⊎_elim, Bool, true, false, List, [], ◌∷◌, map, ℕ, zero, suc, ◌+◌}
+use Rattle.std.proofs.Common.{◌-◌, ◌≤◌, ◌<◌, arith, T, ltb, leb, ltb→lt, length, get_or}
 use Rattle.formula.specs.Formula.{Formula}
 use Rattle.formula.specs.Refusal.{at_byte, unguarded, moved_to}
+use Rattle.formula.specs.declared.Fault.{Fault}
+use Rattle.formula.specs.declared.Fault.TheVariants.{MissingOperator, UnknownOpcode, TooManyOperators, TooManyOfKind}
+use Rattle.formula.specs.declared.Fault.TheVariants.{MissingOperand, UnknownSignal, UnboundVariable}
 use Rattle.formula.specs.declared.Refusal.{Refusal}
 use Rattle.formula.specs.Reading.{Opcode, opcode, Head, Read, Reader, and_then, byte_from, byte, answered, known, within}
 use Rattle.formula.specs.Reading.{one_more, counted, Scope, outside, entered, behind_next, depth_asked, operands, questions}
@@ -43,17 +40,17 @@ within_moved place (Opcode.fix g) h l = refl
 
 -- the refusals that a question about a byte gives, by the byte's place
 pub data OfByte : (ℕ → Refusal) → Type 0 where
-  unknown : OfByte (at_byte 2)
-  commands : OfByte (at_byte 3)
-  limits : OfByte (at_byte 4)
-  signal : OfByte (at_byte 6)
-  depth : OfByte (at_byte 7)
+  unknown : OfByte (at_byte UnknownOpcode)
+  commands : OfByte (at_byte TooManyOperators)
+  limits : OfByte (at_byte TooManyOfKind)
+  signal : OfByte (at_byte UnknownSignal)
+  depth : OfByte (at_byte UnboundVariable)
   guard : {binder : ℕ} → OfByte (unguarded binder)
 
 -- the refusals where there is no byte
-pub data AtEnd : ℕ → Type 0 where
-  command : AtEnd 1
-  operand : AtEnd 5
+pub data AtEnd : Fault → Type 0 where
+  command : AtEnd MissingOperator
+  operand : AtEnd MissingOperand
 
 -- in a relation R of a head and the other input's bytes left, and at most n and m bytes left
 pub record Near (R : ℕ → Head → List ℕ → Type 0) (n m s : ℕ) (h : Head) (l : List ℕ) : Type 0 where
@@ -62,7 +59,7 @@ pub record Near (R : ℕ → Head → List ℕ → Type 0) (n m s : ℕ) (h : He
   pub second : length l ≤ m
 
 -- with no byte left the bound on the nesting does not matter
-no_byte : (d : ℕ) (scope : Scope) (h : Head) → formula d scope (over h []) ≡ Read.refused (at_byte 1 h.at)
+no_byte : (d : ℕ) (scope : Scope) (h : Head) → formula d scope (over h []) ≡ Read.refused (at_byte MissingOperator h.at)
 no_byte zero scope h = refl
 no_byte (suc d) scope h = refl
 
@@ -70,7 +67,7 @@ no_byte (suc d) scope h = refl
 module _ (P : Refusal → Type 0) where
   -- a look at the first byte of the two
   pub data Look (R : Head → List ℕ → Type 0) (h : Head) : List ℕ → List ℕ → Type 0 where
-    none : ((code : ℕ) → AtEnd code → P (at_byte code h.at)) → Look R h [] []
+    none : ((fault : Fault) → AtEnd fault → P (at_byte fault h.at)) → Look R h [] []
     some : {b : ℕ} {x y : List ℕ} → R (behind h x) y → Look R h (b ∷ x) (b ∷ y)
 
   -- What is asked of a relation. Its number says how many more bytes may be looked at before the next command counts: one before
@@ -111,24 +108,24 @@ module _ (P : Refusal → Type 0) where
         (e (h.at + 1 - 1) ∙ ap other (back h.at))
         (Alike.refused (looks.refuse s h x y why c r.alike))
 
-    -- one whose refusal has a number and this place alone
-    code_alike : {A : Type 0} {S : Head → List ℕ → Type 0} {n m s : ℕ} {x y : List ℕ} (h : Head) (b : Bool) (code : ℕ)
+    -- one whose refusal has a fault and this place alone
+    fault_alike : {A : Type 0} {S : Head → List ℕ → Type 0} {n m s : ℕ} {x y : List ℕ} (h : Head) (b : Bool) (fault : Fault)
         (f g : Unit {0} → Reader A)
-        → OfByte (at_byte code) → Near R n m s (behind h x) y
+        → OfByte (at_byte fault) → Near R n m s (behind h x) y
         → (T b → Alike place S (f tt (behind h x)) (g tt (moved place (behind h x) y)))
-        → Alike place S (and_then f (answered b (at_byte code) (behind h x)))
-        (and_then g (answered b (at_byte code) (moved place (behind h x) y)))
-    code_alike h b code f g c r go = ask-alike h b (at_byte code) (at_byte code) f g c (λ i. refl) r go
+        → Alike place S (and_then f (answered b (at_byte fault) (behind h x)))
+        (and_then g (answered b (at_byte fault) (moved place (behind h x) y)))
+    fault_alike h b fault f g c r go = ask-alike h b (at_byte fault) (at_byte fault) f g c (λ i. refl) r go
 
-    byte-alike : {A : Type 0} {S : Head → List ℕ → Type 0} {n m s : ℕ} {h : Head} {l : List ℕ} (code : ℕ) (f g : ℕ → Reader A)
-        → AtEnd code → Near R (suc n) (suc m) (suc s) h l
+    byte-alike : {A : Type 0} {S : Head → List ℕ → Type 0} {n m s : ℕ} {h : Head} {l : List ℕ} (missing : Fault) (f g : ℕ → Reader A)
+        → AtEnd missing → Near R (suc n) (suc m) (suc s) h l
         → ((b : ℕ) (x y : List ℕ) → Near R n m s (behind h x) y → Alike place S (f b (behind h x)) (g b (moved place (behind h x) y)))
-        → Alike place S (and_then f (byte code h)) (and_then g (byte code (moved place h l)))
-    byte-alike {S = S} {n = n} {m = m} {s = s} {h = h} {l = l} code f g c r go = by (looks.look s h l r.alike) r.first r.second
+        → Alike place S (and_then f (byte missing h)) (and_then g (byte missing (moved place h l)))
+    byte-alike {S = S} {n = n} {m = m} {s = s} {h = h} {l = l} missing f g c r go = by (looks.look s h l r.alike) r.first r.second
       where
         by : {x y : List ℕ} → Look (R s) h x y → length x ≤ suc n → length y ≤ suc m
-            → Alike place S (and_then f (byte_from code h x)) (and_then g (byte_from code (moved place h y) y))
-        by (Look.none p) i j = Alike.refused (p code c)
+            → Alike place S (and_then f (byte_from missing h x)) (and_then g (byte_from missing (moved place h y) y))
+        by (Look.none p) i j = Alike.refused (p missing c)
         by (Look.some {b = b} {x = x} {y = y} q) i j =
             rw (← along h.at) (go b x y (record { alike = q; first = omega arith; second = omega arith }))
 
@@ -155,7 +152,7 @@ module _ (P : Refusal → Type 0) where
           → Agree (depth_asked scope d (behind h x)) (depth_asked (moved_scope place scope) d (moved place (behind h x) y))
       depth-alike scope d h x y r =
           rw (moved_length place scope)
-          (code_alike h (ltb d (length scope)) 7 _ _ OfByte.depth r λ t.
+          (fault_alike h (ltb d (length scope)) UnboundVariable _ _ OfByte.depth r λ t.
           let b = get_or scope d outside in
           rw (moved_at place scope d (ltb→lt d (length scope) t))
           (ask-alike h b.guarded (unguarded b.place) (unguarded (place b.place)) _ _ OfByte.guard (λ i. refl) r λ t. Alike.got r))
@@ -166,9 +163,9 @@ module _ (P : Refusal → Type 0) where
       operands-alike scope Opcode.unknown h l e r = Alike.got (near-fewer r)
       operands-alike scope (Opcode.constant b) h l e r = Alike.got (near-fewer r)
       operands-alike scope (Opcode.signal p) h l e r =
-          byte-alike 5 _ _ AtEnd.operand (near-more r) λ s x y r.
-          code_alike h (leb s 15) 6 _ _ OfByte.signal r λ t. Alike.got r
-      operands-alike scope Opcode.variable h l e r = byte-alike 5 _ _ AtEnd.operand (near-more r) λ d x y r. depth-alike scope d h x y r
+          byte-alike MissingOperand _ _ AtEnd.operand (near-more r) λ s x y r.
+          fault_alike h (leb s 15) UnknownSignal _ _ OfByte.signal r λ t. Alike.got r
+      operands-alike scope Opcode.variable h l e r = byte-alike MissingOperand _ _ AtEnd.operand (near-more r) λ d x y r. depth-alike scope d h x y r
       operands-alike scope (Opcode.pair o) h l e r =
           then_alike _ _ (agree scope h l (near-fewer r)) λ a h l r.
           then_alike _ _ (agree scope h l r) λ b h l r. Alike.got r
@@ -188,20 +185,20 @@ module _ (P : Refusal → Type 0) where
 
       -- the question about the limits, and what follows
       limits-alike : (scope : Scope) (op : Opcode) (h : Head) (x y : List ℕ) → h.commands < 48 → Near R n m 0 (behind h x) y
-          → Agree (and_then (λ u k. operands self scope op (counted op k)) (answered (within op (behind h x)) (at_byte 4) (behind h x)))
+          → Agree (and_then (λ u k. operands self scope op (counted op k)) (answered (within op (behind h x)) (at_byte TooManyOfKind) (behind h x)))
           (and_then (λ u k. operands other (moved_scope place scope) op (counted op k))
-          (answered (within op (moved place (behind h x) y)) (at_byte 4) (moved place (behind h x) y)))
+          (answered (within op (moved place (behind h x) y)) (at_byte TooManyOfKind) (moved place (behind h x) y)))
       limits-alike scope op h x y c r =
           rw (within_moved place op (behind h x) y)
-          (code_alike h (within op (behind h x)) 4 _ _ OfByte.limits r λ t.
+          (fault_alike h (within op (behind h x)) TooManyOfKind _ _ OfByte.limits r λ t.
           counted-alike scope op (behind h x) y c (back h.at) r)
 
       pub questions-alike : (scope : Scope) (h : Head) (l : List ℕ) → Near R (suc n) (suc m) 1 h l
           → Agree (questions self scope h) (questions other (moved_scope place scope) (moved place h l))
       questions-alike scope h l r =
-          byte-alike 1 _ _ AtEnd.command r λ b x y r.
-          code_alike h (known (opcode b)) 2 _ _ OfByte.unknown r λ t.
-          code_alike h (ltb h.commands 48) 3 _ _ OfByte.commands r λ c.
+          byte-alike MissingOperator _ _ AtEnd.command r λ b x y r.
+          fault_alike h (known (opcode b)) UnknownOpcode _ _ OfByte.unknown r λ t.
+          fault_alike h (ltb h.commands 48) TooManyOperators _ _ OfByte.commands r λ c.
           limits-alike scope (opcode b) h x y (ltb→lt h.commands 48 c) r
 
     alike-more : {n m : ℕ} {x y : Read Formula} → Alike place (Near R n m 1) x y → Alike place (Near R (suc n) (suc m) 1) x y
@@ -212,7 +209,7 @@ module _ (P : Refusal → Type 0) where
     none_left : {n m : ℕ} {h : Head} {x y : List ℕ} (d e : ℕ) (scope : Scope) → Look (R 0) h x y → length x ≤ 0 ⊎ length y ≤ 0
         → Alike place (Near R n m 1) (formula d scope (over h x)) (formula e (moved_scope place scope) (moved place h y))
     none_left {h = h} d e scope (Look.none p) z =
-        rw (no_byte d scope (over h []), no_byte e (moved_scope place scope) (moved place h [])) (Alike.refused (p 1 AtEnd.command))
+        rw (no_byte d scope (over h []), no_byte e (moved_scope place scope) (moved place h [])) (Alike.refused (p MissingOperator AtEnd.command))
     none_left d e scope (Look.some q) z = absurd (⊎_elim (λ i. omega arith) (λ i. omega arith) z)
 
     pub formula-alike : (d e : ℕ) (scope : Scope) (h : Head) (l : List ℕ) → Near R d e 1 h l

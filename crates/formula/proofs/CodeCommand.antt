@@ -1,131 +1,188 @@
--- A command with its operands. Where its opcode is read, the rest is what its operands read; the two kinds that have operands follow
+-- A command with its operands. Where its opcode is read, the rest is what its operands read; the kinds that have operands follow
 -- from the answers for these, which hold at every number that reaches the end of the bytes, so that no fuel is compared.
 -- Assumes nothing.
-use mathlib.Core.Path.{◌≡◌, refl, sym, ap, subst}
-use mathlib.Core.List.{List}
-use Prim.Native.Nat.{ℕ, zero, suc, ◌+◌, ◌-◌, ◌≤◌, ◌<◌}
-use native.Mathlib.Omega.{arith}
-use native.Mathlib.Decide.{dec_lt}
-use lib.Dec.{eqb}
-use lib.ListN.{length}
-use Rattle.formula.specs.Formula.{Formula}
+use Rattle.std.proofs.Common.{◌≡◌, refl, ap, ◌∙◌, ◌⊎◌, inl, inr, Bool, List, ℕ, zero, suc, ◌+◌, ◌-◌, ◌≤◌, arith, length}
+use Rattle.std.specs.Prelude.{Result, Ok, Err, IsErrAnd}
+use Rattle.std.proofs.lemmas.Result.{err_from_is_err_and}
+use Rattle.formula.specs.Formula.{Leaf, Formula}
 use Rattle.formula.specs.Table.{Operator}
-use Rattle.formula.specs.Reading.{Opcode, opcode, Read, Scope as Enclosing, and_then, done, operands, formula}
+use Rattle.formula.specs.Reading.{Opcode, Read, Reader, Scope as Enclosing, and_then, done, operands, formula}
+use Rattle.formula.specs.declared.Opcode as code
+use Rattle.formula.specs.declared.Opcode.TheVariants.{True, False, Present, Absent, Variable, Or, And, Next, Least, Greatest}
 use Rattle.formula.specs.declared.Head.{Head}
 use Rattle.formula.specs.declared.Scope.{Scope}
-use Rattle.formula.specs.declared.Parsed.{Parsed}
 use Rattle.formula.specs.declared.Refusal.{Refusal}
-use Rattle.formula.specs.declared.Taken.{Taken}
-use Rattle.formula.specs.declared.Taken.TheVariants as taken
-use Rattle.formula.specs.declared.Outcome.TheVariants.{Accepted, Refused}
-use Rattle.formula.specs.Inner.{point, enclosing, binders, Further, ScopeReady, Agrees, Command, Opening, Opened, Completed}
-use Rattle.formula.specs.Inner.{Encloses}
-use Rattle.formula.specs.Inner.{OperandScope, InsideReady, ReadBehind}
-use Rattle.formula.proofs.CodeOpcodes.{pair-opcode, fix-opcode, pair-byte, fix-byte}
-use Rattle.formula.proofs.CodeFormula.{clash, refuses, accepted, refused-first, unary, second}
+use Rattle.formula.specs.Inner.{named, point, enclosing, binders, Limits, Further, ScopeReady, Agrees, Command, Opened, Written}
+use Rattle.formula.specs.Inner.{OperandScope, InsideReady, ReadBehind, Signalled, Bound, behind_opcode, within_operator, numbers_within}
+use Rattle.formula.proofs.CodeOpcodes.{constant_kind, signal_kind, pair_kind, fixpoint_kind}
+use Rattle.formula.proofs.CodeFormula.{One, one-next, one-fixpoint, further_trans, alone, unary, binary}
 
--- the opcode, by what the code found
-pub opened_of : {s : List ℕ} {h : Head} {op : ℕ} {x : Head} {t : Taken} → t ≡ taken.Byte op x → Opening s h t → Opened s h op x
-opened_of {s} {h} q a = subst (λ (t : Taken). Opening s h t) q a
+-- reading stays where it stands
+pub still : {h : Head} → Limits h → Further h h
+still l = record { later = omega arith; grown = omega arith; more = omega arith; limits = l }
 
 -- reading may go on further on, and inside
 pub ready_on : {h x : Head} {scope : Scope} → Further h x → ScopeReady h scope → ScopeReady x scope
 ready_on f w = record { limits = f.limits; depth = omega (arith, f.more, w.depth); guarded = w.guarded }
 
-module _ {s : List ℕ} {h x : Head} {scope : Scope} {op : ℕ} (o : Opened s h op x) (w : ScopeReady h scope) where
+module _ {s : List ℕ} {h x : Head} {scope : Scope} {op : code.Opcode} (o : Opened s h op x) (w : ScopeReady h scope) where
   pub may_enter : InsideReady scope h.count op
   may_enter = record {
     number = omega (arith, o.count, o.further.limits.commands);
     guarded = w.guarded;
-    room = λ l. omega (arith, w.depth, o.deeper l, o.further.limits.fixpoints);
+    room = omega (arith, w.depth, o.fixpoints, o.further.limits.fixpoints);
   }
 
   pub ready-inside : {e place : ℕ} {inner : Scope} → OperandScope scope e place op inner → ScopeReady x inner
   ready-inside a = record {
     limits = o.further.limits;
-    depth = a.depth x.fixpoints (omega (arith, w.depth, o.further.more)) (λ l. omega (arith, w.depth, o.deeper l));
+    depth = omega (arith, a.depth, w.depth, o.fixpoints);
     guarded = a.guarded;
   }
 
 -- behind an operand of the command at h
-pub is-behind : {s : List ℕ} {h x y : Head} {op : ℕ} → Opened s h op x → Further x y → ReadBehind h.count y
+pub is-behind : {s : List ℕ} {h x y : Head} {op : code.Opcode} → Opened s h op x → Further x y → ReadBehind h.count y
 is-behind o f = record { after = omega (arith, o.count, f.grown); few = f.limits.commands }
 
 -- where a command was read, reading went on
-pub command-further : (s rows : List ℕ) (scope : Scope) {h : Head} {r : Parsed} → Command s h rows scope r → r.outcome ≡ Accepted →
-    Further h r.head
-command-further s rows scope c q = accepted (c (length s) (omega arith)) q
+pub command-further : {s : List ℕ} {h x : Head} {p q : List ℕ} (scope : Scope) → Command s h p scope q (Ok x) → Further h x
+command-further {s} scope c = (c (length s) (omega arith)).further
 
-pub stopped_command : (s : List ℕ) (h : Head) (rows : List ℕ) (scope : Scope) {r : Parsed} {t : Taken} {why : Refusal} →
-    t ≡ taken.Refused why → Opening s h t → r.outcome ≡ Refused why → Command s h rows scope r
-stopped_command s h rows scope q a o k l = refuses (subst (λ (t : Taken). Opening s h t) q a k (enclosing scope) l) o
+-- what the exit of a `?` returns
+pub exit : (P : Result Head Refusal → Type 0) {r : Result Head Refusal} {why : Refusal} → IsErrAnd r (λ w. w ≡ why) → P (Err why) → P r
+exit P {r} e p =
+    let (why, is, same) = err_from_is_err_and r e in
+    rw (is, same) p
 
--- a command whose opcode is read
-module _ {s : List ℕ} {h : Head} {rows : List ℕ} (scope : Scope) {op : ℕ} {x : Head} (o : Opened s h op x) where
-  pub opened_command : {r : Parsed} →
-      ((k : ℕ) → length s ≤ x.at + k →
-      Agrees s h.count h (binders scope) rows r (operands (formula k) (enclosing scope) (opcode op) (point s x))) →
-      Command s h rows scope r
-  opened_command {r} f zero l = absurd (omega (arith, o.inside))
-  opened_command {r} f (suc k) l = rw (o.left k (enclosing scope)) (f k (omega (arith, o.at)))
+-- which opcodes have one operand formula
+pub one_kind : {op : code.Opcode} → (op ≡ Next) ⊎ ((op ≡ Least) ⊎ (op ≡ Greatest)) → One (named op)
+one_kind (inl q) = rw q one-next
+one_kind (inr q) = let (greatest, is) = fixpoint_kind q in rw is (one-fixpoint greatest)
 
-  module _ {inner : Scope} {p : Parsed} (around : OperandScope scope h.count h.at op inner) (first : Command s x rows inner p) where
+-- A command whose opcode is read. The rows were p; with a refusal it says nothing what they became.
+module _ {s : List ℕ} {h : Head} (p : List ℕ) (scope : Scope) {op : code.Opcode} {x : Head} (o : Opened s h op x) where
+  -- what is left of it
+  abbrev left : ℕ → Read Formula
+  left k = operands (formula k) (enclosing scope) (named op) (point s x)
+
+  opened_command : (q : List ℕ) (r : Result Head Refusal) →
+      ((k : ℕ) → length s ≤ x.at + k → Agrees s h.count h (binders scope) p (left k) q r) → Command s h p scope q r
+  opened_command q r f zero l = absurd (omega (arith, o.inside))
+  opened_command q r f (suc k) l = rw (o.left k (enclosing scope)) (f k (omega (arith, o.at)))
+
+  -- a constant
+  pub constant_command : {q : List ℕ} → (op ≡ True) ⊎ (op ≡ False) → Written x p h.count op 0 q → Command s h p scope q (Ok x)
+  constant_command {q} kind written =
+      let (b, is) = constant_kind kind in
+      opened_command q (Ok x) (λ k m.
+      alone {f = Formula.leaf (Leaf.constant b)} (rw is)
+      (rw is (record {
+        rows = refl;
+        operator = Operator.leaf (Leaf.constant b);
+        command = refl;
+        operand = refl;
+        operators = refl;
+        lengths = refl;
+      }))
+      o.count o.further written)
+
+  -- a signal
+  module _ (kind : (op ≡ Present) ⊎ (op ≡ Absent)) where
+    pub refused-signal : {why : Refusal} →
+        ((present : Bool) (scope : Enclosing) (self : Enclosing → Reader Formula) →
+        behind_opcode s x scope (Opcode.signal present) self ≡ Read.refused why) → Command s h p scope p (Err why)
+    refused-signal {why} refused =
+        let (present, is) = signal_kind kind in
+        opened_command p (Err why) (λ k m. rw is (refused present (enclosing scope) (formula k)))
+
+    pub signal_command : {signal : ℕ} {y : Head} {q : List ℕ} → Signalled s x signal y → Written y p h.count op signal q →
+        Command s h p scope q (Ok y)
+    signal_command {signal} {y} {q} t written =
+        let (present, is) = signal_kind kind in
+        opened_command q (Ok y) (λ k m.
+        alone {f = Formula.leaf (Leaf.signal present signal)} (rw is (t.is present (enclosing scope) (formula k)))
+        (rw is (record {
+          rows = refl;
+          operator = Operator.leaf (Leaf.signal present signal);
+          command = refl;
+          operand = refl;
+          operators = refl;
+          lengths = refl;
+        }))
+        (t.count ∙ o.count) (further_trans o.further t.further) written)
+
+  -- a variable
+  module _ (kind : op ≡ Variable) where
+    pub refused-variable : {why : Refusal} →
+        ((self : Enclosing → Reader Formula) → behind_opcode s x (enclosing scope) Opcode.variable self ≡ Read.refused why) →
+        Command s h p scope p (Err why)
+    refused-variable {why} refused = opened_command p (Err why) (λ k m. rw kind (refused (formula k)))
+
+    pub variable_command : {binder : ℕ} {y : Head} {q : List ℕ} → Bound s x scope binder y → Written y p h.count op binder q →
+        Command s h p scope q (Ok y)
+    variable_command {binder} {y} {q} t written = opened_command q (Ok y) (λ k m.
+        alone {f = Formula.variable t.depth} (rw kind (t.is (formula k)))
+        (rw kind (record {
+          rows = refl;
+          operator = Operator.variable binder;
+          command = refl;
+          operand = refl;
+          operators = rw t.named;
+          lengths = refl;
+        }))
+        (t.count ∙ o.count) (further_trans o.further t.further) written)
+
+  module _ {inner : Scope} (around : OperandScope scope h.count h.at op inner) where
     -- the first operand's answer, by the scope that the definition gives it
-    operand : (fixpoints : Enclosing) (bs : List ℕ) → Encloses fixpoints bs inner → (k : ℕ) → length s ≤ x.at + k →
-        Agrees s (h.count + 1) x bs rows p (formula k fixpoints (point s x))
-    operand fixpoints bs a k l =
-        rw (← a.fixpoints, ← a.named, ← o.count) (first k l)
+    operand : (q : List ℕ) (r : Result Head Refusal) → Command s x p inner q r → (k : ℕ) → length s ≤ x.at + k →
+        Agrees s (h.count + 1) x (numbers_within (named op) h.count (binders scope)) p
+        (formula k (within_operator (named op) (x.at - 1) (enclosing scope)) (point s x)) q r
+    operand q r first k l =
+        let there : x.at - 1 ≡ h.at = omega (arith, o.at) in
+        rw (there, ← around.fixpoints, ← around.numbers, ← o.count) (first k l)
 
-    pub unary_command : {r : Parsed} → 7 < op → Completed p h.count op r → Command s h rows scope r
-    unary_command {r} l c = opened_command (λ k m. by k m (dec_lt 8 op))
-      where
-        by : (k : ℕ) → length s ≤ x.at + k → Dec (8 < op) →
-            Agrees s h.count h (binders scope) rows r (operands (formula k) (enclosing scope) (opcode op) (point s x))
-        by k m (yes q) =
-            let is = fix-opcode op q o.known in
-            let there : x.at - 1 ≡ h.at = omega (arith, o.at) in
-            rw is (unary (Formula.fix (eqb op 10))
-            (λ a. record {
-              rows = refl;
-              operator = Operator.fix (eqb op 10) (h.count + 1);
-              command = fix-byte op q o.known;
-              operand = refl;
-              operators = refl;
-              lengths = refl;
-            })
-            o.further (operand _ _ (rw there (around.fix q)) k m) c)
-        by k m (no q) =
-            let eight : op ≡ 8 = omega arith in
-            let is : opcode op ≡ Opcode.next = ap opcode eight in
-            rw is (unary Formula.next
-            (λ a. record {
-              rows = refl;
-              operator = Operator.next (h.count + 1);
-              command = sym eight;
-              operand = refl;
-              operators = refl;
-              lengths = refl;
-            })
-            o.further (operand _ _ (around.next (omega arith)) k m) c)
+    -- an operator of one operand
+    module _ (w : One (named op)) where
+      pub refused-body : {why : Refusal} → Command s x p inner p (Err why) → Command s h p scope p (Err why)
+      refused-body {why} body = opened_command p (Err why) (λ k m.
+          w.leads (formula k) (enclosing scope) (point s x) ∙ ap (and_then (λ a. done (w.make a))) (operand p (Err why) body k m))
 
-    -- a refusal of the first operand
-    pub refused-command : (why : Refusal) → 5 < op → op ≤ 7 → p.outcome ≡ Refused why → Command s h rows scope p
-    refused-command why l n q = opened_command (λ k m.
-        let is = pair-opcode op l n in
-        rw is (refused-first _ why q (operand _ _ (around.pair (omega arith)) k m)))
+      pub unary_command : {q r : List ℕ} {y : Head} → Command s x p inner q (Ok y) → Written y q h.count op 0 r →
+          Command s h p scope r (Ok y)
+      unary_command {q} {r} {y} body written = opened_command r (Ok y) (λ k m.
+          rw (w.leads (formula k) (enclosing scope) (point s x)) (unary w o.further (operand q (Ok y) body k m) written))
 
-    pub pair-command : {q r : Parsed} → 5 < op → op ≤ 7 → p.outcome ≡ Accepted → Command s p.head p.rows inner q →
-        Completed q h.count op r → Command s h rows scope r
-    pair-command {q} {r} l n acc next c = opened_command (λ k m.
-        rw (pair-opcode op l n) (by k (operand _ _ (around.pair (omega arith)) k m) m))
-      where
-        by : (k : ℕ) {y : Read Formula} → Agrees s (h.count + 1) x (binders scope) rows p y → length s ≤ x.at + k →
-            Agrees s h.count h (binders scope) rows r
-            (and_then (λ a h. and_then (λ b. done (Formula.pair (eqb op 6) a b)) (formula k (enclosing scope) h)) y)
-        by k (Agrees.refused z) m = clash acc z
-        by k (Agrees.got {x = z} g) m =
-            let a = around.pair (omega arith) in
-            let there : Agrees s p.head.count p.head (binders inner) p.rows q (formula k (enclosing inner) (point s p.head)) =
-            next k (omega (arith, g.further.later)) in
-            second (eqb op 6) (pair-byte op l n) o.further g c {x = formula k (enclosing scope) z}
-            (rw (← g.stands, ← a.fixpoints, ← a.named) there)
+    -- an operator of two, the first of which is read into the rows q
+    module _ (kind : (op ≡ Or) ⊎ (op ≡ And)) where
+      -- the first one's answer
+      first : (q : List ℕ) (r : Result Head Refusal) → Command s x p inner q r → (k : ℕ) → length s ≤ x.at + k →
+          Agrees s (h.count + 1) x (binders scope) p (formula k (enclosing scope) (point s x)) q r
+      first q r a k m = let (either, is) = pair_kind kind in rw is at (operand q r a k m)
+
+      pub refused-left : {why : Refusal} → Command s x p inner p (Err why) → Command s h p scope p (Err why)
+      refused-left {why} a =
+          let (either, is) = pair_kind kind in
+          opened_command p (Err why) (λ k m. rw is (ap (and_then _) (first p (Err why) a k m)))
+
+      module _ (q : List ℕ) {y : Head} (a : Command s x p inner q (Ok y)) where
+        -- that of the second one
+        second : (t : List ℕ) (r : Result Head Refusal) → Command s y q inner t r → (k : ℕ) → length s ≤ x.at + k →
+            Agrees s y.count y (binders scope) q (formula k (enclosing scope) (point s y)) t r
+        second t r b k m =
+            let (either, is) = pair_kind kind in
+            let fixpoints : enclosing inner ≡ enclosing scope = rw is at around.fixpoints in
+            let numbers : binders inner ≡ binders scope = rw is at around.numbers in
+            rw (← fixpoints, ← numbers) (b k (omega (arith, (first q (Ok y) a k m).further.later)))
+
+        pub refused-right : {why : Refusal} → Command s y q inner q (Err why) → Command s h p scope p (Err why)
+        refused-right {why} b =
+            let (either, is) = pair_kind kind in
+            opened_command p (Err why) (λ k m.
+            rw is (ap (and_then _) (first q (Ok y) a k m).is ∙ ap (and_then _) (second q (Err why) b k m)))
+
+        pub pair-command : {t r : List ℕ} {z : Head} → Command s y q inner t (Ok z) → Written z t h.count op 0 r →
+            Command s h p scope r (Ok z)
+        pair-command {t} {r} {z} b written =
+            let (either, is) = pair_kind kind in
+            opened_command r (Ok z) (λ k m.
+            rw is (binary either (formula k (enclosing scope)) is o.further (first q (Ok y) a k m) (second t (Ok z) b k m) written))

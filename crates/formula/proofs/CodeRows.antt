@@ -1,48 +1,12 @@
--- Writing a subformula into the rows, and listing subformulas from them. A subformula is written into three cells that no other one
--- has; a list of subformulas is the first one and the rest, or two lists end to end; and it depends on its own rows alone.
--- Assumes nothing.
-use mathlib.Core.Path.{◌≡◌, refl, sym, ◌∙◌}
-use mathlib.Core.List.{List, [], ◌∷◌, ◌++◌, map, map-append}
-use Prim.Native.Nat.{ℕ, ◌+◌, ◌%◌, ◌≤◌, ◌<◌}
-use native.Mathlib.Omega.{arith}
-use lib.ListN.{length, get_or, set, length-set}
-use lib.Seq.{get_or-set_same, get_or-set_other}
+-- Listing subformulas from the rows. A list of subformulas is the first one and the rest, or two lists end to end; and it depends on its
+-- own rows alone, which writing another one leaves as they are. Assumes nothing.
+use Rattle.std.proofs.Common.{◌≡◌, refl, sym, ◌∙◌, List, [], ◌∷◌, ◌++◌, map, ℕ, ◌+◌, ◌≤◌, ◌<◌, arith}
+use mathlib.Core.List.{map-append}
 use Rattle.base.specs.Lists.{range}
 use Rattle.base.proofs.NumberLaws.{values_join, values_same, values_cons}
 use Rattle.formula.specs.Table.{Operator, Table as Operators}
 use Rattle.formula.specs.Rows.{opcode_at, operand_at, length_at, opcode_byte, operand_of}
 use Rattle.formula.specs.Inner.{RowKept, RowPlaced, RowsList, RowsWritten}
-
-module _ (p : List ℕ) (e op a n : ℕ) (long : length p ≡ 144) (small : e < 48) (few : n ≤ 48) where
-  abbrev first : List ℕ
-  first = set p e op
-
-  abbrev second : List ℕ
-  second = set first (48 + e) a
-
-  abbrev third : List ℕ
-  third = set second (96 + e) (n % 256)
-
-  cell : (i : ℕ) → (i ≡ e → ⊥) → (i ≡ 48 + e → ⊥) → (i ≡ 96 + e → ⊥) → get_or third i 0 ≡ get_or p i 0
-  cell i u v w =
-      get_or-set_other second (96 + e) i (n % 256) 0 w ∙ get_or-set_other first (48 + e) i a 0 v ∙ get_or-set_other p e i op 0 u
-
-  -- the three stores write subformula e and no other
-  pub placed : RowPlaced p e op a n third
-  placed = record {
-    command = get_or-set_other second (96 + e) e (n % 256) 0 (λ q. omega arith)
-        ∙ get_or-set_other first (48 + e) e a 0 (λ q. omega arith)
-        ∙ get_or-set_same p e op 0 (omega arith);
-    operand = get_or-set_other second (96 + e) (48 + e) (n % 256) 0 (λ q. omega arith)
-        ∙ get_or-set_same first (48 + e) a 0 (simp length-set (omega arith));
-    sized = get_or-set_same second (96 + e) (n % 256) 0 (simp length-set (omega arith)) ∙ omega arith;
-    others = λ k l u. record {
-      command = cell k u (λ q. omega arith) (λ q. omega arith);
-      operand = cell (48 + k) (λ q. omega arith) (λ q. u (omega arith)) (λ q. omega arith);
-      sized = cell (96 + k) (λ q. omega arith) (λ q. omega arith) (λ q. u (omega arith));
-    };
-    long = simp length-set;
-  }
 
 alike_same : {p : List ℕ} {e : ℕ} → RowKept p p e
 alike_same = record { command = refl; operand = refl; sized = refl }

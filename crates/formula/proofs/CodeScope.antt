@@ -1,18 +1,13 @@
 -- The code's scope beside the definition's lists of enclosing fixpoints. Both lists have an element for each fixpoint, innermost first,
 -- which the code keeps from outside: element i of d is what is kept at d - 1 - i. Assumes nothing.
-use mathlib.Core.Path.{◌≡◌, refl, sym, ap, ◌∙◌}
-use mathlib.Core.Bool.{Bool}
-use mathlib.Core.List.{List, ◌∷◌, map}
-use Prim.Native.Nat.{ℕ, zero, suc, ◌+◌, ◌-◌, ◌%◌, ◌≤◌, ◌<◌}
-use native.Mathlib.Omega.{arith}
-use native.Mathlib.Numerals.{add-one}
-use lib.Dec.{ltb}
-use lib.ListN.{length, get_or, set}
-use lib.Seq.{get_or-set_same, get_or-set_other}
-use borrow.Author.Tests.{lt-ltb, le-ltb}
-use Rattle.formula.specs.Reading.{Binder, Scope as Enclosing, entered, behind_next}
+use Rattle.std.proofs.Common.{◌≡◌, refl, sym, ap, ◌∙◌, ◌⊎◌, Bool, List, ◌∷◌, map, ℕ, zero, suc, ◌+◌, ◌-◌, ◌%◌, ◌≤◌, ◌<◌, arith, add-one}
+use Rattle.std.proofs.Common.{ltb, length, get_or, set, get_or-set_same, get_or-set_other, lt-ltb, le-ltb}
+use Rattle.formula.specs.Reading.{Opcode, Binder, Scope as Enclosing, entered, behind_next}
 use Rattle.formula.specs.declared.Scope.{Scope}
-use Rattle.formula.specs.Inner.{inward, enclosing_at, enclosing, binders, OperandScope}
+use Rattle.formula.specs.declared.Opcode as code
+use Rattle.formula.specs.declared.Opcode.TheVariants.{Next, Least, Greatest}
+use Rattle.formula.specs.Inner.{named, deeper, inward, enclosing_at, enclosing, binders, OperandScope}
+use Rattle.formula.proofs.CodeOpcodes.{fixpoint_kind}
 
 -- what an array keeps at a number
 abbrev at : List ℕ → ℕ → ℕ
@@ -47,51 +42,41 @@ inward_set kept d v h =
     (ap (λ (l : List ℕ). v ∷ l) (inward-same _ _ d (λ k l. get_or-set_other kept d k v 0 (λ q. omega arith))))
 
 -- the scope of the operands of subformula e, whose byte is at a place, by the kind of its opcode
-module _ (scope : Scope) (e place op : ℕ) (nested : scope.guarded ≤ scope.depth) where
-  pub inside-pair : op < 8 → OperandScope scope e place op scope
-  inside-pair h = record {
-    pair = λ _. record { fixpoints = refl; named = refl };
-    next = λ q. absurd (omega arith);
-    fix = λ q. absurd (omega arith);
-    guarded = nested;
-    depth = λ n l _. l;
-  }
-
+module _ (scope : Scope) (e place : ℕ) (op : code.Opcode) (nested : scope.guarded ≤ scope.depth) where
   -- every fixpoint outside a next is guarded
-  pub inside-next : op ≡ 8 → OperandScope scope e place op
+  pub inside-next : op ≡ Next → OperandScope scope e place op
       (record { depth = scope.depth; guarded = scope.depth; binders = scope.binders; places = scope.places })
-  inside-next h = record {
-    pair = λ q. absurd (omega arith);
-    next = λ _. record {
-      fixpoints =
-          inward-same _ _ scope.depth (λ k l. ap (λ (g : Bool). binder (at scope.places k) g) (lt-ltb k scope.depth l))
-          ∙ sym (inward-map behind_next (enclosing_at scope) scope.depth);
-      named = refl;
-    };
-    fix = λ q. absurd (omega arith);
-    guarded = omega arith;
-    depth = λ n l _. l;
-  }
+  inside-next q =
+      let is : named op ≡ Opcode.next = ap named q in
+      record {
+        fixpoints =
+            rw is
+            (inward-same _ _ scope.depth (λ k l. ap (λ (g : Bool). binder (at scope.places k) g) (lt-ltb k scope.depth l))
+            ∙ sym (inward-map behind_next (enclosing_at scope) scope.depth));
+        numbers = rw is refl;
+        guarded = omega arith;
+        depth = rw is (omega arith);
+      }
 
   -- a fixpoint is innermost, and not guarded yet
-  pub inside-fix : 8 < op → e < 48 → scope.depth < 7 → length scope.binders ≡ 7 → length scope.places ≡ 7 →
+  pub inside-fixpoint : (op ≡ Least) ⊎ (op ≡ Greatest) → e < 48 → scope.depth + deeper (named op) ≤ 7 → length scope.binders ≡ 7 →
+      length scope.places ≡ 7 →
       OperandScope scope e place op (record {
         depth = scope.depth + 1;
         guarded = scope.guarded;
         binders = set scope.binders scope.depth (e % 256);
         places = set scope.places scope.depth place;
       })
-  inside-fix h small few seven also = record {
-    pair = λ q. absurd (omega arith);
-    next = λ q. absurd (omega arith);
-    fix = λ _. record {
-      fixpoints = entered_here;
-      named = rw add-one (inward_set scope.binders scope.depth (e % 256) (omega arith)
-          ∙ ap (λ (n : ℕ). n ∷ binders scope) (omega arith));
-    };
-    guarded = omega arith;
-    depth = λ n _ l. omega (arith, l h);
-  }
+  inside-fixpoint q small room seven also =
+      let (greatest, is) = fixpoint_kind q in
+      let few : scope.depth + 1 ≤ 7 = rw is at room in
+      record {
+        fixpoints = rw is (entered_here (omega arith));
+        numbers = rw is (rw add-one (inward_set scope.binders scope.depth (e % 256) (omega arith)
+            ∙ ap (λ (n : ℕ). n ∷ binders scope) (omega arith)));
+        guarded = omega arith;
+        depth = rw is refl;
+      }
     where
       d : ℕ
       d = scope.depth
@@ -103,7 +88,7 @@ module _ (scope : Scope) (e place op : ℕ) (nested : scope.guarded ≤ scope.de
       outer k l =
           ap (λ (p : ℕ). binder p (ltb k scope.guarded)) (get_or-set_other scope.places d k place 0 (λ q. omega arith))
 
-      entered_here : inward (λ k. binder (at placed k) (ltb k scope.guarded)) (d + 1) ≡ entered place ∷ enclosing scope
-      entered_here =
-          rw (add-one, le-ltb d scope.guarded nested, get_or-set_same scope.places d place 0 (omega arith))
+      entered_here : d < length scope.places → inward (λ k. binder (at placed k) (ltb k scope.guarded)) (d + 1) ≡ entered place ∷ enclosing scope
+      entered_here l =
+          rw (add-one, le-ltb d scope.guarded nested, get_or-set_same scope.places d place 0 l)
           (ap (λ (l : Enclosing). entered place ∷ l) (inward-same _ _ d outer))

@@ -1,9 +1,6 @@
 -- How reading moves the head: one byte further, and one command more, which counts as an or, a next or a fixpoint or as none of
 -- them. Assumes nothing.
-use mathlib.Core.Path.{◌≡◌, refl}
-use mathlib.Core.Bool.{Bool, true, false, cond}
-use mathlib.Core.List.{List}
-use Prim.Native.Nat.{ℕ, ◌+◌}
+use Rattle.std.proofs.Common.{◌≡◌, refl, Bool, true, false, cond, List, ℕ, ◌+◌}
 use Rattle.formula.specs.Reading.{Opcode, Head, one_more, counted}
 
 -- the head one byte further

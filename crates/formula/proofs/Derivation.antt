@@ -1,15 +1,13 @@
 -- What a reading that is not refused is: a tree of answered questions, one node for each operator. The laws about accepted formulas
 -- (Limits, Guarded, Spelling) go by this tree and never open the reader; that about refusal 8 (NamedBinder) goes by how it comes to such
 -- questions. Assumes nothing.
-use mathlib.Core.Path.{◌≡◌, refl, sym}
-use mathlib.Core.Bool.{Bool, true, false}
-use mathlib.Core.List.{List, [], ◌∷◌, map}
-use Prim.Native.Nat.{ℕ, zero, suc, ◌-◌, ◌≤◌, ◌<◌}
-use native.Mathlib.Omega.{arith}
-use lib.Dec.{T, ltb, leb, ltb→lt, leb→le}
-use lib.ListN.{length, get_or}
+use Rattle.std.proofs.Common.{◌≡◌, refl, sym, Bool, true, false, List, [], ◌∷◌, map, ℕ, zero, suc, ◌-◌, ◌≤◌, ◌<◌, arith, T, ltb, leb}
+use Rattle.std.proofs.Common.{ltb→lt, leb→le, length, get_or}
 use Rattle.formula.specs.Formula.{Leaf, Formula}
 use Rattle.formula.specs.Refusal.{at_byte}
+use Rattle.formula.specs.declared.Fault.{Fault}
+use Rattle.formula.specs.declared.Fault.TheVariants.{MissingOperator, UnknownOpcode, TooManyOperators, TooManyOfKind}
+use Rattle.formula.specs.declared.Fault.TheVariants.{MissingOperand, UnknownSignal, UnboundVariable}
 use Rattle.formula.specs.declared.Refusal.{Refusal}
 use Rattle.formula.specs.Reading.{Opcode, opcode, Head, Read, Reader, and_then, byte_from, answered, known, within}
 use Rattle.formula.specs.Reading.{counted, Scope, outside, entered, behind_next, guard_asked, operands, questions, formula}
@@ -48,16 +46,16 @@ pub data Reads : Scope → Head → Formula → Head → Type 0 where
       → Reads (entered (j.at - 1) ∷ scope) j a k
       → Reads scope h (Formula.fix g a) k
 
--- An outcome that is no refusal with a number and one place.
+-- An outcome that is no refusal with a fault and one place.
 abbrev pub Past : {B : Type 0} → Read B → Type 0
-Past o = (code place : ℕ) → o ≡ Read.refused (at_byte code place) → ⊥
+Past o = (fault : Fault) (place : ℕ) → o ≡ Read.refused (at_byte fault place) → ⊥
 
 -- What is known where a reading in several steps came to such an outcome: the questions with such a refusal were answered by yes.
 module _ {B : Type 0} (o : Read B) (Goal : Type 0) where
-  byte_past : Past o → (f : ℕ → Reader B) (code : ℕ) (h : Head) (l : List ℕ) → and_then f (byte_from code h l) ≡ o
+  byte_past : Past o → (f : ℕ → Reader B) (missing : Fault) (h : Head) (l : List ℕ) → and_then f (byte_from missing h l) ≡ o
       → ((c : ℕ) (rest : List ℕ) → l ≡ c ∷ rest → f c (behind h rest) ≡ o → Goal) → Goal
-  byte_past past f code h [] e go = absurd (past code h.at (sym e))
-  byte_past past f code h (c ∷ rest) e go = go c rest refl e
+  byte_past past f missing h [] e go = absurd (past missing h.at (sym e))
+  byte_past past f missing h (c ∷ rest) e go = go c rest refl e
 
   ask-past : (f : Unit {0} → Reader B) (t : Bool) (why : ℕ → Refusal) (h : Head) → (o ≡ Read.refused (why (h.at - 1)) → ⊥)
       → and_then f (answered t why h) ≡ o → (T t → f tt h ≡ o → Goal) → Goal
@@ -69,10 +67,10 @@ module _ (o : Read Formula) (past : Past o) (Goal : Type 0) (self : Scope → Re
   pub questions-past : (h : Head) → questions self scope h ≡ o
       → ((op : Opcode) (j : Head) → Begins op h j → operands self scope op j ≡ o → Goal) → Goal
   questions-past h e go =
-      byte_past o Goal past _ 1 h h.left e λ b rest l e.
-      ask-past o Goal _ (known (opcode b)) (at_byte 2) (behind h rest) (past 2 _) e λ t e.
-      ask-past o Goal _ (ltb h.commands 48) (at_byte 3) (behind h rest) (past 3 _) e λ c e.
-      ask-past o Goal _ (within (opcode b) (behind h rest)) (at_byte 4) (behind h rest) (past 4 _) e λ w e.
+      byte_past o Goal past _ MissingOperator h h.left e λ b rest l e.
+      ask-past o Goal _ (known (opcode b)) (at_byte UnknownOpcode) (behind h rest) (past UnknownOpcode _) e λ t e.
+      ask-past o Goal _ (ltb h.commands 48) (at_byte TooManyOperators) (behind h rest) (past TooManyOperators _) e λ c e.
+      ask-past o Goal _ (within (opcode b) (behind h rest)) (at_byte TooManyOfKind) (behind h rest) (past TooManyOfKind _) e λ w e.
       go (opcode b) (counted (opcode b) (behind h rest))
       (record { byte = b; rest = rest; left = l; is = refl; known = t; few = ltb→lt h.commands 48 c; within = w; moved = refl }) e
 
@@ -80,16 +78,16 @@ module _ (o : Read Formula) (past : Past o) (Goal : Type 0) (self : Scope → Re
   pub signal-past : (present : Bool) (j : Head) → operands self scope (Opcode.signal present) j ≡ o
       → ((s : ℕ) (k : Head) → Byte s j k → s ≤ 15 → Read.got (Formula.leaf (Leaf.signal present s)) k ≡ o → Goal) → Goal
   signal-past present j e go =
-      byte_past o Goal past _ 5 j j.left e λ s rest l e.
-      ask-past o Goal _ (leb s 15) (at_byte 6) (behind j rest) (past 6 _) e λ t e.
+      byte_past o Goal past _ MissingOperand j j.left e λ s rest l e.
+      ask-past o Goal _ (leb s 15) (at_byte UnknownSignal) (behind j rest) (past UnknownSignal _) e λ t e.
       go s (behind j rest) (record { rest = rest; left = l; moved = refl }) (leb→le s 15 t) e
 
   -- the questions 5 and 7 of a variable
   pub variable-past : (j : Head) → operands self scope Opcode.variable j ≡ o
       → ((d : ℕ) (k : Head) → Byte d j k → d < length scope → guard_asked scope d k ≡ o → Goal) → Goal
   variable-past j e go =
-      byte_past o Goal past _ 5 j j.left e λ d rest l e.
-      ask-past o Goal _ (ltb d (length scope)) (at_byte 7) (behind j rest) (past 7 _) e λ t e.
+      byte_past o Goal past _ MissingOperand j j.left e λ d rest l e.
+      ask-past o Goal _ (ltb d (length scope)) (at_byte UnboundVariable) (behind j rest) (past UnboundVariable _) e λ t e.
       go d (behind j rest) (record { rest = rest; left = l; moved = refl }) (ltb→lt d (length scope) t) e
 
 -- What is known where a reading was not refused at all.
@@ -97,7 +95,7 @@ got_not : {B : Type 0} {b : B} {k : Head} {why : Refusal} → Read.got b k ≡ R
 got_not e = let z : ◌≡◌ {A = ℕ} 0 1 = cc in omega arith
 
 got-past : {B : Type 0} {b : B} {k : Head} → Past (Read.got b k)
-got-past code place e = got_not e
+got-past fault place e = got_not e
 
 module _ {B : Type 0} (b : B) (k : Head) (Goal : Type 0) where
   then_got : {A : Type 0} (f : A → Reader B) (x : Read A) → and_then f x ≡ Read.got b k

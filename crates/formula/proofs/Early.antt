@@ -1,10 +1,6 @@
 -- A refusal of reading has early places. By Prefix 97 bytes decide the outcome, and a refusal's place is at most the length (Fuel), so it
 -- is at most 97, however long the input is; and the byte of a binder comes before (NamedBinder). Assumes nothing.
-use mathlib.Core.Path.{◌≡◌, ◌∙◌}
-use mathlib.Core.List.{List}
-use Prim.Native.Nat.{ℕ, ◌≤◌}
-use native.Mathlib.Omega.{arith}
-use lib.ListN.{take, length-take}
+use Rattle.std.proofs.Common.{◌≡◌, ◌∙◌, List, ℕ, ◌≤◌, arith, take, length-take}
 use Rattle.formula.specs.Refusal.{place_of, PlacesWithin}
 use Rattle.formula.specs.declared.Refusal.{Refusal}
 use Rattle.formula.specs.declared.Refusal.TheVariants.{AtByte, Unguarded}
@@ -19,6 +15,6 @@ place-early bytes e =
     omega (arith, s.inside, length-take 97 bytes)
 
 pub parse-early : (bytes : List ℕ) (why : Refusal) → parse bytes ≡ Reading.refused why → PlacesWithin 97 why
-parse-early bytes (AtByte code at) e = place-early bytes e
+parse-early bytes (AtByte fault at) e = place-early bytes e
 parse-early bytes (Unguarded at binder) e =
     (place-early bytes e, omega (arith, place-early bytes e, named-before (parse-named bytes e)))

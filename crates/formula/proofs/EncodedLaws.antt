@@ -2,14 +2,11 @@
 -- subformula has the same bytes. So rows that were empty before a list of subformulas was written hold its encoding (`wrote-encoded`);
 -- and decoding the encoding of an accepted formula gives back its subformulas, for the operands' numbers that the decoding works out are
 -- those of a well formed table (`encoded-entries`). Assumes nothing.
-use mathlib.Core.Path.{◌≡◌, refl, sym, ap, subst, ◌∙◌}
-use mathlib.Core.Bool.{Bool, true, false}
-use mathlib.Core.List.{List, ◌++◌, map}
-use Prim.Native.Nat.{ℕ, ◌+◌, ◌-◌, ◌≤◌, ◌<◌}
-use native.Mathlib.Omega.{arith}
-use native.Mathlib.Decide.{dec_lt}
-use lib.ListN.{length, get_or, replicate, length-append, length-replicate, get_or-replicate, get_or-append, get_or-eq_default}
-use lib.Seq.{get_or-append-add, ext_get_or}
+use Rattle.std.proofs.Common.{◌≡◌, refl, sym, ap, subst, ◌∙◌, Bool, true, false, List, ◌++◌, map, ℕ, ◌+◌, ◌-◌, ◌≤◌, ◌<◌, arith, length}
+use Rattle.std.proofs.Common.{get_or, replicate, length-append, get_or-append-add, ext_get_or}
+use Rattle.std.proofs.Math.Decide.{dec_lt}
+use Rattle.std.proofs.Math.ListN.{length-replicate, get_or-replicate, get_or-append, get_or-eq_default}
+use Rattle.std.specs.Prelude.{Result, IfOk}
 use Rattle.base.specs.Lists.{range}
 use Rattle.base.proofs.ListLaws.{get_d_map}
 use Rattle.base.proofs.NumberLaws.{values_at, values_length}
@@ -19,10 +16,11 @@ use Rattle.formula.specs.Reading.{opcode, Reading, parse, with_entries, reading}
 use Rattle.formula.specs.Rows.{operator_of, opcode_at, operand_at, length_at, end_at, operator_at, operators_of}
 use Rattle.formula.specs.Rows.{lengths_of, entries_of}
 use Rattle.formula.specs.Rows.{opcode_byte, operand_of, column, encoded, reading_of}
-use Rattle.formula.specs.Contract.{TableFor, stored}
+use Rattle.formula.specs.Contract.{Filled, stored}
 use Rattle.formula.specs.Inner.{RowKept, RowsWritten}
 use Rattle.formula.specs.Occurrence.{nothing}
-use Rattle.formula.specs.declared.Reading as code
+use Rattle.formula.specs.declared.Table.{Table}
+use Rattle.formula.specs.declared.Refusal.{Refusal}
 use Rattle.formula.proofs.Limits.{parse-limited}
 use Rattle.formula.proofs.WellFormed.{Pair, Operands, table-size, length-lengths, end_by_length}
 use Rattle.formula.proofs.WellFormed.{operator_in, end_in, parse_shaped}
@@ -187,16 +185,16 @@ stored-reading bytes = by (parse bytes) refl
     by (Reading.refused why) q = refl
     by (Reading.accepted f) q = ap Reading.accepted (encoded-entries bytes f q)
 
--- and has a table where it must
-pub stored-holds : (bytes : List ℕ) → TableFor (stored (reading bytes)).outcome (stored (reading bytes)).table
+-- and its table has subformulas
+pub stored-holds : (bytes : List ℕ) → IfOk (stored (reading bytes)) Filled
 unfolding reading table
 stored-holds bytes = by (parse bytes) refl
   where
-    by : (x : Reading Formula) → parse bytes ≡ x → TableFor (stored (with_entries x)).outcome (stored (with_entries x)).table
-    by (Reading.refused why) q = refl
+    by : (x : Reading Formula) → parse bytes ≡ x → IfOk (stored (with_entries x)) Filled
+    by (Reading.refused why) q = tt
     by (Reading.accepted f) q =
         record { some = omega (arith, table-size f, (parse-limited bytes f q).some); few = few bytes f q }
 
 -- MEANING 1.5: what reading hands back is a function of the bytes
-pub read_determined : (bytes : List ℕ) (r t : code.Reading) → r ≡ stored (reading bytes) → t ≡ stored (reading bytes) → r ≡ t
+pub read_determined : (bytes : List ℕ) (r t : Result Table Refusal) → r ≡ stored (reading bytes) → t ≡ stored (reading bytes) → r ≡ t
 read_determined bytes r t p q = p ∙ sym q

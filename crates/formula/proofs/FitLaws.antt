@@ -1,16 +1,13 @@
 -- Operators whose numbers are in range. What stands in a well formed table is so; and it stays so under a larger bound. Assumes nothing.
-use mathlib.Core.Path.{◌≡◌}
-use mathlib.Core.List.{List}
-use Prim.Native.Nat.{ℕ, ◌≤◌, ◌<◌}
-use native.Mathlib.Omega.{arith}
+use Rattle.std.proofs.Common.{◌≡◌, List, ℕ, ◌≤◌, ◌<◌, arith}
+use Rattle.std.specs.Prelude.{Result, Ok}
 use Rattle.formula.specs.Formula.{Leaf}
 use Rattle.formula.specs.Table.{Operator}
 use Rattle.formula.specs.Rows.{operator_at, end_at, reading_of}
 use Rattle.formula.specs.Reading.{reading}
 use Rattle.formula.specs.Access.{Fits, Placed, Readable}
 use Rattle.formula.specs.declared.Table.{Table}
-use Rattle.formula.specs.declared.Reading as code
-use Rattle.formula.specs.declared.Outcome.TheVariants.{Accepted}
+use Rattle.formula.specs.declared.Refusal.{Refusal}
 use Rattle.formula.proofs.WellFormed.{Operands, Shaped}
 use Rattle.formula.proofs.RowLaws.{HoldsFormula, reading-held, held_shaped, held-few}
 
@@ -47,6 +44,6 @@ module _ {bytes : List ℕ} {t : Table} (h : HoldsFormula bytes t) where
   pub held_readable : Readable t
   held_readable = record { few = held-few h; placed = held-placed; ends = λ e l. (held_shaped h e l).inside }
 
--- what a caller of reading has after an accepted outcome
-pub accepted_readable : (bytes : List ℕ) (r : code.Reading) → reading_of r ≡ reading bytes → r.outcome ≡ Accepted → Readable r.table
-accepted_readable bytes r is o = held_readable (reading-held bytes r is o)
+-- what a caller of reading has with a table
+pub accepted_readable : (bytes : List ℕ) (r : Result Table Refusal) {t : Table} → reading_of r ≡ reading bytes → r ≡ Ok t → Readable t
+accepted_readable bytes r is a = held_readable (reading-held bytes r is a)

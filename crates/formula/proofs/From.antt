@@ -1,12 +1,7 @@
 -- Reading from a byte on. From byte 0 it is reading. From any byte it is the definition of reading begun at
 -- that byte's place, which is how the code does it: that and reading the bytes from there on go side by side (Alike), one so many places
 -- ahead of the other. Assumes nothing.
-use mathlib.Core.Path.{◌≡◌, refl, sym, ap, ◌∙◌}
-use mathlib.Core.List.{List, [], ◌∷◌}
-use Prim.Native.Nat.{ℕ, ◌+◌, ◌≤◌}
-use native.Mathlib.Nat.{add-zero}
-use native.Mathlib.Omega.{arith}
-use lib.ListN.{length, drop}
+use Rattle.std.proofs.Common.{◌≡◌, refl, sym, ap, ◌∙◌, List, [], ◌∷◌, ℕ, ◌+◌, ◌≤◌, add-zero, arith, length, drop}
 use Rattle.formula.specs.Formula.{Formula}
 use Rattle.formula.specs.Reading.{Head, Read, Reading, ended, whole, formula, start, parse, with_entries, reading, counted_from}
 use Rattle.formula.specs.Reading.{reading_from}

@@ -2,15 +2,13 @@
 -- number of bytes left, so the definition's recursion can be read as if it had none. A refusal's number is 1 to 9; where a byte is
 -- missing (1, 5) its place is the length, else the place of a byte; and 8 has the place of a binder. All this comes from reading an input
 -- beside itself (Alike). Assumes nothing.
-use mathlib.Core.Path.{◌≡◌, refl, sym, ap, subst, ◌∙◌}
-use mathlib.Core.Logic.{◌⊎◌, inl, inr, ⊎_elim}
-use mathlib.Core.List.{List, [], ◌∷◌}
-use mathlib.Core.Option.{none}
-use Prim.Native.Nat.{ℕ, suc, ◌+◌, ◌≤◌, ◌<◌}
-use native.Mathlib.Omega.{arith}
-use lib.ListN.{length}
+use Rattle.std.proofs.Common.{◌≡◌, refl, sym, ap, subst, ◌∙◌, ◌⊎◌, inl, inr, ⊎_elim, List, [], ◌∷◌, ℕ, suc, ◌+◌, ◌≤◌, ◌<◌, arith, length}
+use Rattle.std.proofs.Math.Option.{none}
 use Rattle.formula.specs.Formula.{Formula}
-use Rattle.formula.specs.Refusal.{at_byte, unguarded, code_of, place_of, binder_place_of}
+use Rattle.formula.specs.Refusal.{fault_code, at_byte, unguarded, code_of, place_of, binder_place_of}
+use Rattle.formula.specs.declared.Fault.{Fault}
+use Rattle.formula.specs.declared.Fault.TheVariants.{MissingOperator, UnknownOpcode, TooManyOperators, TooManyOfKind}
+use Rattle.formula.specs.declared.Fault.TheVariants.{MissingOperand, UnknownSignal, UnboundVariable, BytesLeft}
 use Rattle.formula.specs.declared.Refusal.{Refusal}
 use Rattle.formula.specs.Reading.{Head, Read, Reader, Scope, questions, formula, Reading, ended, whole, start, parse}
 use Rattle.formula.proofs.RefusalLaws.{moved_nowhere}
@@ -45,23 +43,24 @@ other why a b c i d =
     }
 
 -- a refusal of the first kind, with another number than 8
-stopped_at : {total place : ℕ} (code : ℕ) → 1 < code → code ≤ 9 → (code ≡ 5 → ⊥) → (code ≡ 8 → ⊥) → place < total
-    → Stopped total (at_byte code place)
-stopped_at {place = p} code a b c d i = other (at_byte code p) a b c i (λ q _. d q)
+stopped_at : {total place : ℕ} (fault : Fault) → 1 < fault_code fault → fault_code fault ≤ 9 → (fault_code fault ≡ 5 → ⊥)
+    → (fault_code fault ≡ 8 → ⊥) → place < total → Stopped total (at_byte fault place)
+stopped_at {place = p} fault a b c d i = other (at_byte fault p) a b c i (λ q _. d q)
 
 stopped_byte : {total place : ℕ} {why : ℕ → Refusal} → place < total → OfByte why → Stopped total (why place)
-stopped_byte i OfByte.unknown = stopped_at 2 (omega arith) (omega arith) (λ q. omega arith) (λ q. omega arith) i
-stopped_byte i OfByte.commands = stopped_at 3 (omega arith) (omega arith) (λ q. omega arith) (λ q. omega arith) i
-stopped_byte i OfByte.limits = stopped_at 4 (omega arith) (omega arith) (λ q. omega arith) (λ q. omega arith) i
-stopped_byte i OfByte.signal = stopped_at 6 (omega arith) (omega arith) (λ q. omega arith) (λ q. omega arith) i
-stopped_byte i OfByte.depth = stopped_at 7 (omega arith) (omega arith) (λ q. omega arith) (λ q. omega arith) i
+stopped_byte i OfByte.unknown = stopped_at UnknownOpcode (omega arith) (omega arith) (λ q. omega arith) (λ q. omega arith) i
+stopped_byte i OfByte.commands = stopped_at TooManyOperators (omega arith) (omega arith) (λ q. omega arith) (λ q. omega arith) i
+stopped_byte i OfByte.limits = stopped_at TooManyOfKind (omega arith) (omega arith) (λ q. omega arith) (λ q. omega arith) i
+stopped_byte i OfByte.signal = stopped_at UnknownSignal (omega arith) (omega arith) (λ q. omega arith) (λ q. omega arith) i
+stopped_byte i OfByte.depth = stopped_at UnboundVariable (omega arith) (omega arith) (λ q. omega arith) (λ q. omega arith) i
 stopped_byte {place = p} i (OfByte.guard {binder}) =
     other (unguarded binder p) (omega arith) (omega arith) (λ q. omega arith) i
     (λ _ q. let z : ◌≡◌ {A = ℕ} 0 1 = cc in omega arith)
 
 -- and one where a byte is missing
-stopped_missing : {total place : ℕ} (code : ℕ) → (code ≡ 1) ⊎ (code ≡ 5) → place ≡ total → Stopped total (at_byte code place)
-stopped_missing code c i = record {
+stopped_missing : {total place : ℕ} (fault : Fault) → (fault_code fault ≡ 1) ⊎ (fault_code fault ≡ 5) → place ≡ total
+    → Stopped total (at_byte fault place)
+stopped_missing fault c i = record {
   some = ⊎_elim (λ q. omega arith) (λ q. omega arith) c;
   known = ⊎_elim (λ q. omega arith) (λ q. omega arith) c;
   inside = omega arith;
@@ -70,13 +69,13 @@ stopped_missing code c i = record {
   binder = λ q. absurd (⊎_elim (λ r. omega arith) (λ r. omega arith) c);
 }
 
-stopped_end : {total place code : ℕ} → place ≡ total → AtEnd code → Stopped total (at_byte code place)
-stopped_end i AtEnd.command = stopped_missing 1 (inl refl) i
-stopped_end i AtEnd.operand = stopped_missing 5 (inr refl) i
+stopped_end : {total place : ℕ} {fault : Fault} → place ≡ total → AtEnd fault → Stopped total (at_byte fault place)
+stopped_end i AtEnd.command = stopped_missing MissingOperator (inl refl) i
+stopped_end i AtEnd.operand = stopped_missing MissingOperand (inr refl) i
 
 module _ (total : ℕ) where
   look_same : (s : ℕ) (h : Head) (x : List ℕ) → h.at + length x ≡ total → Look (Stopped total) (Same total s) h x x
-  look_same s h [] i = Look.none (λ code c. stopped_end (omega arith) c)
+  look_same s h [] i = Look.none (λ fault c. stopped_end (omega arith) c)
   look_same s h (b ∷ x) i = Look.some {x = x} (record { same = refl; sum = omega arith })
 
   pub looks_same : Looks (Stopped total) (Same total)
@@ -106,8 +105,8 @@ module _ (total : ℕ) where
       → Stopped total why
   ended_stopped f h [] i e = absurd (let z : ◌≡◌ {A = ℕ} 0 1 = cc in omega arith)
   ended_stopped f h (b ∷ x) {why} i e =
-      let w : at_byte 9 h.at ≡ why = cc in
-      subst (Stopped total) w (stopped_at 9 (omega arith) (omega arith) (λ q. omega arith) (λ q. omega arith) (omega arith))
+      let w : at_byte BytesLeft h.at ≡ why = cc in
+      subst (Stopped total) w (stopped_at BytesLeft (omega arith) (omega arith) (λ q. omega arith) (λ q. omega arith) (omega arith))
 
   whole_stopped : {n m : ℕ} {x y : Read Formula} {why : Refusal} → SameKept n m x y → whole x ≡ Reading.refused why → Stopped total why
   whole_stopped {why = why} (Alike.refused {why = w} s) e =

@@ -1,15 +1,12 @@
 -- An accepted formula is closed and guarded: each variable has a binder, and a next between it and the binder (MEANING 1.4, questions 7
 -- and 8). Read off the derivation. Fixpoints further out change nothing for a formula that names none of them, so it is guarded inside
 -- them exactly if it is without them; and whether it names one of them can be found out. Assumes nothing.
-use mathlib.Core.Path.{◌≡◌, subst, subst⁻¹}
-use mathlib.Core.Logic.{◌⊎◌, inl, inr}
-use mathlib.Core.Bool.{true, false}
-use mathlib.Core.List.{List, [], ◌∷◌, ◌++◌, map, map-append}
-use Prim.Native.Nat.{ℕ, suc, ◌-◌, ◌<◌}
-use native.Mathlib.Decide.{dec_lt}
-use native.Mathlib.Omega.{arith}
-use lib.Dec.{T}
-use lib.ListN.{length, length-append, length-map, get_or-append}
+use Rattle.std.proofs.Common.{◌≡◌, subst, ◌⊎◌, inl, inr, true, false, List, [], ◌∷◌, ◌++◌, map, ℕ, suc, ◌-◌, ◌<◌, arith, T, length}
+use Rattle.std.proofs.Common.{length-append}
+use Rattle.std.proofs.Math.Decide.{dec_lt}
+use Rattle.std.proofs.Math.ListN.{length-map, get_or-append}
+use Rattle.std.proofs.Math.Path.{subst⁻¹}
+use mathlib.Core.List.{map-append}
 use Rattle.formula.specs.Formula.{Formula}
 use Rattle.formula.specs.Reading.{Head, Scope, entered, behind_next, Reading, parse}
 use Rattle.formula.specs.Occurrence.{Guards, Guarded, Closed}

@@ -17,7 +17,6 @@ pub mod Reread
 pub mod WellFormed
 pub mod RowLaws
 pub mod FitLaws
-pub mod AccessLaws
 pub mod CodeOpcodes
 pub mod CodeScope
 pub mod CodeRows

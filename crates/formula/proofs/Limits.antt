@@ -1,13 +1,8 @@
 -- An accepted formula is within the limits of MEANING 1.4: 48 operators, 12 or, 12 next, 7 fixpoints, signal 15. Each counter of the
 -- head starts at 0, grows by the operators that it counts and never passes its limit, so at the end it is the formula's own number; one
 -- law says so of any counter (`Counter`, `counted_up`). The table has the same numbers (`table_tally`). Assumes nothing.
-use mathlib.Core.Path.{◌≡◌, refl, ap, ◌∙◌}
-use mathlib.Core.Bool.{Bool, true, false, cond}
-use mathlib.Core.List.{List, [], ◌∷◌, ◌++◌}
-use Prim.Native.Nat.{ℕ, ◌+◌, ◌≤◌, ◌<◌}
-use native.Mathlib.Omega.{arith}
-use lib.Dec.{T, ltb→lt}
-use lib.ListN.{length, get_or}
+use Rattle.std.proofs.Common.{◌≡◌, refl, ap, ◌∙◌, Bool, true, false, cond, List, [], ◌∷◌, ◌++◌, ℕ, ◌+◌, ◌≤◌, ◌<◌, arith, T, ltb→lt}
+use Rattle.std.proofs.Common.{length, get_or}
 use Rattle.base.specs.Lists.{filter}
 use Rattle.formula.specs.Formula.{Leaf, Formula, size}
 use Rattle.formula.specs.Table.{Operator, Table, table_from, table, is_or, is_next, is_fix}

@@ -1,9 +1,5 @@
 -- How many bytes a formula has: at least one, and at most two for each operator. So what reading accepts has 1 to 96. Assumes nothing.
-use mathlib.Core.Path.{◌≡◌, ap}
-use mathlib.Core.List.{List}
-use Prim.Native.Nat.{ℕ, ◌*◌, ◌≤◌, ◌<◌}
-use native.Mathlib.Omega.{arith}
-use lib.ListN.{length, length-append}
+use Rattle.std.proofs.Common.{◌≡◌, ap, List, ℕ, ◌*◌, ◌≤◌, ◌<◌, arith, length, length-append}
 use Rattle.formula.specs.Formula.{Leaf, Formula, size}
 use Rattle.formula.specs.Reading.{Reading, parse}
 use Rattle.formula.specs.Ways.{spelled}

@@ -2,14 +2,9 @@
 -- variable, and the scope at its end has the binder at the variable's depth (`formula-way`). Then, what such a scope has at a depth is a
 -- fixpoint that the way entered with so many others behind it, and not guarded exactly if no next came after it (`bound_by`). In the
 -- statements `place` is that of the depth, and `binder-at` that of the binder's byte. Assumes nothing.
-use mathlib.Core.Path.{◌≡◌, refl, sym, ap, subst, ◌∙◌}
-use mathlib.Core.Logic.{◌⊎◌, inl, inr}
-use mathlib.Core.Bool.{Bool, true, false}
-use mathlib.Core.List.{List, [], ◌∷◌, ◌++◌, map, append_assoc}
-use Prim.Native.Nat.{ℕ, zero, suc, ◌+◌, ◌-◌, ◌<◌}
-use native.Mathlib.Omega.{arith}
-use lib.ListN.{length, get_or, length-append, length-map}
-use lib.Seq.{get_or-append-add}
+use Rattle.std.proofs.Common.{◌≡◌, refl, sym, ap, subst, ◌∙◌, ◌⊎◌, inl, inr, Bool, true, false, List, [], ◌∷◌, ◌++◌, map, append_assoc, ℕ}
+use Rattle.std.proofs.Common.{zero, suc, ◌+◌, ◌-◌, ◌<◌, arith, length, get_or, length-append, get_or-append-add}
+use Rattle.std.proofs.Math.ListN.{length-map}
 use Rattle.base.specs.Lists.{any}
 use Rattle.base.proofs.ListLaws.{get_d_map}
 use Rattle.base.proofs.AppendLaws.{flat_map_append}
@@ -52,7 +47,7 @@ abbrev Stops : (place binder-at : ℕ) {A : Type 0} → Read A → Type 0
 Stops place binder-at x = x ≡ Read.refused (unguarded binder-at place)
 
 stops_past : {place binder-at : ℕ} {A : Type 0} → Past {B = A} (Read.refused (unguarded binder-at place))
-stops_past code at e = let z : ◌≡◌ {A = ℕ} 0 1 = cc in omega arith
+stops_past fault at e = let z : ◌≡◌ {A = ℕ} 0 1 = cc in omega arith
 
 never_stops : {place binder-at : ℕ} {A B : Type 0} {a : A} {h : Head} → Stops place binder-at (Read.got a h) → B
 never_stops e = absurd (let z : ◌≡◌ {A = ℕ} 0 1 = cc in omega arith)

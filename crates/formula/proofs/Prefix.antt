@@ -1,11 +1,6 @@
 -- MEANING 1.6: 97 bytes decide the outcome. Every operator has at most two bytes and at most 48 are read, so reading never looks at a
 -- place above 96: two inputs that agree so far are read alike (Alike). Assumes nothing.
-use mathlib.Core.Path.{◌≡◌, refl, sym, ap}
-use mathlib.Core.List.{List, [], ◌∷◌}
-use Prim.Native.Nat.{ℕ, suc, ◌+◌, ◌-◌, ◌*◌, ◌≤◌}
-use native.Mathlib.Omega.{arith}
-use lib.ListN.{length, take}
-use lib.Seq.{take-take}
+use Rattle.std.proofs.Common.{◌≡◌, refl, sym, ap, List, [], ◌∷◌, ℕ, suc, ◌+◌, ◌-◌, ◌*◌, ◌≤◌, arith, length, take, take-take}
 use Rattle.formula.specs.Formula.{Formula}
 use Rattle.formula.specs.declared.Refusal.{Refusal}
 use Rattle.formula.specs.Reading.{Head, Read, Reading, ended, whole, start, parse, reading, with_entries}
@@ -26,7 +21,7 @@ module _ (s : ℕ) (h : Head) where
   -- j: how many of the bytes behind the first one agree
   look_in : (j : ℕ) (x y : List ℕ) → take (suc j) x ≡ take (suc j) y → (97 - (h.at + 1) ≡ j) → h.at + suc s ≤ 2 * h.commands + 1
       → h.commands ≤ 48 → Look Any (Window s) h x y
-  look_in j [] [] e q i k = Look.none (λ code c. tt)
+  look_in j [] [] e q i k = Look.none (λ fault c. tt)
   look_in j [] (b ∷ y) e q i k = absurd (let z : ◌≡◌ {A = ℕ} 0 1 = cc in omega arith)
   look_in j (a ∷ x) [] e q i k = absurd (let z : ◌≡◌ {A = ℕ} 0 1 = cc in omega arith)
   look_in j (a ∷ x) (b ∷ y) e q i k =

@@ -3,18 +3,16 @@
 -- counter grows by the formula's own number, so a no to the questions 3 and 4 says that this number is too large. A formula may also be
 -- closed and guarded only inside fixpoints of which its own bytes have nothing: then it names one of them, and the refusal is 7, if it is
 -- not over the limits before. Assumes nothing.
-use mathlib.Core.Path.{◌≡◌, refl, sym, ap, subst, subst⁻¹, ◌∙◌}
-use mathlib.Core.Logic.{◌⊎◌, inl, inr}
-use mathlib.Core.Bool.{Bool, true, false}
-use mathlib.Core.List.{List, [], ◌∷◌, ◌++◌, append_assoc, append-nil, map, map-append}
-use Prim.Native.Nat.{ℕ, suc, ◌+◌, ◌-◌, ◌≤◌, ◌<◌}
-use native.Mathlib.Decide.{dec_lt}
-use native.Mathlib.Omega.{arith}
-use lib.Dec.{T, ltb, leb, lt→ltb, le→leb}
-use lib.ListN.{length, get_or, length-map, get_or-append}
-use borrow.Author.Tests.{le-ltb}
+use Rattle.std.proofs.Common.{◌≡◌, refl, sym, ap, subst, ◌∙◌, ◌⊎◌, inl, inr, Bool, true, false, List, [], ◌∷◌, ◌++◌, append_assoc}
+use Rattle.std.proofs.Common.{append-nil, map, ℕ, suc, ◌+◌, ◌-◌, ◌≤◌, ◌<◌, arith, T, ltb, leb, lt→ltb, le→leb, length, get_or, le-ltb}
+use Rattle.std.proofs.Math.Decide.{dec_lt}
+use Rattle.std.proofs.Math.ListN.{length-map, get_or-append}
+use Rattle.std.proofs.Math.Path.{subst⁻¹}
+use mathlib.Core.List.{map-append}
 use Rattle.formula.specs.Formula.{Leaf, Formula}
-use Rattle.formula.specs.Refusal.{at_byte}
+use Rattle.formula.specs.Refusal.{fault_code, at_byte}
+use Rattle.formula.specs.declared.Fault.{Fault}
+use Rattle.formula.specs.declared.Fault.TheVariants.{UnknownOpcode, TooManyOperators, TooManyOfKind, UnknownSignal, UnboundVariable}
 use Rattle.formula.specs.declared.Refusal.{Refusal}
 use Rattle.formula.specs.Reading.{Opcode, opcode, byte_of, Head, Read, Reader, done, and_then, answered, known, within, one_more}
 use Rattle.formula.specs.Reading.{Scope, outside, entered, behind_next, operands, Reading, whole, start, parse}
@@ -86,22 +84,22 @@ fits-rest g r = record { each = λ c. omega (arith, g.each c, r.each c) }
 -- fixpoint that the reader has seen.)
 data Comes (n : Load) (closed : Type 0) (f : Formula) (h : Head) (rest : List ℕ) : Read Formula → Type 0 where
   got : (k : Head) → Grown h k n → Comes n closed f h rest (Read.got f (over k rest))
-  too_large : (code place : ℕ) → (code ≡ 3) ⊎ (code ≡ 4) → (Fits h n → ⊥)
-      → Comes n closed f h rest (Read.refused (at_byte code place))
-  unbound : (place : ℕ) → (closed → ⊥) → Comes n closed f h rest (Read.refused (at_byte 7 place))
+  too_large : (fault : Fault) (place : ℕ) → (fault_code fault ≡ 3) ⊎ (fault_code fault ≡ 4) → (Fits h n → ⊥)
+      → Comes n closed f h rest (Read.refused (at_byte fault place))
+  unbound : (place : ℕ) → (closed → ⊥) → Comes n closed f h rest (Read.refused (at_byte UnboundVariable place))
 
 -- something was counted before
 after : {n m : Load} {C : Type 0} {f : Formula} {h j : Head} {rest : List ℕ} {x : Read Formula} → Grown h j n → Comes m C f j rest x
     → Comes (plus n m) C f h rest x
 after g (Comes.got k r) = Comes.got k (grown-on g r)
-after g (Comes.too_large code place c large) = Comes.too_large code place c (λ r. large (fits-rest g r))
+after g (Comes.too_large fault place c large) = Comes.too_large fault place c (λ r. large (fits-rest g r))
 after g (Comes.unbound place o) = Comes.unbound place o
 
 -- a formula is made of it, which is closed only where it is
 made : {n : Load} {C D : Type 0} {f : Formula} {h : Head} {rest : List ℕ} {x : Read Formula} (make : Formula → Formula) → (D → C)
     → Comes n C f h rest x → Comes n D (make f) h rest (and_then (λ a. done (make a)) x)
 made make part (Comes.got k g) = Comes.got k g
-made make part (Comes.too_large code place c large) = Comes.too_large code place c large
+made make part (Comes.too_large fault place c large) = Comes.too_large fault place c large
 made make part (Comes.unbound place o) = Comes.unbound place (λ c. o (part c))
 
 -- an or or an and, its second operand being read from where reading has come to behind the first
@@ -110,7 +108,7 @@ both : {n m : Load} {C D : Type 0} {a b : Formula} {h : Head} {bytes rest : List
     → ((k : Head) → Comes m D b k rest (second (over k bytes)))
     → Comes (plus n m) (C × D) (Formula.pair o a b) h rest (and_then (λ a h. and_then (λ b. done (Formula.pair o a b)) (second h)) x)
 both {a = a} o second (Comes.got k g) go = after g (made (Formula.pair o a) (λ c. c.1) (go k))
-both {m = m} o second (Comes.too_large code place c large) go = Comes.too_large code place c (λ r. large (fits-first m r))
+both {m = m} o second (Comes.too_large fault place c large) go = Comes.too_large fault place c (λ r. large (fits-first m r))
 both o second (Comes.unbound place p) go = Comes.unbound place (λ c. p c.0)
 
 -- a question whose answer is yes
@@ -174,19 +172,19 @@ module _ (C : Type 0) (scope : Scope) (op : Opcode) (f : Formula) (h : Head) (by
 
   module _ (n : Load) (first : Fits h n → Fits h (load_of op)) where
     -- the questions 3 and 4
-    limited : (code : ℕ) → (code ≡ 3) ⊎ (code ≡ 4) → (t : Bool) → (Fits h (load_of op) → T t) → (go : Unit {0} → Reader Formula) (k : Head)
-        → Comes n C f h rest (go tt k) → Comes n C f h rest (and_then go (answered t (at_byte code) k))
-    limited code c true r go k p = p
-    limited code c false r go k p = Comes.too_large code (k.at - 1) c (λ s. r (first s))
+    limited : (fault : Fault) → (fault_code fault ≡ 3) ⊎ (fault_code fault ≡ 4) → (t : Bool) → (Fits h (load_of op) → T t) → (go : Unit {0} → Reader Formula) (k : Head)
+        → Comes n C f h rest (go tt k) → Comes n C f h rest (and_then go (answered t (at_byte fault) k))
+    limited fault c true r go k p = p
+    limited fault c false r go k p = Comes.too_large fault (k.at - 1) c (λ s. r (first s))
 
     asked : Comes n C f h rest operands_read → Comes n C f h rest formula_read
     asked p =
         let k = behind h bytes in
         rw (formula_unfolds scope (over h (byte_of op ∷ bytes)))
         (rw (opcode-spelled op t)
-        (subst⁻¹ (Comes n C f h rest) (answered-yes (known op) t (at_byte 2) _ k)
-        (limited 3 (inl refl) (ltb h.commands 48) (λ r. lt→ltb h.commands 48 (omega (arith, r.each Kind.commands))) _ k
-        (limited 4 (inr refl) (within op k) (room op h bytes) _ k
+        (subst⁻¹ (Comes n C f h rest) (answered-yes (known op) t (at_byte UnknownOpcode) _ k)
+        (limited TooManyOperators (inl refl) (ltb h.commands 48) (λ r. lt→ltb h.commands 48 (omega (arith, r.each Kind.commands))) _ k
+        (limited TooManyOfKind (inr refl) (within op k) (room op h bytes) _ k
         (rw (counted_is op k) p)))))
 
   -- it has no operand formula, and is accepted
@@ -197,7 +195,7 @@ module _ (C : Type 0) (scope : Scope) (op : Opcode) (f : Formula) (h : Head) (by
       (Comes.got (moved place (stepped op h) rest) (stepped_grown place op h rest)))
 
   -- or names no fixpoint that the reader has seen
-  unnamed : (place : ℕ) → operands_read ≡ Read.refused (at_byte 7 place) → (C → ⊥) → Comes (load_of op) C f h rest formula_read
+  unnamed : (place : ℕ) → operands_read ≡ Read.refused (at_byte UnboundVariable place) → (C → ⊥) → Comes (load_of op) C f h rest formula_read
   unnamed place e o = asked (load_of op) (λ r. r) (subst⁻¹ (Comes (load_of op) C f h rest) e (Comes.unbound place o))
 
   -- its operand formulas are read behind it
@@ -212,7 +210,7 @@ formula_comes (Formula.leaf (Leaf.constant b)) scope outer m l h rest g r =
     alone (Unit {0}) scope (Opcode.constant b) _ h rest rest tt same refl
 formula_comes (Formula.leaf (Leaf.signal present s)) scope outer m l h rest g r =
     alone (Unit {0}) scope (Opcode.signal present) _ h (s ∷ rest) rest tt (λ i. i + 1)
-    (answered-yes (leb s 15) (le→leb s 15 r) (at_byte 6) _ _)
+    (answered-yes (leb s 15) (le→leb s 15 r) (at_byte UnknownSignal) _ _)
 formula_comes (Formula.variable d) scope outer m l h rest g r = by (dec_lt d (length scope))
   where
     by : Dec (d < length scope)
@@ -221,11 +219,11 @@ formula_comes (Formula.variable d) scope outer m l h rest g r = by (dec_lt d (le
     by (yes i) =
         let at = get_or-append (guards scope) outer false d (omega (arith, guards-length scope)) ∙ guards-at scope d i in
         alone (d < m) scope Opcode.variable _ h (d ∷ rest) rest tt (λ i. i + 1)
-        (answered-yes (ltb d (length scope)) (lt→ltb d (length scope) i) (at_byte 7) _ _
+        (answered-yes (ltb d (length scope)) (lt→ltb d (length scope) i) (at_byte UnboundVariable) _ _
         ∙ answered-yes (get_or scope d outside).guarded (subst T at g.1) _ _ _)
     by (no i) =
         unnamed (d < m) scope Opcode.variable _ h (d ∷ rest) rest tt _
-        (answered-no (ltb d (length scope)) (le-ltb d (length scope) (omega arith)) (at_byte 7) _ _) (λ j. i (omega arith))
+        (answered-no (ltb d (length scope)) (le-ltb d (length scope) (omega arith)) (at_byte UnboundVariable) _ _) (λ j. i (omega arith))
 formula_comes (Formula.pair o a b) scope outer m l h rest g r =
     rw (append_assoc (spelled a) (spelled b) rest)
     (leading (Closed m a × Closed m b) scope (Opcode.pair o) _ h (spelled a ++ (spelled b ++ rest)) rest tt (plus (load a) (load b))
@@ -253,7 +251,8 @@ spelled_comes f outer g r =
 -- what reading comes to on the spelling of a formula
 pub data Reread (f : Formula) : Reading Formula → Type 0 where
   accepted : Reread f (Reading.accepted f)
-  too_large : (code place : ℕ) → (code ≡ 3) ⊎ (code ≡ 4) → (WithinLimits f → ⊥) → Reread f (Reading.refused (at_byte code place))
+  too_large : (fault : Fault) (place : ℕ) → (fault_code fault ≡ 3) ⊎ (fault_code fault ≡ 4) → (WithinLimits f → ⊥)
+      → Reread f (Reading.refused (at_byte fault place))
 
 limits-fit : (f : Formula) (bytes : List ℕ) → WithinLimits f → Fits (start bytes) (load f)
 limits-fit f bytes l = record { each = by }
@@ -267,7 +266,7 @@ limits-fit f bytes l = record { each = by }
 whole_comes : {f : Formula} {bytes : List ℕ} {x : Read Formula} → Closed 0 f → Comes (load f) (Closed 0 f) f (start bytes) [] x
     → Reread f (whole x)
 whole_comes c (Comes.got k g) = Reread.accepted
-whole_comes {f} {bytes} c (Comes.too_large code place w large) = Reread.too_large code place w (λ l. large (limits-fit f bytes l))
+whole_comes {f} {bytes} c (Comes.too_large fault place w large) = Reread.too_large fault place w (λ l. large (limits-fit f bytes l))
 whole_comes c (Comes.unbound place o) = absurd (o c)
 
 pub spelled_read : (f : Formula) → Guarded [] f → Ranged f → Reread f (parse (spelled f))
@@ -280,16 +279,16 @@ limited_read f g l = by (spelled_read f g l.signals)
   where
     by : {x : Reading Formula} → Reread f x → x ≡ Reading.accepted f
     by Reread.accepted = refl
-    by (Reread.too_large code place c large) = absurd (large l)
+    by (Reread.too_large fault place c large) = absurd (large l)
 
 -- but a formula that names a fixpoint which its bytes do not have
 pub open_read : (guards : Guards) (f : Formula) → Guarded guards f → WithinLimits f → (Closed 0 f → ⊥)
-    → (place : ℕ) × (parse (spelled f) ≡ Reading.refused (at_byte 7 place))
+    → (place : ℕ) × (parse (spelled f) ≡ Reading.refused (at_byte UnboundVariable place))
 unfolding parse
 open_read guards f g l free = by (spelled_comes f guards g l.signals) refl
   where
     by : {x : Read Formula} → Comes (load f) (Closed 0 f) f (start (spelled f)) [] x → parse (spelled f) ≡ whole x
-        → (place : ℕ) × (parse (spelled f) ≡ Reading.refused (at_byte 7 place))
+        → (place : ℕ) × (parse (spelled f) ≡ Reading.refused (at_byte UnboundVariable place))
     by (Comes.got k grown) e = absurd (free (guarded-closed [] f (parse-guarded (spelled f) f e)))
-    by (Comes.too_large code place c large) e = absurd (large (limits-fit f (spelled f) l))
+    by (Comes.too_large fault place c large) e = absurd (large (limits-fit f (spelled f) l))
     by (Comes.unbound place o) e = (place, e)

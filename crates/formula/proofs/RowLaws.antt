@@ -1,11 +1,8 @@
 -- Rows that hold the table of an accepted formula are well formed: what code that walks them may count on. Through the decoding the rows'
 -- operators and ends are the formula's, so they have its shape (WellFormed). Assumes nothing.
-use mathlib.Core.Path.{◌≡◌, refl, sym, ap, ◌∙◌}
-use mathlib.Core.List.{List, [], map}
-use Prim.Native.Nat.{ℕ, ◌+◌, ◌≤◌, ◌<◌}
-use native.Mathlib.Omega.{arith}
-use lib.ListN.{length, get_or, length-map}
-use lib.Seq.{ext_get_or}
+use Rattle.std.proofs.Common.{◌≡◌, refl, sym, ap, ◌∙◌, List, [], map, ℕ, ◌+◌, ◌≤◌, ◌<◌, arith, length, get_or, ext_get_or}
+use Rattle.std.proofs.Math.ListN.{length-map}
+use Rattle.std.specs.Prelude.{Result, Ok, Err}
 use Rattle.base.specs.Lists.{range}
 use Rattle.base.proofs.ListLaws.{length-range}
 use Rattle.base.proofs.NumberLaws.{values_at, values_length}
@@ -13,12 +10,9 @@ use Rattle.formula.specs.Formula.{Formula, size}
 use Rattle.formula.specs.Table.{Entries, entries, table, ends_from, lengths}
 use Rattle.formula.specs.Reading.{Reading, parse, with_entries, reading}
 use Rattle.formula.specs.Rows.{length_at, operator_at, end_at, operators_of, lengths_of, ends_of}
-use Rattle.formula.specs.Rows.{reading_by, reading_of}
+use Rattle.formula.specs.Rows.{reading_of}
 use Rattle.formula.specs.declared.Table.{Table}
-use Rattle.formula.specs.declared.Outcome.{Outcome}
-use Rattle.formula.specs.declared.Outcome.TheVariants.{Accepted, Refused}
 use Rattle.formula.specs.declared.Refusal.{Refusal}
-use Rattle.formula.specs.declared.Reading as code
 use Rattle.formula.specs.Occurrence.{Ranged, Guarded, nothing}
 use Rattle.formula.proofs.Limits.{parse-limited}
 use Rattle.formula.proofs.Guarded.{parse-guarded}
@@ -79,25 +73,24 @@ reading-unread bytes {why} e = by (parse bytes) e
     by (Reading.accepted f) q = absurd (let z : ◌≡◌ {A = ℕ} 0 1 = cc in omega arith)
 
 -- the outcome of the code is the definition's
-pub outcome-told : (bytes : List ℕ) (r : code.Reading) {o : Outcome} → reading_of r ≡ reading bytes → r.outcome ≡ o
-    → reading bytes ≡ reading_by o r.table
-outcome-told bytes r e a = sym e ∙ ap (λ o. reading_by o r.table) a
+pub outcome-told : (bytes : List ℕ) (r : Result Table Refusal) {x : Result Table Refusal} → reading_of r ≡ reading bytes → r ≡ x
+    → reading bytes ≡ reading_of x
+outcome-told bytes r e a = sym e ∙ ap reading_of a
 
--- what a caller of reading has after an accepted outcome
-pub reading-held : (bytes : List ℕ) (r : code.Reading) → reading_of r ≡ reading bytes → r.outcome ≡ Accepted
-    → HoldsFormula bytes r.table
+-- what a caller of reading has with a table
+pub reading-held : (bytes : List ℕ) (r : Result Table Refusal) {t : Table} → reading_of r ≡ reading bytes → r ≡ Ok t → HoldsFormula bytes t
 unfolding table
-reading-held bytes r e a =
+reading-held bytes r {t} e a =
     let p = reading-parsed bytes (outcome-told bytes r e a) in
     record {
       formula = p.0;
       parsed = p.1;
       operators = sym (ap (λ (x : Entries). x.operators) p.2);
-      ends = ends_read r.table.rows r.table.count p.0 (sym (ap (λ (x : Entries). x.lengths) p.2));
+      ends = ends_read t.rows t.count p.0 (sym (ap (λ (x : Entries). x.lengths) p.2));
     }
 
 -- and after a refusal: what the code refuses the definition refuses
-pub reading-refused : (bytes : List ℕ) (r : code.Reading) {why : Refusal} → reading_of r ≡ reading bytes → r.outcome ≡ Refused why
+pub reading-refused : (bytes : List ℕ) (r : Result Table Refusal) {why : Refusal} → reading_of r ≡ reading bytes → r ≡ Err why
     → parse bytes ≡ Reading.refused why
 reading-refused bytes r e a = reading-unread bytes (outcome-told bytes r e a)
 

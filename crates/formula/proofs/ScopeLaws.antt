@@ -1,9 +1,7 @@
 -- Scopes with their places taken to others, and the guards that are left of a scope without its places. Assumes nothing.
-use mathlib.Core.Path.{◌≡◌, sym, ◌∙◌}
-use mathlib.Core.Bool.{true, false}
-use mathlib.Core.List.{map, map-id, map-map}
-use Prim.Native.Nat.{ℕ, ◌<◌}
-use lib.ListN.{length, get_or, length-map}
+use Rattle.std.proofs.Common.{◌≡◌, sym, ◌∙◌, true, false, map, map-id, ℕ, ◌<◌, length, get_or}
+use Rattle.std.proofs.Math.ListN.{length-map}
+use mathlib.Core.List.{map-map}
 use Rattle.base.proofs.ListLaws.{get_d_map}
 use Rattle.formula.specs.Reading.{Binder, Scope, outside, behind_next}
 use Rattle.formula.specs.Occurrence.{Guards}

@@ -1,15 +1,10 @@
 -- The bytes that reading goes through. From where a formula begins to where reading has come behind it stand the bytes that spell the
 -- formula, and the place grows by as many; so an accepted input is the formula's spelling. Assumes nothing.
-use mathlib.Core.Path.{◌≡◌, refl, sym, ap, ◌∙◌}
-use mathlib.Core.List.{List, [], ◌∷◌, ◌++◌, append_assoc, append-nil}
-use Prim.Native.Nat.{ℕ, ◌+◌}
-use native.Mathlib.Omega.{arith}
-use lib.Dec.{T}
-use lib.ListN.{length, length-append}
+use Rattle.std.proofs.Common.{◌≡◌, refl, sym, ap, ◌∙◌, List, [], ◌∷◌, ◌++◌, append_assoc, append-nil, ℕ, zero, suc, ◌+◌, arith, T, length}
+use Rattle.std.proofs.Common.{length-append}
 use Rattle.formula.specs.Formula.{Formula}
 use Rattle.formula.specs.Reading.{Opcode, opcode, byte_of, known, Head, Scope, Reading, parse}
 use Rattle.formula.specs.Ways.{spelled}
-use Rattle.formula.proofs.AccessLaws.{by_opcode}
 use Rattle.formula.proofs.Commands.{behind, counted_is}
 use Rattle.formula.proofs.Derivation.{Byte, Begins, Reads, parse-reads}
 
@@ -25,13 +20,19 @@ went_on {k = k} {a = a} {b = b} p q = record {
 }
 
 -- the byte of a known opcode
-abbrev KnownByte : ℕ → Opcode → Type 0
-KnownByte b op = T (known op) → b ≡ byte_of op
-
-known-byte : (b : ℕ) → KnownByte b (opcode b)
-known-byte =
-    by_opcode KnownByte (λ h. absurd h) (λ h. refl) (λ h. refl) (λ h. refl) (λ h. refl) (λ h. refl) (λ h. refl)
-    (λ h. refl) (λ h. refl) (λ h. refl) (λ h. refl) (λ b m h. absurd h)
+known-byte : (b : ℕ) → T (known (opcode b)) → b ≡ byte_of (opcode b)
+known-byte zero h = absurd h
+known-byte (suc zero) h = refl
+known-byte (suc (suc zero)) h = refl
+known-byte (suc (suc (suc zero))) h = refl
+known-byte (suc (suc (suc (suc zero)))) h = refl
+known-byte (suc (suc (suc (suc (suc zero))))) h = refl
+known-byte (suc (suc (suc (suc (suc (suc zero)))))) h = refl
+known-byte (suc (suc (suc (suc (suc (suc (suc zero))))))) h = refl
+known-byte (suc (suc (suc (suc (suc (suc (suc (suc zero)))))))) h = refl
+known-byte (suc (suc (suc (suc (suc (suc (suc (suc (suc zero))))))))) h = refl
+known-byte (suc (suc (suc (suc (suc (suc (suc (suc (suc (suc zero)))))))))) h = refl
+known-byte (suc (suc (suc (suc (suc (suc (suc (suc (suc (suc (suc n))))))))))) h = absurd h
 
 pub begins_went : {op : Opcode} {h k : Head} → Begins op h k → Went h (byte_of op ∷ []) k
 begins_went {op} {h} {k} b =

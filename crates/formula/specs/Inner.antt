@@ -1,21 +1,48 @@
 -- What the inner functions of reading promise, in terms of the definitions. A reader of the public contract need not read it.
 -- Assumes nothing.
-use Rattle.std.specs.Prelude.{◌≡◌, true, List, [], ◌∷◌, map, ℕ, zero, suc, ◌+◌, ◌-◌, ◌≤◌, ◌<◌, ltb, length, get_or, drop}
+use Rattle.std.specs.Prelude.{◌≡◌, Bool, true, false, List, [], ◌∷◌, map, ℕ, zero, suc, ◌+◌, ◌-◌, ◌≤◌, ◌<◌, ltb, length, get_or, drop, Result, MatchResult}
 use Rattle.base.specs.Lists.{range}
-use Rattle.formula.specs.Formula.{Formula, size}
+use Rattle.formula.specs.Formula.{Leaf, Formula, size}
 use Rattle.formula.specs.Table.{Operator, Table as Operators, table_from, lengths}
-use Rattle.formula.specs.Reading.{opcode, Head as Point, Read, Reader, Scope as Enclosing, within, counted, operands, formula}
-use Rattle.formula.specs.Reading.{reading_from, Binder, entered, behind_next}
+use Rattle.formula.specs.Reading.{Opcode, opcode, byte_of, Head as Point, Read, Reader, Scope as Enclosing, byte, within, counted}
+use Rattle.formula.specs.Reading.{operands, formula, reading_from, Binder, entered, behind_next}
 use Rattle.formula.specs.Rows.{opcode_at, operand_at, length_at, lengths_of, opcode_byte, operand_of}
 use Rattle.formula.specs.Contract.{stored}
+use Rattle.formula.specs.declared.Opcode as code
+use Rattle.formula.specs.declared.Opcode.TheVariants as opcodes
+use Rattle.formula.specs.declared.Fault.{Fault}
+use Rattle.formula.specs.declared.Fault.TheVariants.{UnknownOpcode}
 use Rattle.formula.specs.declared.Head.{Head}
 use Rattle.formula.specs.declared.Scope.{Scope}
-use Rattle.formula.specs.declared.Parsed.{Parsed}
-use Rattle.formula.specs.declared.Reading as code
+use Rattle.formula.specs.declared.Table.{Table}
 use Rattle.formula.specs.declared.Refusal.{Refusal}
-use Rattle.formula.specs.declared.Outcome.TheVariants.{Accepted, Refused}
-use Rattle.formula.specs.declared.Taken.{Taken}
-use Rattle.formula.specs.declared.Taken.TheVariants as taken
+
+-- the definition's opcode for each of the code's
+abbrev pub named : code.Opcode → Opcode
+named opcodes.True = Opcode.constant true
+named opcodes.False = Opcode.constant false
+named opcodes.Present = Opcode.signal true
+named opcodes.Absent = Opcode.signal false
+named opcodes.Variable = Opcode.variable
+named opcodes.Or = Opcode.pair true
+named opcodes.And = Opcode.pair false
+named opcodes.Next = Opcode.next
+named opcodes.Least = Opcode.fix false
+named opcodes.Greatest = Opcode.fix true
+
+-- Question 2: the byte is this opcode's, or no opcode's.
+abbrev pub Decodes : ℕ → Result code.Opcode Fault → Type 0
+Decodes b r = MatchResult r (λ op. opcode b ≡ named op) (λ why. (why ≡ UnknownOpcode) × (opcode b ≡ Opcode.unknown))
+
+-- How many fixpoints further in the operands stand.
+abbrev pub deeper : Opcode → ℕ
+deeper Opcode.unknown = 0
+deeper (Opcode.constant b) = 0
+deeper (Opcode.signal present) = 0
+deeper Opcode.variable = 0
+deeper (Opcode.pair o) = 0
+deeper Opcode.next = 0
+deeper (Opcode.fix g) = 1
 
 -- Where reading of the bytes s stands.
 abbrev pub point : List ℕ → Head → Point
@@ -57,18 +84,17 @@ abbrev pub behind : Head → Head
 behind h = record { at = h.at + 1; count = h.count; ors = h.ors; nexts = h.nexts; fixpoints = h.fixpoints }
 
 -- For the opcode op the answer to the questions 3 and 4 is yes.
-pub record RoomFor (op : ℕ) (h : Head) : Type 0 where
+pub record RoomFor (op : code.Opcode) (h : Head) : Type 0 where
   pub limits : Limits h
-  pub known : op ≤ 10
   pub few : h.count < 48
-  pub allowed : (s : List ℕ) → within (opcode op) (point s h) ≡ true
+  pub allowed : (s : List ℕ) → within (named op) (point s h) ≡ true
 
 -- The opcode op counts as read: h became x.
-pub record OperatorCounted (op : ℕ) (h x : Head) : Type 0 where
-  pub stands : (s : List ℕ) → point s x ≡ counted (opcode op) (point s h)
+pub record OperatorCounted (op : code.Opcode) (h x : Head) : Type 0 where
+  pub stands : (s : List ℕ) → point s x ≡ counted (named op) (point s h)
   pub at : x.at ≡ h.at
   pub count : x.count ≡ h.count + 1
-  pub deeper : 8 < op → h.fixpoints < x.fixpoints
+  pub fixpoints : x.fixpoints ≡ h.fixpoints + deeper (named op)
   pub further : Further h x
 
 -- Reading may go on at h within the scope.
@@ -77,24 +103,11 @@ pub record ScopeReady (h : Head) (scope : Scope) : Type 0 where
   pub depth : scope.depth ≤ h.fixpoints
   pub guarded : scope.guarded ≤ scope.depth
 
--- Reading may go on at h with the operand byte of the opcode op.
-pub record OperandReady (op : ℕ) (h : Head) (scope : Scope) : Type 0 where
-  pub least : 2 < op
-  pub most : op ≤ 5
-  pub ready : ScopeReady h scope
-
--- Reading may go on at h behind the opcode op of subformula e, which has no operand formulas.
-pub record LeafReady (op e : ℕ) (h : Head) (scope : Scope) : Type 0 where
-  pub least : 0 < op
-  pub most : op ≤ 5
-  pub count : h.count ≡ e + 1
-  pub ready : ScopeReady h scope
-
 -- The operands of subformula e, of opcode op, may be read: there is room for one more enclosing fixpoint where e is one.
-pub record InsideReady (scope : Scope) (e op : ℕ) : Type 0 where
+pub record InsideReady (scope : Scope) (e : ℕ) (op : code.Opcode) : Type 0 where
   pub number : e < 48
   pub guarded : scope.guarded ≤ scope.depth
-  pub room : 8 < op → scope.depth < 7
+  pub room : scope.depth + deeper (named op) ≤ 7
 
 -- The rows have the same bytes of subformula e.
 pub record RowKept (p q : List ℕ) (e : ℕ) : Type 0 where
@@ -109,12 +122,6 @@ pub record RowPlaced (p : List ℕ) (e op argument n : ℕ) (q : List ℕ) : Typ
   pub sized : length_at q e ≡ n
   pub others : (k : ℕ) → k < 48 → (k ≡ e → ⊥) → RowKept p q k
   pub long : length q ≡ length p
-
--- The opcode op of subformula e is neither or nor and.
-pub record Unpaired (op e : ℕ) : Type 0 where
-  pub place : e < 48
-  pub not_or : op ≡ 6 → ⊥
-  pub not_and : op ≡ 7 → ⊥
 
 -- The rows list n subformulas from e on: xs are their operators, ys their lengths.
 pub record RowsList (e n : ℕ) (xs : Operators) (ys : List ℕ) (rows : List ℕ) : Type 0 where
@@ -133,110 +140,131 @@ pub record RowsWritten (e n : ℕ) (xs : Operators) (ys : List ℕ) (p q : List 
 abbrev pub FormulaWritten : ℕ → List ℕ → Formula → List ℕ → List ℕ → Type 0
 FormulaWritten e binders f p q = RowsWritten e (size f) (table_from e binders f) (lengths f) p q
 
--- The formula f is read, and written with subformula e as its first; reading went from h to x.
-pub record Got (s : List ℕ) (e : ℕ) (h : Head) (binders rows : List ℕ) (f : Formula) (x : Point) (r : Parsed) : Type 0 where
-  pub outcome : r.outcome ≡ Accepted
-  pub stands : point s r.head ≡ x
-  pub count : r.head.count ≡ e + size f
-  pub further : Further h r.head
-  pub written : FormulaWritten e binders f rows r.rows
+-- The definition's answer is a formula, and the rows p became q, in which it is written with subformula e as its first; reading went from
+-- h to x.
+pub record Got (s : List ℕ) (e : ℕ) (h : Head) (binders p : List ℕ) (answer : Read Formula) (q : List ℕ) (x : Head) : Type 0 where
+  pub got : Formula
+  pub is : answer ≡ Read.got got (point s x)
+  pub count : x.count ≡ e + size got
+  pub further : Further h x
+  pub written : FormulaWritten e binders got p q
 
--- The answer r is the definition's: its refusal, or its formula in the rows.
-pub data Agrees (s : List ℕ) (e : ℕ) (h : Head) (binders rows : List ℕ) (r : Parsed) : Read Formula → Type 0 where
-  refused : {why : Refusal} → r.outcome ≡ Refused why → Agrees s e h binders rows r (Read.refused why)
-  got : {f : Formula} {x : Point} → Got s e h binders rows f x r → Agrees s e h binders rows r (Read.got f x)
+-- The code's answer is the definition's: its refusal, or its formula in the rows.
+abbrev pub Agrees : List ℕ → ℕ → Head → (binders p : List ℕ) → Read Formula → (q : List ℕ) → Result Head Refusal → Type 0
+Agrees s e h binders p answer q r = MatchResult r (Got s e h binders p answer q) (λ why. answer ≡ Read.refused why)
 
 -- A command that begins at h is read with all its operands. The number k is any that reaches the end of the bytes.
-abbrev pub Command : List ℕ → Head → List ℕ → Scope → Parsed → Type 0
-Command s h rows scope r =
-    (k : ℕ) → length s ≤ h.at + k → Agrees s h.count h (binders scope) rows r (formula k (enclosing scope) (point s h))
+abbrev pub Command : List ℕ → Head → (p : List ℕ) → Scope → (q : List ℕ) → Result Head Refusal → Type 0
+Command s h p scope q r =
+    (k : ℕ) → length s ≤ h.at + k → Agrees s h.count h (binders scope) p (formula k (enclosing scope) (point s h)) q r
+
+-- The byte b stands at h, and reading stands at x behind it.
+pub record Taken (s : List ℕ) (h : Head) (missing : Fault) (b : ℕ) (x : Head) : Type 0 where
+  pub inside : h.at < length s
+  pub is : byte missing (point s h) ≡ Read.got b (point s x)
+  pub head : x ≡ behind h
+
+-- The questions 1 and 5: that, or the refusal.
+abbrev pub Takes : List ℕ → Head → Fault → Result (ℕ × Head) Refusal → Type 0
+Takes s h missing r = MatchResult r (λ t. Taken s h missing t.0 t.1) (λ why. byte missing (point s h) ≡ Read.refused why)
 
 -- The opcode op stands at h, the questions 1 to 4 are answered, and reading stands at x behind it: what is left of reading the
 -- formula are its operands.
-pub record Opened (s : List ℕ) (h : Head) (op : ℕ) (x : Head) : Type 0 where
+pub record Opened (s : List ℕ) (h : Head) (op : code.Opcode) (x : Head) : Type 0 where
   pub inside : h.at < length s
-  pub some : 0 < op
-  pub known : op ≤ 10
   pub at : x.at ≡ h.at + 1
   pub count : x.count ≡ h.count + 1
-  pub deeper : 8 < op → h.fixpoints < x.fixpoints
+  pub fixpoints : x.fixpoints ≡ h.fixpoints + deeper (named op)
   pub further : Further h x
-  pub left : (k : ℕ) (scope : Enclosing) → formula (suc k) scope (point s h) ≡ operands (formula k) scope (opcode op) (point s x)
+  pub left : (k : ℕ) (scope : Enclosing) → formula (suc k) scope (point s h) ≡ operands (formula k) scope (named op) (point s x)
 
 -- The formula that begins at h is refused, within whatever scope.
 abbrev pub Refuses : List ℕ → Head → Refusal → Type 0
 Refuses s h why =
     (k : ℕ) (scope : Enclosing) → length s ≤ h.at + k → formula k scope (point s h) ≡ Read.refused why
 
--- One of the two, by what was found at h.
-abbrev pub Opening : List ℕ → Head → Taken → Type 0
-Opening s h (taken.Byte op x) = Opened s h op x
-Opening s h (taken.Refused why) = Refuses s h why
+-- One of the two, by what was found at h: an opcode, and where reading stands behind it, or the refusal.
+abbrev pub Opening : List ℕ → Head → Result (code.Opcode × Head) Refusal → Type 0
+Opening s h r = MatchResult r (λ t. Opened s h t.0 t.1) (Refuses s h)
+
+-- The definition's answer about what stands at h, behind the opcode of a signal or a variable. It is no operand formula, so the answer
+-- depends on no reader of these.
+abbrev pub behind_opcode : List ℕ → Head → Enclosing → Opcode → (Enclosing → Reader Formula) → Read Formula
+behind_opcode s h scope op self = operands self scope op (point s h)
+
+-- A signal stands at h, and reading stands at x behind it.
+pub record Signalled (s : List ℕ) (h : Head) (signal : ℕ) (x : Head) : Type 0 where
+  pub is : (present : Bool) (scope : Enclosing) (self : Enclosing → Reader Formula) →
+      behind_opcode s h scope (Opcode.signal present) self ≡ Read.got (Formula.leaf (Leaf.signal present signal)) (point s x)
+  pub count : x.count ≡ h.count
+  pub further : Further h x
+
+-- The questions 5 and 6: that, or the refusal.
+abbrev pub Signals : List ℕ → Head → Result (ℕ × Head) Refusal → Type 0
+Signals s h r = MatchResult r (λ t. Signalled s h t.0 t.1) (λ why.
+    (present : Bool) (scope : Enclosing) (self : Enclosing → Reader Formula) →
+    behind_opcode s h scope (Opcode.signal present) self ≡ Read.refused why)
+
+-- A depth stands at h that names the fixpoint with this number, with a next between it and here, and reading stands at x behind it.
+pub record Bound (s : List ℕ) (h : Head) (scope : Scope) (binder : ℕ) (x : Head) : Type 0 where
+  pub depth : ℕ
+  pub is : (self : Enclosing → Reader Formula) →
+      behind_opcode s h (enclosing scope) Opcode.variable self ≡ Read.got (Formula.variable depth) (point s x)
+  pub named : get_or (binders scope) depth 0 ≡ binder
+  pub count : x.count ≡ h.count
+  pub further : Further h x
+
+-- The questions 5, 7 and 8: that, or the refusal.
+abbrev pub Names : List ℕ → Head → Scope → Result (ℕ × Head) Refusal → Type 0
+Names s h scope r = MatchResult r (λ t. Bound s h scope t.0 t.1) (λ why.
+    (self : Enclosing → Reader Formula) → behind_opcode s h (enclosing scope) Opcode.variable self ≡ Read.refused why)
 
 -- The subformulas of f are subformula e, with this opcode and argument, and then n others: xs are their operators, ys their lengths.
-pub record Shape (e : ℕ) (binders : List ℕ) (op argument : ℕ) (f : Formula) (n : ℕ) (xs : Operators) (ys : List ℕ) : Type 0 where
-  pub rows : size f ≡ 1 + n
-  pub operator : Operator
-  pub command : opcode_byte operator ≡ op
-  pub operand : operand_of operator ≡ argument
-  pub operators : table_from e binders f ≡ operator ∷ xs
-  pub lengths : lengths f ≡ size f ∷ ys
-
--- The definition's answer is a leaf or a variable with this argument; reading went from h to x.
-pub record Argued (e : ℕ) (binders : List ℕ) (op : ℕ) (answer : Read Formula) (s : List ℕ) (h : Head) (argument : ℕ) (x : Head) : Type 0
+pub record Shape (e : ℕ) (binders : List ℕ) (op : Opcode) (argument : ℕ) (f : Formula) (n : ℕ) (xs : Operators) (ys : List ℕ) : Type 0
   where
-    pub got : Formula
-    pub is : answer ≡ Read.got got (point s x)
-    pub alone : Shape e binders op argument got 0 [] []
-    pub count : x.count ≡ h.count
-    pub further : Further h x
-
--- That, or the definition's answer is the refusal.
-abbrev pub Argument : ℕ → List ℕ → ℕ → Read Formula → List ℕ → Head → Taken → Type 0
-Argument e bs op answer s h (taken.Byte argument x) = Argued e bs op answer s h argument x
-Argument e bs op answer s h (taken.Refused why) = answer ≡ Read.refused why
-
--- The command op at h has no operand formulas, so what the definition answers depends on no reader of these. Of its argument:
-abbrev pub Argues : List ℕ → Head → ℕ → Scope → Taken → Type 0
-Argues s h op scope t =
-    (e : ℕ) (self : Enclosing → Reader Formula) →
-    Argument e (binders scope) op (operands self (enclosing scope) (opcode op) (point s h)) s h t
-
--- and of all of it, as subformula e:
-abbrev pub Leaves : List ℕ → Head → List ℕ → ℕ → ℕ → Scope → Parsed → Type 0
-Leaves s h rows e op scope r =
-    (self : Enclosing → Reader Formula) →
-    Agrees s e h (binders scope) rows r (operands self (enclosing scope) (opcode op) (point s h))
+    pub rows : size f ≡ 1 + n
+    pub operator : Operator
+    pub command : opcode_byte operator ≡ byte_of op
+    pub operand : operand_of operator ≡ argument
+    pub operators : table_from e binders f ≡ operator ∷ xs
+    pub lengths : lengths f ≡ size f ∷ ys
 
 -- Reading stands at h behind subformula e.
 pub record ReadBehind (e : ℕ) (h : Head) : Type 0 where
   pub after : e < h.count
   pub few : h.count ≤ 48
 
--- Subformula e, read up to h, is written.
-pub record Finished (h : Head) (rows : List ℕ) (e op argument : ℕ) (r : Parsed) : Type 0 where
-  pub outcome : r.outcome ≡ Accepted
-  pub head : r.head ≡ h
-  pub placed : RowPlaced rows e op argument (h.count - e) r.rows
+-- Subformula e, read up to h, is written: the rows p became q.
+pub record Written (h : Head) (p : List ℕ) (e : ℕ) (op : code.Opcode) (argument : ℕ) (q : List ℕ) : Type 0 where
+  pub placed : RowPlaced p e (byte_of (named op)) argument (h.count - e) q
 
--- The same of an operator of which p is the last operand, if that was read; else the refusal.
-pub record Completed (p : Parsed) (e op : ℕ) (r : Parsed) : Type 0 where
-  pub refused : (why : Refusal) → p.outcome ≡ Refused why → r.outcome ≡ Refused why
-  pub accepted : p.outcome ≡ Accepted → Finished p.head p.rows e op 0 r
+-- The fixpoints around the operands of an operator whose byte is at a place,
+abbrev pub within_operator : Opcode → (place : ℕ) → Enclosing → Enclosing
+within_operator Opcode.unknown place scope = scope
+within_operator (Opcode.constant b) place scope = scope
+within_operator (Opcode.signal present) place scope = scope
+within_operator Opcode.variable place scope = scope
+within_operator (Opcode.pair o) place scope = scope
+within_operator Opcode.next place scope = map behind_next scope
+within_operator (Opcode.fix g) place scope = entered place ∷ scope
 
--- The scope x has these enclosing fixpoints.
-pub record Encloses (scope : Enclosing) (range : List ℕ) (x : Scope) : Type 0 where
-  pub fixpoints : enclosing x ≡ scope
-  pub named : binders x ≡ range
+-- and their numbers, where the operator is subformula e.
+abbrev pub numbers_within : Opcode → (e : ℕ) → List ℕ → List ℕ
+numbers_within Opcode.unknown e binders = binders
+numbers_within (Opcode.constant b) e binders = binders
+numbers_within (Opcode.signal present) e binders = binders
+numbers_within Opcode.variable e binders = binders
+numbers_within (Opcode.pair o) e binders = binders
+numbers_within Opcode.next e binders = binders
+numbers_within (Opcode.fix g) e binders = e ∷ binders
 
 -- The scope x is that of the operands of subformula e, whose byte is at a place.
-pub record OperandScope (scope : Scope) (e place op : ℕ) (x : Scope) : Type 0 where
-  pub pair : op < 8 → Encloses (enclosing scope) (binders scope) x
-  pub next : op ≡ 8 → Encloses (map behind_next (enclosing scope)) (binders scope) x
-  pub fix : 8 < op → Encloses (entered place ∷ enclosing scope) (e ∷ binders scope) x
+pub record OperandScope (scope : Scope) (e place : ℕ) (op : code.Opcode) (x : Scope) : Type 0 where
+  pub fixpoints : enclosing x ≡ within_operator (named op) place (enclosing scope)
+  pub numbers : binders x ≡ numbers_within (named op) e (binders scope)
   pub guarded : x.guarded ≤ x.depth
-  pub depth : (n : ℕ) → scope.depth ≤ n → (8 < op → scope.depth < n) → x.depth ≤ n
+  pub depth : x.depth ≡ scope.depth + deeper (named op)
 
 -- The answer r is the definition's of reading from the byte at a place.
-abbrev pub ReadFrom : List ℕ → ℕ → code.Reading → Type 0
+abbrev pub ReadFrom : List ℕ → ℕ → Result Table Refusal → Type 0
 ReadFrom s at r = r ≡ stored (reading_from s at)

@@ -1,8 +1,12 @@
--- Reading a formula from bytes (MEANING 1.4): the questions in their order, each with its number. Assumes nothing.
+-- Reading a formula from bytes (MEANING 1.4): the questions in their order, each with the fault that a "no" tells. Refusal.antt has the
+-- number of each. Assumes nothing.
 use Rattle.std.specs.Prelude.{Bool, true, false, cond, List, [], ◌∷◌, map, ℕ, zero, suc, ◌+◌, ◌-◌, ltb, leb, length, get_or, drop}
 use Rattle.formula.specs.Formula.{Leaf, Formula}
 use Rattle.formula.specs.Table.{Entries, entries}
 use Rattle.formula.specs.Refusal.{at_byte, unguarded, places_from}
+use Rattle.formula.specs.declared.Fault.{Fault}
+use Rattle.formula.specs.declared.Fault.TheVariants.{MissingOperator, UnknownOpcode, TooManyOperators, TooManyOfKind}
+use Rattle.formula.specs.declared.Fault.TheVariants.{MissingOperand, UnknownSignal, UnboundVariable, BytesLeft}
 use Rattle.formula.specs.declared.Refusal.{Refusal}
 
 -- What a byte may be where an operator begins. Pair: or (06) where true, and (07) where false; fix: greatest (0A) where true, least (09)
@@ -67,14 +71,14 @@ abbrev pub ◌>>=◌ : {A B : Type 0} → Reader A → (A → Reader B) → Read
 (m >>= f) h = and_then f (m h)
 
 -- The questions 1 and 5: the next byte, or, where no bytes are left, the refusal at this place, which is the length.
-abbrev pub byte_from : ℕ → Head → List ℕ → Read ℕ
-byte_from code h [] = Read.refused (at_byte code h.at)
-byte_from code h (b ∷ bs) =
+abbrev pub byte_from : Fault → Head → List ℕ → Read ℕ
+byte_from missing h [] = Read.refused (at_byte missing h.at)
+byte_from missing h (b ∷ bs) =
     Read.got b (record { at = h.at + 1; left = bs; commands = h.commands; ors = h.ors; nexts = h.nexts; fixpoints = h.fixpoints })
 
 -- The same, from where reading has come to.
-abbrev pub byte : ℕ → Reader ℕ
-byte code h = byte_from code h h.left
+abbrev pub byte : Fault → Reader ℕ
+byte missing h = byte_from missing h h.left
 
 -- The answer to a question about the byte that was just read: no is the refusal at the place of this byte.
 abbrev pub answered : Bool → (ℕ → Refusal) → Reader (Unit {0})
@@ -160,19 +164,20 @@ guard_asked scope d = do
 -- The questions 7 and 8.
 abbrev pub depth_asked : Scope → (depth : ℕ) → Reader Formula
 depth_asked scope d = do
-  _ ← ask_here (λ h. ltb d (length scope)) (at_byte 7)
+  _ ← ask_here (λ h. ltb d (length scope)) (at_byte UnboundVariable)
   guard_asked scope d
 
--- What comes behind an opcode, read to its end, with the questions 5 to 8. `self` reads an operand formula.
+-- What comes behind an opcode, read to its end, with the questions 5 (the operand byte is missing), 6 (the signal is unknown), 7 and 8.
+-- `self` reads an operand formula.
 abbrev pub operands : (Scope → Reader Formula) → Scope → Opcode → Reader Formula
 operands self scope Opcode.unknown = done (Formula.leaf (Leaf.constant false))
 operands self scope (Opcode.constant b) = done (Formula.leaf (Leaf.constant b))
 operands self scope (Opcode.signal present) = do
-  s ← byte 5
-  _ ← ask_here (λ h. leb s 15) (at_byte 6)
+  s ← byte MissingOperand
+  _ ← ask_here (λ h. leb s 15) (at_byte UnknownSignal)
   done (Formula.leaf (Leaf.signal present s))
 operands self scope Opcode.variable = do
-  d ← byte 5
+  d ← byte MissingOperand
   depth_asked scope d
 operands self scope (Opcode.pair o) = do
   a ← self scope
@@ -186,19 +191,20 @@ operands self scope (Opcode.fix g) = do
   a ← self (entered place ∷ scope)
   done (Formula.fix g a)
 
--- The questions that each operator is asked, and its operands.
+-- The questions that each operator is asked, and its operands: 1 (is there a byte), 2 (is it an opcode), 3 (are there 48 operators at most)
+-- and 4 (is there room for one more of its kind).
 abbrev pub questions : (Scope → Reader Formula) → Scope → Reader Formula
 questions self scope = do
-  b ← byte 1
-  _ ← ask_here (λ h. known (opcode b)) (at_byte 2)
-  _ ← ask_here (λ h. ltb h.commands 48) (at_byte 3)
-  _ ← ask_here (λ h. within (opcode b) h) (at_byte 4)
+  b ← byte MissingOperator
+  _ ← ask_here (λ h. known (opcode b)) (at_byte UnknownOpcode)
+  _ ← ask_here (λ h. ltb h.commands 48) (at_byte TooManyOperators)
+  _ ← ask_here (λ h. within (opcode b) h) (at_byte TooManyOfKind)
   _ ← count (opcode b)
   operands self scope (opcode b)
 
 -- One formula. The first number bounds how deep operands nest. That of the bytes left is enough: proofs/Fuel.antt has the law.
 abbrev pub formula : ℕ → Scope → Reader Formula
-formula zero scope h = Read.refused (at_byte 1 h.at)
+formula zero scope h = Read.refused (at_byte MissingOperator h.at)
 formula (suc deep) scope h = questions (formula deep) scope h
 
 -- The outcome of reading (MEANING 1.5): a refusal, or what was accepted.
@@ -209,7 +215,7 @@ pub data Reading (A : Type 0) : Type 0 where
 -- Question 9: all bytes are used, or the refusal at the first that is not.
 abbrev pub ended : Formula → Head → List ℕ → Reading Formula
 ended f h [] = Reading.accepted f
-ended f h (b ∷ bs) = Reading.refused (at_byte 9 h.at)
+ended f h (b ∷ bs) = Reading.refused (at_byte BytesLeft h.at)
 
 -- The outcome, once reading has come to the end of subformula 0.
 abbrev pub whole : Read Formula → Reading Formula

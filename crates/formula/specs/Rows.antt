@@ -1,14 +1,12 @@
 -- What the rows of a table hold: the decoding through which contracts speak of the definitions, and the encoding that settles every byte.
 -- Assumes nothing.
-use Rattle.std.specs.Prelude.{List, ◌++◌, map, ℕ, ◌+◌, get_or}
+use Rattle.std.specs.Prelude.{List, ◌++◌, map, ℕ, ◌+◌, get_or, Result, Ok, Err}
 use Rattle.base.specs.Lists.{range}
 use Rattle.formula.specs.Formula.{Leaf}
 use Rattle.formula.specs.Table.{Operator, Table as Operators, Entries}
 use Rattle.formula.specs.Reading.{Opcode, opcode, byte_of, Reading}
 use Rattle.formula.specs.declared.Table.{Table}
-use Rattle.formula.specs.declared.Outcome.{Outcome}
-use Rattle.formula.specs.declared.Outcome.TheVariants.{Accepted, Refused}
-use Rattle.formula.specs.declared.Reading as code
+use Rattle.formula.specs.declared.Refusal.{Refusal}
 
 -- the operator of subformula e by its opcode, what its operand byte stands for and the number of its right operand; its first operand is
 -- e + 1. A byte that is no opcode decodes to what no table has, a variable that is its own binder.
@@ -83,11 +81,7 @@ column bytes = map (λ e. get_or bytes e 0) (range 0 48)
 unfoldable pub encoded : Entries → List ℕ
 encoded x = column (map opcode_byte x.operators) ++ (column (map operand_of x.operators) ++ column x.lengths)
 
--- the definition's outcome for each of the code's: the refusal as it is, or the subformulas
-abbrev pub reading_by : Outcome → Table → Reading Entries
-reading_by Accepted t = Reading.accepted (entries_of t)
-reading_by (Refused why) t = Reading.refused why
-
--- the same of what reading hands back
-abbrev pub reading_of : code.Reading → Reading Entries
-reading_of r = reading_by r.outcome r.table
+-- the definition's outcome for what reading hands back: the refusal as it is, or the subformulas
+abbrev pub reading_of : Result Table Refusal → Reading Entries
+reading_of (Ok t) = Reading.accepted (entries_of t)
+reading_of (Err why) = Reading.refused why

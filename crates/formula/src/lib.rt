@@ -1,39 +1,16 @@
 // Reading a formula: bytes into its table of subformulas, or a refusal.
 #![tactic(auto)]
 
-ghost use Rattle.std.specs.Prelude.{◌≡◌, List, ℕ, ◌+◌, ◌≤◌, ◌<◌, length};
-ghost use Rattle.formula.specs.Refusal.{code_of, place_of};
-ghost use Rattle.formula.specs.Reading.{opcode, reading, within as allowed};
+ghost use Rattle.std.specs.Prelude.{◌≡◌, List, ℕ, ◌+◌, ◌≤◌, ◌<◌, length, IfOk};
+ghost use Rattle.formula.specs.Refusal.{code_of, place_of, at_byte};
+ghost use Rattle.formula.specs.Reading.{reading, within as allowed};
 ghost use Rattle.formula.specs.Table as definitions;
 ghost use Rattle.formula.specs.Table.{is_or, is_next, is_fix, width};
-ghost use Rattle.formula.specs.Rows.{operator_of, opcode_at, operator_at, end_at, opcode_byte, reading_of};
+ghost use Rattle.formula.specs.Rows.{opcode_at, operator_at, end_at, opcode_byte, reading_of};
 ghost use Rattle.formula.specs.Access.{decoded, Placed};
-ghost use Rattle.formula.specs.Contract.{TableFor, no_table, stored};
-ghost use Rattle.formula.specs.Inner.{point, behind, Limits, RoomFor, OperatorCounted, Opening, ScopeReady, OperandReady};
-ghost use Rattle.formula.specs.Inner.{LeafReady};
-ghost use Rattle.formula.specs.Inner.{InsideReady, OperandScope, RowPlaced, Unpaired, ReadBehind, Finished, Completed};
-ghost use Rattle.formula.specs.Inner.{Argues, Leaves, Command, ReadFrom};
-
-// The opcodes: MEANING 1.1.
-const TRUE: u8 = 1;
-
-const FALSE: u8 = 2;
-
-const PRESENT: u8 = 3;
-
-const ABSENT: u8 = 4;
-
-const VARIABLE: u8 = 5;
-
-const OR: u8 = 6;
-
-const AND: u8 = 7;
-
-const NEXT: u8 = 8;
-
-const LEAST: u8 = 9;
-
-const GREATEST: u8 = 10;
+ghost use Rattle.formula.specs.Contract.{Filled, stored};
+ghost use Rattle.formula.specs.Inner.{named, Decodes, point, Limits, RoomFor, OperatorCounted, Takes, Opening, Signals, Names, ScopeReady};
+ghost use Rattle.formula.specs.Inner.{InsideReady, OperandScope, ReadBehind, Written, Command, ReadFrom};
 
 // The number of a subformula (document 01: an entry), kept apart from positions on a lasso.
 #[derive(Clone, Copy)]
@@ -68,12 +45,42 @@ pub enum Operator {
     },
 }
 
-// Why reading stopped: the refusal's code and the byte's place; or, of 8, the place of the variable's operand and that of the byte of its
-// binder.
-#[derive(Clone, Copy)]
+// What was wrong where the answer to a question of reading was no, by the question's number (MEANING 1.4); question 8 has a refusal of its
+// own.
+#[derive(Clone, Copy, PartialEq, Eq, Debug)]
+pub enum Fault {
+    // The bytes end where an operator is due.
+    MissingOperator = 1,
+    // The byte is no opcode.
+    UnknownOpcode = 2,
+    // There are 48 operators before it.
+    TooManyOperators = 3,
+    // With it there are more than 12 or, 12 next or 7 fixpoints.
+    TooManyOfKind = 4,
+    // The bytes end where an operand byte is due.
+    MissingOperand = 5,
+    // The signal is above 15.
+    UnknownSignal = 6,
+    // The depth names no fixpoint around the variable.
+    UnboundVariable = 7,
+    // The formula is complete, and bytes are left.
+    BytesLeft = 9,
+}
+
+// Why reading stopped: a fault, with the byte's place; or 8, with the place of the variable's operand and that of the byte of its binder.
+#[derive(Clone, Copy, PartialEq, Eq, Debug)]
 pub enum Refusal {
-    AtByte { code: u8, at: usize },
+    AtByte { fault: Fault, at: usize },
     Unguarded { at: usize, binder_at: usize },
+}
+
+impl Fault {
+    // The refusal for it at a byte.
+    fn at(self, at: usize) -> Refusal
+        ensures { result ≡ at_byte self at }
+    {
+        Refusal::AtByte { fault: self, at }
+    }
 }
 
 // What is told of any refusal: its code, and its place.
@@ -81,11 +88,8 @@ pub fn code_of(why: Refusal) -> u8
     ensures { result ≡ code_of why }
 {
     match why {
-        Refusal::AtByte { code, at: _ } => code,
-        Refusal::Unguarded {
-            at: _,
-            binder_at: _,
-        } => 8,
+        Refusal::AtByte { fault, .. } => fault as u8,
+        Refusal::Unguarded { .. } => 8,
     }
 }
 
@@ -93,22 +97,47 @@ pub fn place_of(why: Refusal) -> usize
     ensures { result ≡ place_of why }
 {
     match why {
-        Refusal::AtByte { code: _, at } => at,
-        Refusal::Unguarded { at, binder_at: _ } => at,
+        Refusal::AtByte { at, .. } => at,
+        Refusal::Unguarded { at, .. } => at,
     }
 }
 
+// The operators by their opcodes: MEANING 1.1.
 #[derive(Clone, Copy)]
-pub enum Outcome {
-    Accepted,
-    Refused(Refusal),
+enum Opcode {
+    True = 1,
+    False = 2,
+    Present = 3,
+    Absent = 4,
+    Variable = 5,
+    Or = 6,
+    And = 7,
+    Next = 8,
+    Least = 9,
+    Greatest = 10,
 }
 
-// What reading came to. With a refusal the table is empty.
-#[derive(Clone, Copy)]
-pub struct Reading {
-    pub outcome: Outcome,
-    pub table: Table,
+// Question 2: the operator that a byte begins.
+impl TryFrom<u8> for Opcode {
+    type Error = Fault;
+
+    ghost try_from_gives = { Decodes };
+
+    fn try_from(byte: u8) -> Result<Opcode, Fault> {
+        match byte {
+            1 => Ok(Opcode::True),
+            2 => Ok(Opcode::False),
+            3 => Ok(Opcode::Present),
+            4 => Ok(Opcode::Absent),
+            5 => Ok(Opcode::Variable),
+            6 => Ok(Opcode::Or),
+            7 => Ok(Opcode::And),
+            8 => Ok(Opcode::Next),
+            9 => Ok(Opcode::Least),
+            10 => Ok(Opcode::Greatest),
+            _ => Err(Fault::UnknownOpcode),
+        }
+    }
 }
 
 // Where reading stands: the byte's place, and how many operators, or, next and fixpoints were read.
@@ -130,242 +159,147 @@ struct Scope {
     places: [usize; 7],
 }
 
-// What reading a formula inside another one came to: where reading stands now, and the rows so far.
-#[derive(Clone, Copy)]
-struct Parsed {
-    outcome: Outcome,
-    head: Head,
-    rows: [u8; 144],
-}
-
-// A byte that was read, with where reading stands behind it.
-#[derive(Clone, Copy)]
-enum Taken {
-    Byte(u8, Head),
-    Refused(Refusal),
-}
-
 // Whether there is room for one more operator: question 4.
-fn within(op: u8, h: Head) -> bool
-    requires { op ≤ 10 }
-    ensures { (s : List ℕ) → result ≡ allowed (opcode op) (point s h) }
+fn within(op: Opcode, h: Head) -> bool
+    ensures { (s : List ℕ) → result ≡ allowed (named op) (point s h) }
 {
-    if op == OR {
-        return h.ors < 12;
-    }
-    if op == NEXT {
-        return h.nexts < 12;
-    }
-    if NEXT < op {
-        return h.fixpoints < 7;
-    }
-    true
-}
-
-// Where reading stands behind the byte at h.
-fn passed(s: &[u8], h: Head) -> Head
-    requires { h.at < length s.now }
-    ensures { result ≡ behind h }
-{
-    Head {
-        at: h.at + 1,
-        count: h.count,
-        ors: h.ors,
-        nexts: h.nexts,
-        fixpoints: h.fixpoints,
+    match op {
+        Opcode::Or => h.ors < 12,
+        Opcode::Next => h.nexts < 12,
+        Opcode::Least | Opcode::Greatest => h.fixpoints < 7,
+        _ => true,
     }
 }
 
 // The operator op is counted.
-fn counted(op: u8, h: Head) -> Head
+fn counted(op: Opcode, h: Head) -> Head
     requires { RoomFor op h }
     ensures { OperatorCounted op h result }
 {
-    Head {
-        at: h.at,
-        count: h.count + 1,
-        ors: h.ors + base::one_if(op == OR),
-        nexts: h.nexts + base::one_if(op == NEXT),
-        fixpoints: h.fixpoints + base::one_if(NEXT < op),
+    let mut x = h;
+    x.count += 1;
+    match op {
+        Opcode::Or => x.ors += 1,
+        Opcode::Next => x.nexts += 1,
+        Opcode::Least | Opcode::Greatest => x.fixpoints += 1,
+        _ => {}
     }
+    x
 }
 
-// The questions about an operator's byte: 1, 2, 3 and 4.
-fn opcode_at(s: &[u8], h: Head) -> Taken
+// The questions 1 and 5: the byte at h, with where reading stands behind it.
+fn byte_at(s: &[u8], h: Head, missing: Fault) -> Result<(u8, Head), Refusal>
+    ensures { Takes s.now h missing result }
+{
+    let Some(&byte) = s.get(h.at) else {
+        return Err(missing.at(h.at));
+    };
+    Ok((byte, Head { at: h.at + 1, ..h }))
+}
+
+// The questions about an operator's byte: 1, 2, 3 and 4. With the opcode comes where reading stands behind it.
+fn opcode_at(s: &[u8], h: Head) -> Result<(Opcode, Head), Refusal>
     requires { Limits h }
     ensures { Opening s.now h result }
 {
-    let at = h.at;
-    if s.len() <= at {
-        return Taken::Refused(Refusal::AtByte { code: 1, at: at });
-    }
-    let op = s[at];
-    if op < TRUE {
-        return Taken::Refused(Refusal::AtByte { code: 2, at: at });
-    }
-    if GREATEST < op {
-        return Taken::Refused(Refusal::AtByte { code: 2, at: at });
-    }
+    let (byte, after) = byte_at(s, h, Fault::MissingOperator)?;
+    let Ok(op) = Opcode::try_from(byte) else {
+        return Err(Fault::UnknownOpcode.at(h.at));
+    };
     if 48 <= h.count {
-        return Taken::Refused(Refusal::AtByte { code: 3, at: at });
+        return Err(Fault::TooManyOperators.at(h.at));
     }
-    let after = passed(s, h);
-    if within(op, after) {
-        return Taken::Byte(op, counted(op, after));
+    if !within(op, after) {
+        return Err(Fault::TooManyOfKind.at(h.at));
     }
-    Taken::Refused(Refusal::AtByte { code: 4, at: at })
+    Ok((op, counted(op, after)))
 }
 
-// The argument of a signal, or of a variable, which is its binder: the questions 5 to 8.
-fn argument_at(s: &[u8], h: Head, op: u8, scope: Scope) -> Taken
-    requires { OperandReady op h scope }
-    ensures { Argues s.now h op scope result }
+// The operand byte of a signal: the questions 5 and 6.
+fn signal_at(s: &[u8], h: Head) -> Result<(u8, Head), Refusal>
+    requires { Limits h }
+    ensures { Signals s.now h result }
 {
-    let at = h.at;
-    if s.len() <= at {
-        return Taken::Refused(Refusal::AtByte { code: 5, at: at });
+    let (signal, after) = byte_at(s, h, Fault::MissingOperand)?;
+    if 15 < signal {
+        return Err(Fault::UnknownSignal.at(h.at));
     }
-    let value = s[at];
-    let after = passed(s, h);
-    if op < VARIABLE {
-        if 15 < value {
-            return Taken::Refused(Refusal::AtByte { code: 6, at: at });
-        }
-        return Taken::Byte(value, after);
+    Ok((signal, after))
+}
+
+// The binder that the operand byte of a variable names: the questions 5, 7 and 8.
+fn binder_at(s: &[u8], h: Head, scope: Scope) -> Result<(u8, Head), Refusal>
+    requires { ScopeReady h scope }
+    ensures { Names s.now h scope result }
+{
+    let (up, after) = byte_at(s, h, Fault::MissingOperand)?;
+    let up = usize::from(up);
+    if scope.depth <= up {
+        return Err(Fault::UnboundVariable.at(h.at));
     }
-    let depth = scope.depth;
-    let up = base::wide(value);
-    if depth <= up {
-        return Taken::Refused(Refusal::AtByte { code: 7, at: at });
-    }
-    let outer = depth - 1 - up;
+    let outer = scope.depth - 1 - up;
     if scope.guarded <= outer {
         let binder_at = scope.places[outer];
-        return Taken::Refused(Refusal::Unguarded { at, binder_at });
+        return Err(Refusal::Unguarded {
+            at: h.at,
+            binder_at,
+        });
     }
     let binder = scope.binders[outer];
-    Taken::Byte(binder, after)
+    Ok((binder, after))
 }
 
 // The scope of the operands of subformula me, whose byte is at a place.
-fn inside(scope: Scope, me: Subformula, at: usize, op: u8) -> Scope
+fn inside(scope: Scope, me: Subformula, at: usize, op: Opcode) -> Scope
     requires { InsideReady scope me.0 op }
     ensures { OperandScope scope me.0 at op result }
 {
     let e = me.0;
     let depth = scope.depth;
     let mut inner = scope;
-    if op == NEXT {
-        inner.guarded = depth;
-        return inner;
-    }
-    if NEXT < op {
-        inner.binders[depth] = (e % 256) as u8;
-        inner.places[depth] = at;
-        inner.depth = depth + 1;
+    match op {
+        Opcode::Next => inner.guarded = depth,
+        Opcode::Least | Opcode::Greatest => {
+            inner.binders[depth] = (e % 256) as u8;
+            inner.places[depth] = at;
+            inner.depth = depth + 1;
+        }
+        _ => {}
     }
     inner
 }
 
-fn stopped(why: Refusal, h: Head, rows: [u8; 144]) -> Parsed
-    ensures { result.outcome ≡ Outcome.Refused why }
-{
-    Parsed {
-        outcome: Outcome::Refused(why),
-        head: h,
-        rows: rows,
-    }
-}
-
-// Subformula me, read up to h, is written.
-fn finished(h: Head, rows: [u8; 144], me: Subformula, op: u8, operand: u8) -> Parsed
-    requires { ReadBehind me.0 h }
-    ensures { Finished h rows me.0 op operand result }
-{
-    let length = h.count - me.0;
-    Parsed {
-        outcome: Outcome::Accepted,
-        head: h,
-        rows: written(rows, me, op, operand, length),
-    }
-}
-
-// An operator without operand formulas.
-fn leaf(s: &[u8], h: Head, rows: [u8; 144], me: Subformula, op: u8, scope: Scope) -> Parsed
-    requires { LeafReady op me.0 h scope }
-    ensures { Leaves s.now h rows me.0 op scope result }
-{
-    if op <= FALSE {
-        return finished(h, rows, me, op, 0);
-    }
-    let argument = argument_at(s, h, op, scope);
-    match argument {
-        Taken::Refused(why) => stopped(why, h, rows),
-        Taken::Byte(value, after) => finished(after, rows, me, op, value),
-    }
-}
-
-// Subformula me, an operator whose last operand is p.
-fn complete(p: Parsed, me: Subformula, op: u8) -> Parsed
-    requires { p.outcome ≡ Outcome.Accepted → ReadBehind me.0 p.head }
-    ensures { Completed p me.0 op result }
-{
-    let outcome = p.outcome;
-    let h = p.head;
-    let rows = p.rows;
-    match outcome {
-        Outcome::Refused(_) => p,
-        Outcome::Accepted => finished(h, rows, me, op, 0),
-    }
-}
-
-// Reads an operator with all its operands.
-fn command(s: &[u8], h: Head, rows: [u8; 144], scope: Scope) -> Parsed
+// Reads an operator with all its operands, which come into the rows: where reading stands behind them.
+fn command(s: &[u8], h: Head, rows: &mut [u8; 144], scope: Scope) -> Result<Head, Refusal>
     requires { ScopeReady h scope }
-    ensures { Command s.now h rows scope result }
+    ensures { Command s.now h rows.old scope rows.new result }
 {
-    let opened = opcode_at(s, h);
-    match opened {
-        Taken::Refused(why) => stopped(why, h, rows),
-        Taken::Byte(op, after) => {
-            let me = Subformula(h.count);
-            if op <= VARIABLE {
-                return leaf(s, after, rows, me, op, scope);
-            }
+    let (op, after) = opcode_at(s, h)?;
+    let me = Subformula(h.count);
+    let (operand, behind) = match op {
+        Opcode::True | Opcode::False => (0, after),
+        Opcode::Present | Opcode::Absent => signal_at(s, after)?,
+        Opcode::Variable => binder_at(s, after, scope)?,
+        Opcode::Or | Opcode::And => {
             let inner = inside(scope, me, h.at, op);
-            let first = command(s, after, rows, inner);
-            if AND < op {
-                return complete(first, me, op);
-            }
-            let outcome = first.outcome;
-            let between = first.head;
-            let so_far = first.rows;
-            match outcome {
-                Outcome::Refused(_) => first,
-                Outcome::Accepted => complete(command(s, between, so_far, inner), me, op),
-            }
+            let left = command(s, after, rows, inner)?;
+            (0, command(s, left, rows, inner)?)
         }
-    }
-}
-
-fn refused(why: Refusal) -> Reading
-    ensures { (result.outcome ≡ Outcome.Refused why) × (result.table ≡ no_table) }
-{
-    Reading {
-        outcome: Outcome::Refused(why),
-        table: Table {
-            count: 0,
-            rows: [0u8; 144],
-        },
-    }
+        Opcode::Next | Opcode::Least | Opcode::Greatest => {
+            let inner = inside(scope, me, h.at, op);
+            (0, command(s, after, rows, inner)?)
+        }
+    };
+    written(rows, me, op, operand, behind);
+    Ok(behind)
 }
 
 // Reads a whole formula that begins at a byte.
-fn read_at(s: &[u8], at: usize) -> Reading
+fn read_at(s: &[u8], at: usize) -> Result<Table, Refusal>
     ensures { ReadFrom s.now at result }
 {
     let start = Head {
-        at: at,
+        at,
         count: 0,
         ors: 0,
         nexts: 0,
@@ -377,28 +311,18 @@ fn read_at(s: &[u8], at: usize) -> Reading
         binders: [0u8; 7],
         places: [0usize; 7],
     };
-    let p = command(s, start, [0u8; 144], outside);
-    let outcome = p.outcome;
-    let h = p.head;
-    let rows = p.rows;
-    match outcome {
-        Outcome::Refused(why) => refused(why),
-        Outcome::Accepted => {
-            if h.at < s.len() {
-                return refused(Refusal::AtByte { code: 9, at: h.at });
-            }
-            Reading {
-                outcome: Outcome::Accepted,
-                table: Table {
-                    count: h.count,
-                    rows: rows,
-                },
-            }
-        }
+    let mut rows = [0u8; 144];
+    let h = command(s, start, &mut rows, outside)?;
+    if h.at < s.len() {
+        return Err(Fault::BytesLeft.at(h.at));
     }
+    Ok(Table {
+        count: h.count,
+        rows,
+    })
 }
 
-// The bytes of a formula together with the place of the byte that reading begins at.
+// The bytes of a formula together with the place of the byte that reading begins at: the papers name this pair (MEANING 1.5), so it stays.
 #[derive(Clone, Copy)]
 struct Reader<'a> {
     src: &'a [u8],
@@ -413,16 +337,16 @@ fn new<'a>(src: &'a [u8]) -> Reader<'a>
 }
 
 // Reads the formula that begins where the reader stands.
-fn read_from<'a>(r: Reader<'a>) -> Reading
+fn read_from<'a>(r: Reader<'a>) -> Result<Table, Refusal>
     ensures { ReadFrom r.entry.src.now r.entry.at result }
 {
     read_at(r.src, r.at)
 }
 
 // Reads a whole formula.
-pub fn read(s: &[u8]) -> Reading
+pub fn read(s: &[u8]) -> Result<Table, Refusal>
     ensures outcome { reading_of result ≡ reading s.now }
-    ensures table { TableFor result.outcome result.table }
+    ensures table { IfOk result Filled }
     ensures determined { result ≡ stored (reading s.now) }
 {
     read_from(new(s))
@@ -432,17 +356,15 @@ pub fn read(s: &[u8]) -> Reading
 // the operand byte stands for, a signal or the binder of a variable, and 0 where there is none; byte 96 + e is the length, the number of
 // operators in it. Its first operand is e + 1, and a right one begins where that ends. What belongs to no subformula is 0.
 
-// The rows with subformula me.
-fn written(rows: [u8; 144], me: Subformula, op: u8, operand: u8, length: usize) -> [u8; 144]
-    requires { (me.0 < 48) × (length ≤ 48) }
-    ensures { RowPlaced rows me.0 op operand length result }
+// Subformula me, read up to h, comes into the rows.
+fn written(rows: &mut [u8; 144], me: Subformula, op: Opcode, operand: u8, h: Head)
+    requires { ReadBehind me.0 h }
+    ensures { Written h rows.old me.0 op operand rows.new }
 {
     let e = me.0;
-    let mut r = rows;
-    r[e] = op;
-    r[48 + e] = operand;
-    r[96 + e] = (length % 256) as u8;
-    r
+    rows[e] = op as u8;
+    rows[48 + e] = operand;
+    rows[96 + e] = ((h.count - e) % 256) as u8;
 }
 
 fn opcode_of(rows: &[u8; 144], s: Subformula) -> u8
@@ -458,7 +380,7 @@ fn after(e: usize, length: u8) -> usize
     requires { e < 48 }
     ensures { result ≡ e + length }
 {
-    e + base::wide(length)
+    e + usize::from(length)
 }
 
 // The number after the last subformula inside s.
@@ -475,7 +397,7 @@ pub fn is_or(rows: &[u8; 144], s: Subformula) -> bool
     requires { s.0 < 48 }
     ensures { result ≡ is_or (operator_at rows.now s.0) }
 {
-    opcode_of(rows, s) == OR
+    opcode_of(rows, s) == Opcode::Or as u8
 }
 
 // Whether it is a next.
@@ -483,7 +405,7 @@ pub fn is_next(rows: &[u8; 144], s: Subformula) -> bool
     requires { s.0 < 48 }
     ensures { result ≡ is_next (operator_at rows.now s.0) }
 {
-    opcode_of(rows, s) == NEXT
+    opcode_of(rows, s) == Opcode::Next as u8
 }
 
 // Whether it is a fixpoint.
@@ -492,7 +414,7 @@ pub fn is_fixpoint(rows: &[u8; 144], s: Subformula) -> bool
     ensures { result ≡ is_fix (operator_at rows.now s.0) }
 {
     let op = opcode_of(rows, s);
-    (op == LEAST) | (op == GREATEST)
+    (op == Opcode::Least as u8) | (op == Opcode::Greatest as u8)
 }
 
 // An or, or an and.
@@ -509,70 +431,63 @@ fn pair(rows: &[u8; 144], s: Subformula, either: bool) -> Operator
     }
 }
 
-// Any other operator by its opcode and its operand. A byte that is no opcode stands for a variable that is its own binder, which no table
-// has.
-fn operator_by(op: u8, operand: u8, s: Subformula) -> Operator
-    requires { Unpaired op s.0 }
-    ensures { (right : ℕ) → operator_of (opcode op) operand right s.0 ≡ decoded result }
-{
-    let first = Subformula(s.0 + 1);
-    match op {
-        TRUE => Operator::Constant(true),
-        FALSE => Operator::Constant(false),
-        PRESENT => Operator::Signal {
-            present: true,
-            signal: operand,
-        },
-        ABSENT => Operator::Signal {
-            present: false,
-            signal: operand,
-        },
-        VARIABLE => Operator::Variable(Subformula(base::wide(operand))),
-        NEXT => Operator::Next(first),
-        LEAST => Operator::Fixpoint {
-            greatest: false,
-            body: first,
-        },
-        GREATEST => Operator::Fixpoint {
-            greatest: true,
-            body: first,
-        },
-        _ => Operator::Variable(s),
-    }
-}
-
-// The operator of subformula s.
+// The operator of subformula s. A byte that is no opcode stands for a variable that is its own binder, which no table has.
 pub fn operator_at(rows: &[u8; 144], s: Subformula) -> Operator
     requires { Placed rows.now s.0 }
     ensures { operator_at rows.now s.0 ≡ decoded result }
 {
     let e = s.0;
-    let op = rows[e];
-    if op == OR {
-        return pair(rows, s, true);
+    let Ok(op) = Opcode::try_from(rows[e]) else {
+        return Operator::Variable(s);
+    };
+    let operand = rows[48 + e];
+    let first = Subformula(e + 1);
+    match op {
+        Opcode::True => Operator::Constant(true),
+        Opcode::False => Operator::Constant(false),
+        Opcode::Present => Operator::Signal {
+            present: true,
+            signal: operand,
+        },
+        Opcode::Absent => Operator::Signal {
+            present: false,
+            signal: operand,
+        },
+        Opcode::Variable => Operator::Variable(Subformula(usize::from(operand))),
+        Opcode::Or => pair(rows, s, true),
+        Opcode::And => pair(rows, s, false),
+        Opcode::Next => Operator::Next(first),
+        Opcode::Least => Operator::Fixpoint {
+            greatest: false,
+            body: first,
+        },
+        Opcode::Greatest => Operator::Fixpoint {
+            greatest: true,
+            body: first,
+        },
     }
-    if op == AND {
-        return pair(rows, s, false);
-    }
-    operator_by(op, rows[48 + e], s)
 }
 
 // The byte of its opcode.
 pub fn opcode_byte(operator: Operator) -> u8
     ensures { result ≡ opcode_byte (decoded operator) }
 {
-    match operator {
-        Operator::Constant(holds) => if holds { TRUE } else { FALSE },
-        Operator::Signal { present, signal: _ } => if present { PRESENT } else { ABSENT },
-        Operator::Variable(_) => VARIABLE,
-        Operator::Pair {
-            either,
-            left: _,
-            right: _,
-        } => if either { OR } else { AND },
-        Operator::Next(_) => NEXT,
-        Operator::Fixpoint { greatest, body: _ } => if greatest { GREATEST } else { LEAST },
-    }
+    let op = match operator {
+        Operator::Constant(true) => Opcode::True,
+        Operator::Constant(false) => Opcode::False,
+        Operator::Signal { present: true, .. } => Opcode::Present,
+        Operator::Signal { present: false, .. } => Opcode::Absent,
+        Operator::Variable(_) => Opcode::Variable,
+        Operator::Pair { either: true, .. } => Opcode::Or,
+        Operator::Pair { either: false, .. } => Opcode::And,
+        Operator::Next(_) => Opcode::Next,
+        Operator::Fixpoint {
+            greatest: false,
+            ..
+        } => Opcode::Least,
+        Operator::Fixpoint { greatest: true, .. } => Opcode::Greatest,
+    };
+    op as u8
 }
 
 // How many bytes its spelling begins with, before those of its operands.

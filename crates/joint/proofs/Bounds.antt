@@ -17,9 +17,11 @@ use Rattle.decision.proofs.Bounds as decision-bounds
 use Rattle.conjunction.specs.Conjunction.{conjoined}
 use Rattle.joint.specs.Joint.{Subset, max_formulas, everything, chosen, decided, Attempt, attempted, Shrunk, shrink, Joint, with_core}
 use Rattle.joint.specs.Joint.{settled}
-use Rattle.joint.specs.Contract.{says, Jointly}
-use Rattle.joint.specs.declared.Joint as code
-use Rattle.joint.specs.declared.Joint.TheVariants.{Damaged, Miscounted, Unread, Refused, Untried, Satisfiable, Unsatisfiable}
+use Rattle.joint.specs.Contract.{Answer, says, Jointly}
+use Rattle.construction.specs.Questions.{question_code}
+use Rattle.joint.specs.declared.Verdict.TheVariants.{Satisfiable, Unsatisfiable}
+use Rattle.joint.specs.declared.Refusal.TheVariants.{Damaged, Miscounted, Unread, No, Untried}
+use Rattle.std.specs.Prelude.{Ok, Err}
 use Rattle.joint.specs.Meaning.{Within}
 use Rattle.joint.proofs.SubsetLaws.{everything-length, within-length}
 use Rattle.joint.proofs.WordingLaws.{eight-bits}
@@ -27,14 +29,14 @@ use Rattle.joint.proofs.ShrinkLaws.{lends-decided}
 use Rattle.joint.proofs.ShrinkMeaning.{shrink-stuck, shrink-within}
 use Rattle.joint.proofs.Cases.{Cases, joint_cases}
 
-abbrev pub Bounded : (N M : ℕ) → code.Joint → Type 0
-Bounded N M (Damaged place) = Unit {0}
-Bounded N M Miscounted = Unit {0}
-Bounded N M (Unread position why) = (position < max_formulas) × (code_of why ≤ 9) × PlacesWithin 97 why
-Bounded N M (Refused code) = code ≤ 13
-Bounded N M (Untried s) = s < 256
-Bounded N M (Satisfiable stem cycle K c) = AnswerSized N M stem cycle K c
-Bounded N M (Unsatisfiable K P core) = AnswerSized N M 0 0 K P × (core < 256)
+abbrev pub Bounded : (N M : ℕ) → Answer → Type 0
+Bounded N M (Err (Damaged place)) = Unit {0}
+Bounded N M (Err Miscounted) = Unit {0}
+Bounded N M (Err (Unread position why)) = (position < max_formulas) × (code_of why ≤ 9) × PlacesWithin 97 why
+Bounded N M (Err (No q)) = question_code q ≤ 13
+Bounded N M (Err (Untried s)) = s < 256
+Bounded N M (Ok (Satisfiable stem cycle K c)) = AnswerSized N M stem cycle K c
+Bounded N M (Ok (Unsatisfiable K P core)) = AnswerSized N M 0 0 K P × (core < 256)
 
 -- a subset of all positions has eight bits
 small : {n : ℕ} {s : Subset} → n ≤ max_formulas → Within s (everything n) → word s < 256
@@ -56,7 +58,7 @@ module _ (N M w b : ℕ) (bs : List (List ℕ)) (few : length bs ≤ max_formula
 
   settled_bounded : (v : Verdict) → decided N M (conjoined bs) ≡ v → Bounded N M (says (settled N M bs v))
   settled_bounded (Verdict.unread why) e = eight-bits (everything (length bs)) (everything-length (length bs) few)
-  settled_bounded (Verdict.refused code) e = eight-bits (everything (length bs)) (everything-length (length bs) few)
+  settled_bounded (Verdict.refused q) e = eight-bits (everything (length bs)) (everything-length (length bs) few)
   settled_bounded (Verdict.satisfiable stem cycle K c letters) e = verdict-sized e
   settled_bounded (Verdict.unsatisfiable K P) e =
       shrunk_bounded (verdict-sized e) (shrink try (length bs) (everything (length bs))) refl
@@ -72,7 +74,7 @@ cases_bounded (Cases.unread {bs} {i} {why} h f) = (
 cases_bounded (Cases.refused h a x y) = y
 cases_bounded {N} {M} {w} {b} (Cases.settled bs h a l) = settled_bounded N M w b bs h.few l (decided N M (conjoined bs)) refl
 
-pub jointly_bounded : (bytes : List ℕ) (N M : ℕ) {w w' b b' : List ℕ} {r : code.Joint}
+pub jointly_bounded : (bytes : List ℕ) (N M : ℕ) {w w' b b' : List ℕ} {r : Answer}
     → Jointly bytes N M w w' b b' r → Bounded N M r
 jointly_bounded bytes N M {w} {b = b} j =
     subst⁻¹ (Bounded N M) j.answered (cases_bounded (joint_cases N M (length w) (length b) bytes))

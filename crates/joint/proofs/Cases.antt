@@ -24,9 +24,13 @@ use Rattle.conjunction.specs.Conjunction.{Accepted}
 use Rattle.joint.specs.Joint.{Joint, max_formulas, concluded, ask_read, bytes_of, formulas, of_records, joint}
 use Rattle.joint.specs.Meaning.{Miscounted, HasFormulas, FirstRefused}
 use Rattle.joint.specs.Inner.{check_on, checked}
-use Rattle.joint.specs.declared.Checked.{Checked}
-use Rattle.joint.specs.declared.Checked.TheVariants.{Read, Not}
-use Rattle.joint.proofs.CheckLaws.{checked-all, read_yes, read_no}
+use Rattle.std.specs.Prelude.{Result, Ok, Err}
+use Rattle.construction.specs.Questions.{question_code}
+use Rattle.construction.specs.declared.Question.{Question}
+use Rattle.construction.specs.declared.Question.TheVariants.{Capacity, Workspace, Buffer}
+use Rattle.joint.specs.declared.Refusal as joint
+use Rattle.joint.specs.declared.Refusal.TheVariants.{Unread}
+use Rattle.joint.proofs.CheckLaws.{checked_unread, checked-all, read_yes, read_no}
 use Rattle.joint.proofs.AskedLaws.{joint_of, granted, room-joint}
 
 pub data Cases (N M w b : ℕ) (catalogue : List ℕ) : Joint → Type 0 where
@@ -34,8 +38,8 @@ pub data Cases (N M w b : ℕ) (catalogue : List ℕ) : Joint → Type 0 where
   miscounted : Miscounted catalogue → Cases N M w b catalogue Joint.miscounted
   unread : {bs : List (List ℕ)} {i : ℕ} {why : Refusal} → HasFormulas catalogue bs → FirstRefused bs i why
       → Cases N M w b catalogue (Joint.unread i why)
-  refused : {bs : List (List ℕ)} {fs : List Formula} {code : ℕ} → HasFormulas catalogue bs → Accepted bs fs → 11 ≤ code → code ≤ 13
-      → Cases N M w b catalogue (Joint.refused code)
+  refused : {bs : List (List ℕ)} {fs : List Formula} {q : Question} → HasFormulas catalogue bs → Accepted bs fs → 11 ≤ question_code q
+      → question_code q ≤ 13 → Cases N M w b catalogue (Joint.refused q)
   settled : (bs : List (List ℕ)) {fs : List Formula} → HasFormulas catalogue bs → Accepted bs fs → Lends N M w b
       → Cases N M w b catalogue (concluded N M bs)
 
@@ -72,12 +76,12 @@ refused-later {k} {i} {b} {bs} {f} {why} e r =
     before h zero l = (f, e)
     before h (suc j) l = h j (omega arith)
 
-checked_not : (k : ℕ) (bs : List (List ℕ)) {i : ℕ} {why : Refusal} → checked k bs ≡ Not i why → RefusedFrom k bs i why
+checked_not : (k : ℕ) (bs : List (List ℕ)) {i : ℕ} {why : Refusal} → checked k bs ≡ Err (Unread i why) → RefusedFrom k bs i why
 checked_not k [] e = absurd (let z : ◌≡◌ {A = ℕ} 0 1 = cc in omega arith)
 checked_not k (b ∷ bs) {i} {why} e = by (parse b) refl e (checked_not (k + 1) bs)
   where
-    by : (r : Reading Formula) → parse b ≡ r → check_on k r (checked (k + 1) bs) ≡ Not i why
-        → (checked (k + 1) bs ≡ Not i why → RefusedFrom (k + 1) bs i why) → RefusedFrom k (b ∷ bs) i why
+    by : (r : Reading Formula) → parse b ≡ r → check_on k r (checked (k + 1) bs) ≡ Err (Unread i why)
+        → (checked (k + 1) bs ≡ Err (Unread i why) → RefusedFrom (k + 1) bs i why) → RefusedFrom k (b ∷ bs) i why
     by (Reading.refused w) q e rest =
         let same : k ≡ i = cc in
         let told : w ≡ why = cc in
@@ -111,10 +115,10 @@ module _ (N M w b : ℕ) (catalogue : List ℕ) where
     room_cases a = subst⁻¹ Case (room-joint N M w b (concluded N M bs)) (by (asked_of N M w b granted))
       where
         by : {o : Verdict} → From11 N M w b (λ o. o ≡ granted) o → Case (joint_of (concluded N M bs) o)
-        by (Asked.answered-no n) = Cases.refused {code = 11} h a (omega arith) (omega arith)
-        by (Asked.answered-yes c (Asked.answered-no n)) = Cases.refused {code = 12} h a (omega arith) (omega arith)
+        by (Asked.answered-no n) = Cases.refused {q = Capacity} h a (omega arith) (omega arith)
+        by (Asked.answered-yes c (Asked.answered-no n)) = Cases.refused {q = Workspace} h a (omega arith) (omega arith)
         by (Asked.answered-yes c (Asked.answered-yes x (Asked.answered-no n))) =
-            Cases.refused {code = 13} h a (omega arith) (omega arith)
+            Cases.refused {q = Buffer} h a (omega arith) (omega arith)
         by (Asked.answered-yes c (Asked.answered-yes x (Asked.answered-yes y e))) =
             subst⁻¹ (λ (o : Verdict). Case (joint_of (concluded N M bs) o)) e
             (Cases.settled bs h a (record { capacity = c; workspace_fits = x; buffer_fits = y }))
@@ -125,9 +129,10 @@ module _ (N M w b : ℕ) (catalogue : List ℕ) where
         after : Joint
         after = ask_room Joint.refused N M w b (concluded N M bs)
 
-        by : (c : Checked) → checked 0 bs ≡ c → Case (ask_read 0 bs after)
-        by Read e = subst⁻¹ Case (read_yes 0 bs after e) (room_cases (checked-all 0 bs e).1)
-        by (Not i why) e = subst⁻¹ Case (read_no 0 bs after e) (Cases.unread h (first_of (checked_not 0 bs e)))
+        by : (c : Result (Unit {0}) joint.Refusal) → checked 0 bs ≡ c → Case (ask_read 0 bs after)
+        by (Ok u) e = subst⁻¹ Case (read_yes 0 bs after e) (room_cases (checked-all 0 bs e).1)
+        by (Err why) e = let (i, w, q) = checked_unread 0 bs e in
+            subst⁻¹ Case (read_no 0 bs after (e ∙ ap Err q)) (Cases.unread h (first_of (checked_not 0 bs (e ∙ ap Err q))))
 
   -- Theorem: every outcome is one of these.
   pub joint_cases : Cases N M w b catalogue (joint N M w b catalogue)

@@ -5,7 +5,6 @@
 use mathlib.Core.Path.{◌≡◌, refl, sym, ap, subst, ◌∙◌}
 use mathlib.Core.List.{List, [], ◌∷◌}
 use Prim.Native.Nat.{ℕ}
-use native.Mathlib.Omega.{arith}
 use lib.ListN.{length}
 use Rattle.base.specs.Bits.{word}
 use Rattle.formula.specs.Formula.{Formula}
@@ -16,20 +15,21 @@ use Rattle.decision.specs.Verdict.{Verdict, decide, after_reading, verdict}
 use Rattle.decision.specs.Lends.{Lends}
 use Rattle.decision.specs.Contract.{zeroed, Decided}
 use Rattle.decision.specs.Contract as decision
-use Rattle.decision.specs.declared.Verdict as code-verdict
-use Rattle.decision.specs.declared.Verdict.TheVariants as answer
+use Rattle.construction.specs.declared.Question.{Question}
+use Rattle.construction.specs.declared.Refusal as answered
+use Rattle.construction.specs.declared.Refusal.TheVariants as answer
+use Rattle.decision.specs.declared.Verdict.TheVariants as met
 use Rattle.decision.proofs.SettleLaws.{decided_clears}
 use Rattle.conjunction.specs.Conjunction.{conjoined, Accepted, Part}
 use Rattle.conjunction.proofs.ReadLaws.{part_read}
-use Rattle.joint.specs.Joint.{Subset, chosen, everything, decided, Attempt, attempt_of, attempted, Shrunk, shrink, Joint, with_core}
+use Rattle.joint.specs.Joint.{Subset, chosen, everything, decided, Attempt, attempt_of, attempted, Shrunk, shrink, with_core}
 use Rattle.joint.specs.Joint.{settled, concluded}
-use Rattle.joint.specs.Contract.{says, leaves, cleared, Leaves}
-use Rattle.joint.specs.Inner.{held, Readable, shrunk_told, core_said}
-use Rattle.joint.specs.declared.Places.{Places}
-use Rattle.joint.specs.declared.Joint as code
-use Rattle.joint.specs.declared.Joint.TheVariants.{Untried, Satisfiable}
-use Rattle.joint.specs.declared.Shrunk as code-shrunk
-use Rattle.joint.proofs.CheckLaws.{held-length}
+use Rattle.joint.specs.Contract.{Answer, Leaves}
+use Rattle.joint.specs.Inner.{Readable, shrunk_told}
+use Rattle.joint.specs.declared.Verdict.TheVariants.{Satisfiable, Unsatisfiable}
+use Rattle.joint.specs.declared.Refusal as joint
+use Rattle.joint.specs.declared.Refusal.TheVariants.{Untried}
+use Rattle.std.specs.Prelude.{Result, Ok, Err}
 use Rattle.joint.proofs.SubsetLaws.{everything-chosen, within-part}
 use Rattle.joint.proofs.ShrinkLaws.{lends-decided}
 use Rattle.joint.proofs.ShrinkMeaning.{StuckAt, shrink-stuck}
@@ -42,7 +42,7 @@ unsat_read N M bytes {K} {P} e = by (parse bytes) refl e
   where
     by : (r : Reading Formula) → parse bytes ≡ r → after_reading (decide N M) r ≡ Verdict.unsatisfiable K P
         → (f : Formula) × (parse bytes ≡ Reading.accepted f)
-    by (Reading.refused why) q e = absurd (let z : ◌≡◌ {A = ℕ} 0 1 = cc in omega arith)
+    by (Reading.refused why) q e = cc
     by (Reading.accepted f) q e = (f, q)
 
 read_clears : (N M : ℕ) (bytes : List ℕ) {f : Formula} → parse bytes ≡ Reading.accepted f → (w : List ℕ)
@@ -50,19 +50,24 @@ read_clears : (N M : ℕ) (bytes : List ℕ) {f : Formula} → parse bytes ≡ R
 read_clears N M bytes {f} e w =
     ap (λ (r : Reading Formula). decision.cleared N M (after_reading (decide N M) r) w) e ∙ decided_clears N M (table f) w
 
+-- the answer by what leaving out comes to
+abbrev pub core_said : (K P : ℕ) → Result ℕ joint.Refusal → Answer
+core_said K P (Err why) = Err why
+core_said K P (Ok s) = Ok (Unsatisfiable K P s)
+
 -- ---- where leaving out is stuck
 -- a verdict that is no answer
 abbrev pub Refusing : Verdict → Type 0
 Refusing (Verdict.unread why) = Unit {0}
-Refusing (Verdict.refused code) = Unit {0}
+Refusing (Verdict.refused q) = Unit {0}
 Refusing (Verdict.satisfiable stem cycle K c letters) = ⊥
 Refusing (Verdict.unsatisfiable K P) = ⊥
 
 unknown-is : (v : Verdict) {why : Verdict} → attempt_of v ≡ Attempt.unknown why → (v ≡ why) × Refusing v
 unknown-is (Verdict.unread w) e = (cc, tt)
-unknown-is (Verdict.refused code) e = (cc, tt)
-unknown-is (Verdict.satisfiable stem cycle K c letters) e = absurd (let z : ◌≡◌ {A = ℕ} 0 1 = cc in omega arith)
-unknown-is (Verdict.unsatisfiable K P) e = absurd (let z : ◌≡◌ {A = ℕ} 0 1 = cc in omega arith)
+unknown-is (Verdict.refused q) e = (cc, tt)
+unknown-is (Verdict.satisfiable stem cycle K c letters) e = cc
+unknown-is (Verdict.unsatisfiable K P) e = cc
 
 -- The conjunction of some formulas is read, and the verdict on it is a refusal.
 pub record RefusedPart (N M : ℕ) (cs : List (List ℕ)) (why : Verdict) : Type 0 where
@@ -81,7 +86,7 @@ module _ (N M : ℕ) (bs : List (List ℕ)) {fs : List Formula} (accepted : Acce
       by (chosen t bs) (subst (Part (chosen t bs)) (everything-chosen bs) (within-part s.within bs)) s.tried
     where
       by : (cs : List (List ℕ)) → Part cs bs → attempted N M cs ≡ Attempt.unknown why → RefusedPart N M cs why
-      by [] p e = absurd (let z : ◌≡◌ {A = ℕ} 0 1 = cc in omega arith)
+      by [] p e = cc
       by (c ∷ cs) p e =
           let (f, r) = part_read p accepted read in
           let (is, no_answer) = unknown-is (decided N M (conjoined (c ∷ cs))) e in
@@ -102,63 +107,54 @@ module _ (N M : ℕ) (bs : List (List ℕ)) {fs : List Formula} (accepted : Acce
   unmet-leaves K P (Shrunk.core s) e = record { answered = refl; buffered = refl; worked = refl }
 
 -- ---- the verdict behind an answer
-says-unread : (v : Verdict) {why : Refusal} → decision.says v ≡ answer.Unread why → v ≡ Verdict.unread why
+says-unread : (v : Verdict) {why : Refusal} → decision.says v ≡ Err (answer.Unread why) → v ≡ Verdict.unread why
 says-unread (Verdict.unread w) e = cc
-says-unread (Verdict.refused code) e = absurd (let z : ◌≡◌ {A = ℕ} 0 1 = cc in omega arith)
-says-unread (Verdict.satisfiable stem cycle K c letters) e = absurd (let z : ◌≡◌ {A = ℕ} 0 1 = cc in omega arith)
-says-unread (Verdict.unsatisfiable K P) e = absurd (let z : ◌≡◌ {A = ℕ} 0 1 = cc in omega arith)
+says-unread (Verdict.refused q) e = cc
+says-unread (Verdict.satisfiable stem cycle K c letters) e = cc
+says-unread (Verdict.unsatisfiable K P) e = cc
 
-says-refused : (v : Verdict) {code : ℕ} → decision.says v ≡ answer.Refused code → v ≡ Verdict.refused code
-says-refused (Verdict.unread w) e = absurd (let z : ◌≡◌ {A = ℕ} 0 1 = cc in omega arith)
-says-refused (Verdict.refused code) e = cc
-says-refused (Verdict.satisfiable stem cycle K c letters) e = absurd (let z : ◌≡◌ {A = ℕ} 0 1 = cc in omega arith)
-says-refused (Verdict.unsatisfiable K P) e = absurd (let z : ◌≡◌ {A = ℕ} 0 1 = cc in omega arith)
+says-refused : (v : Verdict) {q : Question} → decision.says v ≡ Err (answer.No q) → v ≡ Verdict.refused q
+says-refused (Verdict.unread w) e = cc
+says-refused (Verdict.refused q) e = cc
+says-refused (Verdict.satisfiable stem cycle K c letters) e = cc
+says-refused (Verdict.unsatisfiable K P) e = cc
 
-says_sat : (v : Verdict) {stem cycle K c : ℕ} → decision.says v ≡ answer.Satisfiable stem cycle K c
+says_sat : (v : Verdict) {stem cycle K c : ℕ} → decision.says v ≡ Ok (met.Satisfiable stem cycle K c)
     → (letters : List ℕ) × (v ≡ Verdict.satisfiable stem cycle K c letters)
-says_sat (Verdict.unread w) e = absurd (let z : ◌≡◌ {A = ℕ} 0 1 = cc in omega arith)
-says_sat (Verdict.refused code) e = absurd (let z : ◌≡◌ {A = ℕ} 0 1 = cc in omega arith)
+says_sat (Verdict.unread w) e = cc
+says_sat (Verdict.refused q) e = cc
 says_sat (Verdict.satisfiable stem cycle K c letters) e = (letters, cc)
-says_sat (Verdict.unsatisfiable K P) e = absurd (let z : ◌≡◌ {A = ℕ} 0 1 = cc in omega arith)
+says_sat (Verdict.unsatisfiable K P) e = cc
 
-says_unsat : (v : Verdict) {K P : ℕ} → decision.says v ≡ answer.Unsatisfiable K P → v ≡ Verdict.unsatisfiable K P
-says_unsat (Verdict.unread w) e = absurd (let z : ◌≡◌ {A = ℕ} 0 1 = cc in omega arith)
-says_unsat (Verdict.refused code) e = absurd (let z : ◌≡◌ {A = ℕ} 0 1 = cc in omega arith)
-says_unsat (Verdict.satisfiable stem cycle K c letters) e = absurd (let z : ◌≡◌ {A = ℕ} 0 1 = cc in omega arith)
+says_unsat : (v : Verdict) {K P : ℕ} → decision.says v ≡ Ok (met.Unsatisfiable K P) → v ≡ Verdict.unsatisfiable K P
+says_unsat (Verdict.unread w) e = cc
+says_unsat (Verdict.refused q) e = cc
+says_unsat (Verdict.satisfiable stem cycle K c letters) e = cc
 says_unsat (Verdict.unsatisfiable K P) e = cc
 
 -- ---- the outcome by the answer on all
 -- The conjunction of all formulas was decided, with this answer, from these areas to those.
-pub record AllDecided (catalogue : List ℕ) (p : Places) (N M : ℕ) (w w' b b' : List ℕ) (v : code-verdict.Verdict) (s : Subset) : Type 0
-  where
-    pub readable : Readable catalogue p
-    pub lends : Lends N M (length w) (length b)
-    pub all : s ≡ everything p.count
-    pub decides : Decided (conjoined (chosen s (held catalogue p))) N M w w' b b' v
+pub record AllDecided (bs : List (List ℕ)) (N M : ℕ) (w w' b b' : List ℕ) (v : decision.Answer) (s : Subset) : Type 0 where
+  pub readable : Readable bs
+  pub lends : Lends N M (length w) (length b)
+  pub all : s ≡ everything (length bs)
+  pub decides : Decided (conjoined (chosen s bs)) N M w w' b b' v
 
-pub all-decided : {catalogue : List ℕ} {p : Places} {N M : ℕ} {w w' b b' : List ℕ} {v : code-verdict.Verdict} {s : Subset}
-    → Readable catalogue p → Lends N M (length w) (length b) → s ≡ everything p.count
-    → Decided (conjoined (chosen s (held catalogue p))) N M w w' b b' v → AllDecided catalogue p N M w w' b b' v s
-all-decided r l e d = record { readable = r; lends = l; all = e; decides = d }
+-- in the code there are n of them
+pub all-decided : {bs : List (List ℕ)} {n N M : ℕ} {w w' b b' : List ℕ} {v : decision.Answer} {s : Subset} → n ≡ length bs
+    → Readable bs → Lends N M (length w) (length b) → s ≡ everything n → Decided (conjoined (chosen s bs)) N M w w' b b' v
+    → AllDecided bs N M w w' b b' v s
+all-decided c r l e d = record { readable = r; lends = l; all = e ∙ ap everything c; decides = d }
 
-module _ {catalogue : List ℕ} {p : Places} {N M : ℕ} {w w' b b' : List ℕ} {v : code-verdict.Verdict} {s : Subset}
-    (h : AllDecided catalogue p N M w w' b b' v s) where
-  abbrev bs : List (List ℕ)
-  bs = held catalogue p
-
-  counts : p.count ≡ length bs
-  counts = sym (held-length catalogue p)
-
-  every : s ≡ everything (length bs)
-  every = h.all ∙ ap everything counts
-
+module _ {bs : List (List ℕ)} {N M : ℕ} {w w' b b' : List ℕ} {v : decision.Answer} {s : Subset}
+    (h : AllDecided bs N M w w' b b' v s) where
   abbrev whole : Verdict
   whole = decided N M (conjoined bs)
 
   given : verdict N M (length w) (length b) (conjoined (chosen s bs)) ≡ whole
   given =
       lends-decided N M (conjoined (chosen s bs)) h.lends
-      ∙ ap (λ (t : Subset). decided N M (conjoined (chosen t bs))) every
+      ∙ ap (λ (t : Subset). decided N M (conjoined (chosen t bs))) h.all
       ∙ ap (λ (cs : List (List ℕ)). decided N M (conjoined cs)) (everything-chosen bs)
 
   answer-is : decision.says whole ≡ v
@@ -170,35 +166,44 @@ module _ {catalogue : List ℕ} {p : Places} {N M : ℕ} {w w' b b' : List ℕ} 
   workspace_is : {x : Verdict} → whole ≡ x → w' ≡ decision.cleared N M x w
   workspace_is e = h.decides.worked ∙ ap (λ (x : Verdict). decision.cleared N M x w) (given ∙ e)
 
-  by_verdict : {x : Verdict} {w₂ : List ℕ} {r : code.Joint} → whole ≡ x → Leaves N M (settled N M bs x) w w₂ b b' r
+  by_verdict : {x : Verdict} {w₂ : List ℕ} {r : Answer} → whole ≡ x → Leaves N M (settled N M bs x) w w₂ b b' r
       → Leaves N M (concluded N M bs) w w₂ b b' r
   by_verdict {w₂ = w₂} {r} e q = subst (λ (x : Verdict). Leaves N M (settled N M bs x) w w₂ b b' r) (sym e) q
 
-  pub conclude-unread : {why : Refusal} {x : ℕ} → v ≡ answer.Unread why → x ≡ word s
-      → Leaves N M (concluded N M bs) w w' b b' (Untried x)
-  conclude-unread e q =
-      let is = says-unread whole (answer-is ∙ e) in
-      by_verdict is (record { answered = ap Untried (q ∙ ap word every); buffered = buffer_is is; worked = workspace_is is })
+  pub conclude-refusal : {why : answered.Refusal} {x : ℕ} → v ≡ Err why → x ≡ word s
+      → Leaves N M (concluded N M bs) w w' b b' (Err (Untried x))
+  conclude-refusal {why} {x} e q = by why (answer-is ∙ e)
+    where
+      by : (why : answered.Refusal) → decision.says whole ≡ Err why → Leaves N M (concluded N M bs) w w' b b' (Err (Untried x))
+      by (answer.Unread why) e =
+          let is = says-unread whole e in
+          by_verdict is (record {
+            answered = ap (λ (n : ℕ). Err (Untried n)) (q ∙ ap word h.all);
+            buffered = buffer_is is;
+            worked = workspace_is is;
+          })
+      by (answer.No c) e =
+          let is = says-refused whole e in
+          by_verdict is (record {
+            answered = ap (λ (n : ℕ). Err (Untried n)) (q ∙ ap word h.all);
+            buffered = buffer_is is;
+            worked = workspace_is is;
+          })
 
-  pub conclude-refused : {c x : ℕ} → v ≡ answer.Refused c → x ≡ word s → Leaves N M (concluded N M bs) w w' b b' (Untried x)
-  conclude-refused e q =
-      let is = says-refused whole (answer-is ∙ e) in
-      by_verdict is (record { answered = ap Untried (q ∙ ap word every); buffered = buffer_is is; worked = workspace_is is })
-
-  pub conclude-met : {stem cycle K c : ℕ} → v ≡ answer.Satisfiable stem cycle K c
-      → Leaves N M (concluded N M bs) w w' b b' (Satisfiable stem cycle K c)
+  pub conclude-met : {stem cycle K c : ℕ} → v ≡ Ok (met.Satisfiable stem cycle K c)
+      → Leaves N M (concluded N M bs) w w' b b' (Ok (Satisfiable stem cycle K c))
   conclude-met e =
       let (letters, is) = says_sat whole (answer-is ∙ e) in
       by_verdict is (record { answered = refl; buffered = buffer_is is; worked = workspace_is is })
 
   -- before leaving out the workspace is cleared
-  pub unmet_workspace : {K P : ℕ} → v ≡ answer.Unsatisfiable K P → w' ≡ zeroed N M w
+  pub unmet_workspace : {K P : ℕ} → v ≡ Ok (met.Unsatisfiable K P) → w' ≡ zeroed N M w
   unmet_workspace e = workspace_is (says_unsat whole (answer-is ∙ e))
 
-  pub conclude-unmet : {K P : ℕ} {w₂ : List ℕ} {x : code-shrunk.Shrunk} {r : code.Joint} → v ≡ answer.Unsatisfiable K P → w₂ ≡ w'
-      → x ≡ shrunk_told (shrink (λ t. attempted N M (chosen t bs)) p.count (everything p.count)) → r ≡ core_said K P x
+  pub conclude-unmet : {n K P : ℕ} {w₂ : List ℕ} {x : Result ℕ joint.Refusal} {r : Answer} → n ≡ length bs → v ≡ Ok (met.Unsatisfiable K P)
+      → w₂ ≡ w' → x ≡ shrunk_told (shrink (λ t. attempted N M (chosen t bs)) n (everything n)) → r ≡ core_said K P x
       → Leaves N M (concluded N M bs) w w₂ b b' r
-  conclude-unmet {K} {P} {w₂} {x} {r} e kept shrunk said =
+  conclude-unmet {K = K} {P} {w₂} {x} {r} counts e kept shrunk said =
       let is = says_unsat whole (answer-is ∙ e) in
       let read = (unsat_read N M (conjoined bs) is).1 in
       let try : Subset → Attempt = λ t. attempted N M (chosen t bs) in

@@ -1,100 +1,29 @@
--- The conjunction put together in a buffer from its end: bytes before bytes (`Putting`), a formula before what is there (`grown-first`,
--- `grown-more`), and so one formula after another from the last to the first (`Conjoining`). A formula that reading accepts has 1 to 96
--- bytes (`accepted-length`), so there is room for eight; and a conjunction has bytes exactly if it has formulas. Assumes nothing.
+-- The conjunction put together in a buffer from its end, one formula after another from the last to the first, each if it is taken
+-- (`Conjoining`). A formula that reading accepts has 1 to 96 bytes (`accepted-length`), so there is room for eight; and a conjunction has
+-- bytes exactly if it has formulas. Assumes nothing.
 use mathlib.Core.Path.{◌≡◌, refl, sym, ap, subst, ◌∙◌}
 use mathlib.Core.Bool.{Bool, true, false, cond}
-use mathlib.Core.List.{List, [], ◌∷◌, ◌++◌, append-nil}
-use Prim.Native.Nat.{ℕ, zero, suc, ◌+◌, ◌-◌, ◌*◌, ◌≤◌, ◌<◌}
+use mathlib.Core.List.{List, [], ◌∷◌, ◌++◌}
+use Prim.Native.Nat.{ℕ, zero, suc, ◌-◌, ◌*◌, ◌≤◌, ◌<◌}
 use native.Mathlib.Omega.{arith}
-use lib.ListN.{length, get_or, take, drop, set, length-set, length-drop, drop_of_length-le}
-use lib.Seq.{take_all, drop-length, drop-cons, get_or-set_same, drop-set-lt}
+use lib.ListN.{length, get_or, take, drop, length-drop, drop_of_length-le}
+use lib.Seq.{take_all, drop-length, drop-cons}
 use Rattle.formula.specs.Formula.{Formula}
 use Rattle.formula.specs.Reading.{Opcode, byte_of}
 use Rattle.formula.proofs.Measure.{accepted-length}
 use Rattle.conjunction.specs.Conjunction.{conjoined, Accepted}
 use Rattle.joint.specs.Joint.{Subset, chosen}
-use Rattle.joint.specs.Inner.{joined, joined_if, PutBytes, Grown, Conjoins}
-
--- ---- one byte before others
-set_drop : (out : List ℕ) (k b : ℕ) → k < length out → drop k (set out k b) ≡ b ∷ drop (suc k) out
-set_drop out k b l =
-    drop-cons (set out k b) k 0 (omega (arith, length-set out k b))
-    ∙ ap (λ (x : ℕ). x ∷ drop (suc k) (set out k b)) (get_or-set_same out k b 0 l)
-    ∙ ap (λ (r : List ℕ). b ∷ r) (drop-set-lt (suc k) out k b (omega arith))
-
--- the same before a place
-set_before : (out : List ℕ) (at b : ℕ) → 0 < at → at ≤ length out → drop (at - 1) (set out (at - 1) b) ≡ b ∷ drop at out
-set_before out at b z l =
-    set_drop out (at - 1) b (omega arith) ∙ ap (λ (k : ℕ). b ∷ drop k out) {x = suc (at - 1)} {y = at} (omega arith)
-
-drop-before : (bytes : List ℕ) (i : ℕ) → 0 < i → i ≤ length bytes → get_or bytes (i - 1) 0 ∷ drop i bytes ≡ drop (i - 1) bytes
-drop-before bytes i z l =
-    sym (drop-cons bytes (i - 1) 0 (omega arith)
-    ∙ ap (λ (k : ℕ). get_or bytes (i - 1) 0 ∷ drop k bytes) {x = suc (i - 1)} {y = i} (omega arith))
-
--- ---- bytes before bytes
-pub record Putting (bytes : List ℕ) (end : ℕ) (out₀ : List ℕ) (out : List ℕ) (at i : ℕ) : Type 0 where
-  pub is : drop at out ≡ drop i bytes ++ drop end out₀
-  pub begins : at + length bytes ≡ end + i
-  pub below : i ≤ length bytes
-  pub long : length out ≡ length out₀
-
-module _ (bytes : List ℕ) (end : ℕ) (out₀ : List ℕ) where
-  pub putting_none : Putting bytes end out₀ out₀ end (length bytes)
-  putting_none = record {
-    is = ap (λ (l : List ℕ). l ++ drop end out₀) (sym (drop-length bytes));
-    begins = refl;
-    below = omega arith;
-    long = refl;
-  }
-
-  pub putting_more : {out : List ℕ} {at i : ℕ} → Putting bytes end out₀ out at i → 0 < i → length bytes ≤ end → end ≤ length out₀
-      → Putting bytes end out₀ (set out (at - 1) (get_or bytes (i - 1) 0)) (at - 1) (i - 1)
-  putting_more {out} {at} {i} h z e l = record {
-    is =
-        set_before out at (get_or bytes (i - 1) 0) (omega (arith, h.begins)) (omega (arith, h.begins, h.below, h.long))
-        ∙ ap (λ (r : List ℕ). get_or bytes (i - 1) 0 ∷ r) h.is
-        ∙ ap (λ (r : List ℕ). r ++ drop end out₀) (drop-before bytes i z h.below);
-    begins = omega (arith, h.begins);
-    below = omega (arith, h.below);
-    long = length-set out (at - 1) (get_or bytes (i - 1) 0) ∙ h.long;
-  }
-
-  pub putting_all : {out : List ℕ} {at i : ℕ} → Putting bytes end out₀ out at i → i ≤ 0 → PutBytes bytes end out₀ out at
-  putting_all {i = i} h z = record {
-    is = h.is ∙ ap (λ (k : ℕ). drop k bytes ++ drop end out₀) {x = i} {y = 0} (omega arith);
-    begins = omega (arith, h.begins);
-    long = h.long;
-  }
+use Rattle.joint.specs.Inner.{joined, Grown, Conjoins}
 
 -- ---- a formula before what is there
 joined-some : (b l : List ℕ) → 0 < length l → joined b l ≡ byte_of (Opcode.pair false) ∷ (b ++ l)
 joined-some b [] h = absurd (omega arith)
 joined-some b (c ∷ cs) h = refl
 
-module _ {bytes : List ℕ} {at : ℕ} {out out' : List ℕ} {r : ℕ} (h : PutBytes bytes at out out' r) (short : length bytes ≤ 96) where
-  pub grown-first : at ≡ length out → Grown at (joined bytes (drop at out)) out out' r
-  grown-first e =
-      let none = drop_of_length-le out {i = at} (omega arith) in
-      record {
-        is = h.is ∙ ap (λ (l : List ℕ). bytes ++ l) none ∙ append-nil bytes ∙ sym (ap (joined bytes) none);
-        before = omega (arith, h.begins);
-        near = omega (arith, h.begins);
-        long = h.long;
-      }
-
-  pub grown-more : at < length out → 97 ≤ at → Grown at (joined bytes (drop at out)) out (set out' (r - 1) 7) (r - 1)
-  grown-more l w = record {
-    is =
-        set_before out' r 7 (omega (arith, h.begins)) (omega (arith, h.begins, h.long))
-        ∙ ap (λ (l : List ℕ). 7 ∷ l) h.is
-        ∙ sym (joined-some bytes (drop at out) (omega (arith, length-drop at out)));
-    before = omega (arith, h.begins);
-    near = omega (arith, h.begins);
-    long = length-set out' (r - 1) 7 ∙ h.long;
-  }
-
 -- if it is taken
+abbrev joined_if : Bool → List ℕ → List ℕ → List ℕ
+joined_if taken b rest = cond taken (joined b rest) rest
+
 pub grown_taken : {at : ℕ} {b h : List ℕ} {taken : Bool} {out out' : List ℕ} {r : ℕ} → taken ≡ true → b ≡ h
     → Grown at (joined b (drop at out)) out out' r → Grown at (joined_if taken h (drop at out)) out out' r
 grown_taken {at} {b} {h} {taken} {out} {out'} {r} t e g =
@@ -198,13 +127,6 @@ module _ (t : Subset) (bs : List (List ℕ)) (sized : Sized bs) (few : length bs
     within = omega (arith, h.within, g.before, g.long);
     below = omega (arith, h.below);
     long = g.long ∙ h.long;
-  }
-
-  pub conjoining_all : {out : List ℕ} {at i : ℕ} → Conjoining t bs out₀ out at i → i ≤ 0 → Conjoins (chosen t bs) out₀ out at
-  conjoining_all {i = i} h z = record {
-    is = h.is ∙ ap (λ (k : ℕ). conjoined (chosen (drop k t) (drop k bs))) {x = i} {y = 0} (omega arith);
-    within = h.within;
-    long = h.long;
   }
 
 -- ---- what a buffer has then

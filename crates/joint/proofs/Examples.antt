@@ -10,6 +10,8 @@ use Rattle.formula.specs.Reading.{parse}
 use Rattle.catalogue.specs.Catalogue.{Entry, written}
 use Rattle.catalogue.specs.Records.{records_from}
 use Rattle.decision.specs.Verdict.{Verdict, decide, workspace_size, witness_size}
+use Rattle.formula.specs.declared.Fault.TheVariants.{MissingOperator, TooManyOfKind, MissingOperand}
+use Rattle.construction.specs.declared.Question.TheVariants.{Capacity, Nodes, Profiles}
 use Rattle.joint.specs.Joint.{Joint, joint}
 
 pub record Example : Type 0 where
@@ -56,22 +58,22 @@ examples =
     ∷ is (sheet (replicate 9 (0x01 ∷ []))) 8 8
     Joint.miscounted
     ∷ is (sheet ((0x01 ∷ []) ∷ [] ∷ (0x05 ∷ []) ∷ [])) 8 8
-    (Joint.unread 1 (at_byte 1 0))
+    (Joint.unread 1 (at_byte MissingOperator 0))
     ∷ is (sheet ((0x02 ∷ []) ∷ (0x03 ∷ []) ∷ [])) 0 8
-    (Joint.unread 1 (at_byte 5 1))
+    (Joint.unread 1 (at_byte MissingOperand 1))
     ∷ is (sheet ((0x01 ∷ []) ∷ (0x09 ∷ 0x05 ∷ 0x00 ∷ []) ∷ (0x02 ∷ []) ∷ [])) 8 8
     (Joint.unread 1 (unguarded 0 2))
     ∷ is (sheet ((0x02 ∷ []) ∷ [])) 0 8
-    (Joint.refused 11)
+    (Joint.refused Capacity)
     ∷ is (sheet ((replicate 12 0x08 ++ (0x01 ∷ [])) ∷ (0x08 ∷ 0x03 ∷ 0x00 ∷ []) ∷ [])) 8 8
-    (Joint.untried (true ∷ true ∷ false ∷ false ∷ false ∷ false ∷ false ∷ false ∷ []) (Verdict.unread (at_byte 4 14)))
+    (Joint.untried (true ∷ true ∷ false ∷ false ∷ false ∷ false ∷ false ∷ false ∷ []) (Verdict.unread (at_byte TooManyOfKind 14)))
     ∷ is (sheet ((0x03 ∷ 0x00 ∷ []) ∷ [])) 1 4
-    (Joint.untried (true ∷ false ∷ false ∷ false ∷ false ∷ false ∷ false ∷ false ∷ []) (Verdict.refused 14))
+    (Joint.untried (true ∷ false ∷ false ∷ false ∷ false ∷ false ∷ false ∷ false ∷ []) (Verdict.refused Nodes))
     ∷ is (sheet ((0x03 ∷ 0x00 ∷ []) ∷ (0x08 ∷ 0x03 ∷ 0x00 ∷ []) ∷ (0x04 ∷ 0x00 ∷ []) ∷ [])) 1 4
-    (Joint.untried (true ∷ true ∷ false ∷ false ∷ false ∷ false ∷ false ∷ false ∷ []) (Verdict.refused 14))
+    (Joint.untried (true ∷ true ∷ false ∷ false ∷ false ∷ false ∷ false ∷ false ∷ []) (Verdict.refused Nodes))
     ∷ is (sheet (sooner_or_later ∷ (0x0A ∷ 0x07 ∷ 0x03 ∷ 0x01 ∷ 0x08 ∷ 0x05 ∷ 0x00 ∷ []) ∷ (0x04 ∷ 0x00 ∷ []) ∷ (0x03 ∷ 0x00 ∷ []) ∷ []))
     8 1
-    (Joint.untried (true ∷ true ∷ true ∷ false ∷ false ∷ false ∷ false ∷ false ∷ []) (Verdict.refused 15))
+    (Joint.untried (true ∷ true ∷ true ∷ false ∷ false ∷ false ∷ false ∷ false ∷ []) (Verdict.refused Profiles))
     ∷ is (0x20 ∷ 0x07 ∷ 0x00 ∷ 0x01 ∷ 0x01 ∷ 0x21 ∷ []) 8 8 (Joint.damaged 5)
     ∷ []
 

@@ -1,7 +1,6 @@
-pub mod PlaceLaws
+pub mod CollectLaws
 pub mod CheckLaws
 pub mod ConjoinLaws
-pub mod ReadableLaws
 pub mod SubsetLaws
 pub mod WordingLaws
 pub mod ShrinkLaws

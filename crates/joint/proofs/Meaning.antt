@@ -32,6 +32,7 @@ use Rattle.conjunction.specs.Conjunction.{conjoined, conjunction, Accepted, Meet
 use Rattle.conjunction.proofs.PartLaws.{part_meets}
 use Rattle.conjunction.proofs.MeetLaws.{conjunction_exactly}
 use Rattle.conjunction.proofs.ReadLaws.{conjunction_read, conjunction-accepted}
+use Rattle.construction.specs.declared.Question.TheVariants.{Nodes, Profiles}
 use Rattle.joint.specs.Joint.{Subset, chosen, max_formulas, everything, without, decided, Attempt}
 use Rattle.joint.specs.Joint.{attempt_of, attempted, Shrunk, shrink}
 use Rattle.joint.specs.Joint.{Joint, with_core, settled, joint}
@@ -87,7 +88,7 @@ module _ (N M w b : ℕ) (l : Lends N M w b) where
     where
       by : (v : Verdict) → decided N M (conjoined (c ∷ cs)) ≡ v → attempt_of v ≡ Attempt.met → MetBySome (f ∷ fs)
       by (Verdict.unread why) q e = absurd (let z : ◌≡◌ {A = ℕ} 0 1 = cc in omega arith)
-      by (Verdict.refused code) q e = absurd (let z : ◌≡◌ {A = ℕ} 0 1 = cc in omega arith)
+      by (Verdict.refused why) q e = absurd (let z : ◌≡◌ {A = ℕ} 0 1 = cc in omega arith)
       by (Verdict.satisfiable stem cycle K n letters) q e =
           let m = decided-says (conjoined (c ∷ cs)) q in
           record { course = lasso letters stem; such = m.such; meets_each = met-each (Accepted.more r a) m }
@@ -99,7 +100,7 @@ module _ (N M w b : ℕ) (l : Lends N M w b) where
     where
       by : (v : Verdict) → decided N M (conjoined (c ∷ cs)) ≡ v → attempt_of v ≡ Attempt.unmet → MetByNone (f ∷ fs)
       by (Verdict.unread why) q e = absurd (let z : ◌≡◌ {A = ℕ} 0 1 = cc in omega arith)
-      by (Verdict.refused code) q e = absurd (let z : ◌≡◌ {A = ℕ} 0 1 = cc in omega arith)
+      by (Verdict.refused why) q e = absurd (let z : ◌≡◌ {A = ℕ} 0 1 = cc in omega arith)
       by (Verdict.satisfiable stem cycle K n letters) q e = absurd (let z : ◌≡◌ {A = ℕ} 0 1 = cc in omega arith)
       by (Verdict.unsatisfiable K P) q e = unmet-each (Accepted.more r a) (decided-says (conjoined (c ∷ cs)) q)
 
@@ -107,7 +108,7 @@ module _ (N M w b : ℕ) (l : Lends N M w b) where
 -- behind reading a verdict is no refusal of reading, and a refusal is 14 or 15
 abbrev PastReading : Verdict → Type 0
 PastReading (Verdict.unread why) = ⊥
-PastReading (Verdict.refused code) = (code ≡ 14) ⊎ (code ≡ 15)
+PastReading (Verdict.refused q) = (q ≡ Nodes) ⊎ (q ≡ Profiles)
 PastReading (Verdict.satisfiable stem cycle K n letters) = Unit {0}
 PastReading (Verdict.unsatisfiable K P) = Unit {0}
 
@@ -130,7 +131,7 @@ module _ {N M : ℕ} {catalogue : List ℕ} {bs : List (List ℕ)} {fs : List Fo
     where
       by : (v : Verdict) → Refusing v → decide N M (table f) ≡ v → Reason N M bs t v
       by (Verdict.unread w) r p = absurd (subst PastReading p (decide-past N M (table f)))
-      by (Verdict.refused code) r p = Reason.no_room code (subst PastReading p (decide-past N M (table f))) f e p
+      by (Verdict.refused q) r p = Reason.no_room q (subst PastReading p (decide-past N M (table f))) f e p
       by (Verdict.satisfiable stem cycle K n letters) r p = absurd r
       by (Verdict.unsatisfiable K P) r p = absurd r
 
@@ -255,7 +256,7 @@ module _ (N M w b : ℕ) (catalogue : List ℕ) {bs : List (List ℕ)} {fs : Lis
 
   settled_tells : (v : Verdict) → decided N M (conjoined bs) ≡ v → Tells N M catalogue (settled N M bs v)
   settled_tells (Verdict.unread why) e = whole-refused (Verdict.unread why) tt e
-  settled_tells (Verdict.refused code) e = whole-refused (Verdict.refused code) tt e
+  settled_tells (Verdict.refused q) e = whole-refused (Verdict.refused q) tt e
   settled_tells (Verdict.satisfiable stem cycle K m letters) e =
       let met = decided-says N M w b l (conjoined bs) e in
       record {

@@ -18,9 +18,9 @@ use Rattle.decision.proofs.SettleLaws.{asked_of}
 use Rattle.decision.proofs.Demands.{IsAnswer, more_room}
 use Rattle.conjunction.specs.Conjunction.{conjoined, Accepted}
 use Rattle.joint.specs.Joint.{Subset, chosen, max_formulas, everything, without, decided, Attempt, attempt_of, attempted, Shrunk}
-use Rattle.joint.specs.Joint.{gone_on, shrink, Joint, with_core, settled, concluded, ask_read, asked, formulas, of_records, joint}
+use Rattle.joint.specs.Joint.{gone_on, shrink, Joint, with_core, settled, concluded, ask_read, asked, of_records, joint}
 use Rattle.joint.specs.Inner.{check_on, checked}
-use Rattle.joint.specs.declared.Checked.TheVariants.{Read}
+use Rattle.std.specs.Prelude.{Ok}
 use Rattle.joint.specs.Meaning.{HasFormulas}
 use Rattle.joint.proofs.CheckLaws.{read_yes}
 use Rattle.joint.proofs.ShrinkLaws.{lends-decided}
@@ -33,13 +33,13 @@ abbrev pub Answers : Joint → Type 0
 Answers (Joint.damaged place) = ⊥
 Answers Joint.miscounted = ⊥
 Answers (Joint.unread position why) = ⊥
-Answers (Joint.refused code) = ⊥
+Answers (Joint.refused q) = ⊥
 Answers (Joint.untried s why) = ⊥
 Answers (Joint.satisfiable stem cycle K c letters) = Unit {0}
 Answers (Joint.unsatisfiable K P core) = Unit {0}
 
 -- ---- the outcome of formulas that are accepted, where the areas are large enough
-accepted-checked : {bs : List (List ℕ)} {fs : List Formula} (i : ℕ) → Accepted bs fs → checked i bs ≡ Read
+accepted-checked : {bs : List (List ℕ)} {fs : List Formula} (i : ℕ) → Accepted bs fs → checked i bs ≡ Ok tt
 accepted-checked i Accepted.none = refl
 accepted-checked i (Accepted.more {bs = bs} e a) =
     ap (λ (r : Reading Formula). check_on i r (checked (i + 1) bs)) e ∙ accepted-checked (i + 1) a
@@ -94,7 +94,7 @@ module _ (N M w b N' M' w' b' : ℕ) (nodes-more : N ≤ N') (profiles-more : M 
 
   known-answer : (v : Verdict) → Known (attempt_of v) → IsAnswer v
   known-answer (Verdict.unread why) h = h
-  known-answer (Verdict.refused code) h = h
+  known-answer (Verdict.refused q) h = h
   known-answer (Verdict.satisfiable stem cycle K c letters) h = tt
   known-answer (Verdict.unsatisfiable K P) h = tt
 
@@ -121,7 +121,7 @@ module _ (N M w b N' M' w' b' : ℕ) (nodes-more : N ≤ N') (profiles-more : M 
 
     settled-more : (v : Verdict) → decided N M (conjoined bs) ≡ v → Answers (settled N M bs v) → concluded N' M' bs ≡ settled N M bs v
     settled-more (Verdict.unread why) e h = absurd h
-    settled-more (Verdict.refused code) e h = absurd h
+    settled-more (Verdict.refused q) e h = absurd h
     settled-more (Verdict.satisfiable stem cycle K c letters) e h =
         ap (settled N' M' bs) (decided-more (conjoined bs) (subst⁻¹ IsAnswer e tt) ∙ e)
     settled-more (Verdict.unsatisfiable K P) e h =

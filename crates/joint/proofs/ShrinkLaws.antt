@@ -4,7 +4,7 @@
 use mathlib.Core.Path.{◌≡◌, refl, sym, ap, subst, ◌∙◌}
 use mathlib.Core.Bool.{Bool, true, false, cond}
 use mathlib.Core.List.{List, [], ◌∷◌, ◌++◌}
-use Prim.Native.Nat.{ℕ, suc, ◌+◌, ◌-◌, ◌≤◌, ◌<◌}
+use Prim.Native.Nat.{ℕ, suc, ◌-◌, ◌≤◌, ◌<◌}
 use native.Mathlib.Omega.{arith}
 use lib.Dec.{leb}
 use lib.ListN.{length, drop, replicate, length-append, length-drop, length-replicate}
@@ -15,26 +15,25 @@ use Rattle.formula.specs.Table.{table}
 use Rattle.formula.specs.Reading.{Reading, parse}
 use Rattle.decision.specs.Verdict.{Verdict, workspace_size, decide, after_reading, verdict}
 use Rattle.decision.specs.Lends.{Lends}
-use Rattle.decision.specs.Contract.{says, zeroed, cleared, Decided}
-use Rattle.decision.specs.declared.Verdict as code
+use Rattle.decision.specs.Contract.{Answer, says, zeroed, cleared, Decided}
+use Rattle.construction.specs.Questions.{question_code}
+use Rattle.joint.specs.declared.Refusal.TheVariants.{Untried}
 use Rattle.decision.proofs.Answer.{past_13}
 use Rattle.decision.proofs.SettleLaws.{asked_of}
 use Rattle.decision.proofs.VerdictLaws.{questions}
 use Rattle.conjunction.specs.Conjunction.{conjoined}
 use Rattle.joint.specs.Joint.{Subset, everything, without, decided, Attempt, attempt_of, attempted, gone_on, shrink}
 use Rattle.joint.specs.Inner.{Clear, attempt_told, attempt_said, shrunk_told}
-use Rattle.joint.specs.declared.Attempt as code-attempt
-use Rattle.joint.specs.declared.Attempt.TheVariants as attempt
-use Rattle.joint.specs.declared.Shrunk.TheVariants as shrunk
+use Rattle.std.specs.Prelude.{Option, Some, None, Ok, Err}
 
 -- ---- the decision of some formulas
 -- the promise with the workspace as it was found to be
-pub decided_with : {bytes : List ℕ} {N M : ℕ} {w w₁ w₂ b b' : List ℕ} {r : code.Verdict} → w₂ ≡ w₁ → Decided bytes N M w w₁ b b' r
+pub decided_with : {bytes : List ℕ} {N M : ℕ} {w w₁ w₂ b b' : List ℕ} {r : Answer} → w₂ ≡ w₁ → Decided bytes N M w w₁ b b' r
     → Decided bytes N M w w₂ b b' r
 decided_with e d = record { answered = d.answered; buffered = d.buffered; worked = e ∙ d.worked }
 
 -- and of other bytes that are the same
-pub decided_of : {x y : List ℕ} {N M : ℕ} {w w' b b' : List ℕ} {r : code.Verdict} → x ≡ y → Decided x N M w w' b b' r
+pub decided_of : {x y : List ℕ} {N M : ℕ} {w w' b b' : List ℕ} {r : Answer} → x ≡ y → Decided x N M w w' b b' r
     → Decided y N M w w' b b' r
 decided_of {N = N} {M} {w} {w'} {b} {b'} {r} e d = subst (λ (z : List ℕ). Decided z N M w w' b b' r) e d
 
@@ -78,13 +77,13 @@ lends-decided N M {w} {b} bytes l = by (parse bytes)
 
 attempt_same : (v : Verdict) → attempt_said (says v) ≡ attempt_told (attempt_of v)
 attempt_same (Verdict.unread why) = refl
-attempt_same (Verdict.refused code) = refl
+attempt_same (Verdict.refused q) = refl
 attempt_same (Verdict.satisfiable stem cycle K c letters) = refl
 attempt_same (Verdict.unsatisfiable K P) = refl
 
 clear_stays : (N M : ℕ) (v : Verdict) {w : List ℕ} → Clear N M w → cleared N M v w ≡ w
 clear_stays N M (Verdict.unread why) c = refl
-clear_stays N M (Verdict.refused code) {w} c = by (leb 14 code)
+clear_stays N M (Verdict.refused q) {w} c = by (leb 14 (question_code q))
   where
     by : (b : Bool) → cond b (zeroed N M w) w ≡ w
     by true = c
@@ -92,13 +91,13 @@ clear_stays N M (Verdict.refused code) {w} c = by (leb 14 code)
 clear_stays N M (Verdict.satisfiable stem cycle K n letters) c = c
 clear_stays N M (Verdict.unsatisfiable K P) c = c
 
-module _ (fs : List (List ℕ)) (N M : ℕ) {w w' b b' : List ℕ} {v : code.Verdict} (l : Lends N M (length w) (length b))
+module _ (fs : List (List ℕ)) (N M : ℕ) {w w' b b' : List ℕ} {v : Answer} (l : Lends N M (length w) (length b))
     (d : Decided (conjoined fs) N M w w' b b' v) where
   -- the answer and the areas, by the decision without the questions 11 to 13
   pub decided-says : v ≡ says (decided N M (conjoined fs))
   decided-says = d.answered ∙ ap says (lends-decided N M (conjoined fs) l)
 
-  pub attempted-said : {r : code-attempt.Attempt} → (fs ≡ [] → ⊥) → r ≡ attempt_said v → r ≡ attempt_told (attempted N M fs)
+  pub attempted-said : {r : Option Bool} → (fs ≡ [] → ⊥) → r ≡ attempt_said v → r ≡ attempt_told (attempted N M fs)
   attempted-said some e = e ∙ ap attempt_said decided-says ∙ attempt_same (decided N M (conjoined fs)) ∙ by fs some
     where
       by : (gs : List (List ℕ)) → (gs ≡ [] → ⊥) → attempt_told (attempt_of (decided N M (conjoined gs))) ≡ attempt_told (attempted N M gs)
@@ -108,23 +107,23 @@ module _ (fs : List (List ℕ)) (N M : ℕ) {w w' b b' : List ℕ} {v : code.Ver
   pub decided_stays : Clear N M w → w' ≡ w
   decided_stays c = d.worked ∙ clear_stays N M (verdict N M (length w) (length b) (conjoined fs)) c
 
-pub attempted-none : (N M : ℕ) {fs : List (List ℕ)} → fs ≡ [] → attempt.Met ≡ attempt_told (attempted N M fs)
+pub attempted-none : (N M : ℕ) {fs : List (List ℕ)} → fs ≡ [] → Some true ≡ attempt_told (attempted N M fs)
 attempted-none N M e = sym (ap (λ gs. attempt_told (attempted N M gs)) e)
 
 -- ---- what the code's answers say
-met_of : (x : Attempt) → attempt_told x ≡ attempt.Met → x ≡ Attempt.met
+met_of : (x : Attempt) → attempt_told x ≡ Some true → x ≡ Attempt.met
 met_of Attempt.met e = refl
-met_of Attempt.unmet e = absurd (let z : ◌≡◌ {A = ℕ} 0 1 = cc in omega arith)
-met_of (Attempt.unknown why) e = absurd (let z : ◌≡◌ {A = ℕ} 0 1 = cc in omega arith)
+met_of Attempt.unmet e = cc
+met_of (Attempt.unknown why) e = cc
 
-unmet_of : (x : Attempt) → attempt_told x ≡ attempt.Unmet → x ≡ Attempt.unmet
-unmet_of Attempt.met e = absurd (let z : ◌≡◌ {A = ℕ} 0 1 = cc in omega arith)
+unmet_of : (x : Attempt) → attempt_told x ≡ Some false → x ≡ Attempt.unmet
+unmet_of Attempt.met e = cc
 unmet_of Attempt.unmet e = refl
-unmet_of (Attempt.unknown why) e = absurd (let z : ◌≡◌ {A = ℕ} 0 1 = cc in omega arith)
+unmet_of (Attempt.unknown why) e = cc
 
-unknown_of : (x : Attempt) → attempt_told x ≡ attempt.Unknown → (why : Verdict) × (x ≡ Attempt.unknown why)
-unknown_of Attempt.met e = absurd (let z : ◌≡◌ {A = ℕ} 0 1 = cc in omega arith)
-unknown_of Attempt.unmet e = absurd (let z : ◌≡◌ {A = ℕ} 0 1 = cc in omega arith)
+unknown_of : (x : Attempt) → attempt_told x ≡ None → (why : Verdict) × (x ≡ Attempt.unknown why)
+unknown_of Attempt.met e = cc
+unknown_of Attempt.unmet e = cc
 unknown_of (Attempt.unknown why) e = (why, refl)
 
 -- ---- from the last position to the first
@@ -135,7 +134,7 @@ module _ (try : Subset → Attempt) (n : ℕ) where
   pub shrinking_none : {s : Subset} → s ≡ everything n → Shrinking n s
   shrinking_none e = record { is = ap (shrink try n) e }
 
-  module _ {i : ℕ} {s t : Subset} {a : code-attempt.Attempt} (h : Shrinking i s) (some : 0 < i) (left : t ≡ without s (i - 1))
+  module _ {i : ℕ} {s t : Subset} {a : Option Bool} (h : Shrinking i s) (some : 0 < i) (left : t ≡ without s (i - 1))
       (tried : a ≡ attempt_told (try t)) where
     turn : {x : Attempt} → try t ≡ x → gone_on (shrink try (i - 1)) s t x ≡ shrink try n (everything n)
     turn e =
@@ -144,18 +143,18 @@ module _ (try : Subset → Attempt) (n : ℕ) where
         ∙ ap (λ (k : ℕ). shrink try k s) {x = suc (i - 1)} {y = i} (omega arith)
         ∙ h.is
 
-    pub shrinking_met : a ≡ attempt.Met → Shrinking (i - 1) s
+    pub shrinking_met : a ≡ Some true → Shrinking (i - 1) s
     shrinking_met e = record { is = turn (met_of (try t) (sym tried ∙ e)) }
 
-    pub shrinking_unmet : a ≡ attempt.Unmet → Shrinking (i - 1) t
+    pub shrinking_unmet : a ≡ Some false → Shrinking (i - 1) t
     shrinking_unmet e = record { is = turn (unmet_of (try t) (sym tried ∙ e)) }
 
-    pub shrinking_stuck : a ≡ attempt.Unknown → {r : ℕ} → r ≡ word t
-        → shrunk.Stuck r ≡ shrunk_told (shrink try n (everything n))
+    pub shrinking_stuck : a ≡ None → {r : ℕ} → r ≡ word t
+        → Err (Untried r) ≡ shrunk_told (shrink try n (everything n))
     shrinking_stuck e q =
-        ap shrunk.Stuck q ∙ ap shrunk_told (turn (unknown_of (try t) (sym tried ∙ e)).1)
+        ap (λ (n : ℕ). Err (Untried n)) q ∙ ap shrunk_told (turn (unknown_of (try t) (sym tried ∙ e)).1)
 
   pub shrinking_core : {i : ℕ} {s : Subset} → Shrinking i s → i ≤ 0 → {r : ℕ} → r ≡ word s
-      → shrunk.Core r ≡ shrunk_told (shrink try n (everything n))
+      → Ok r ≡ shrunk_told (shrink try n (everything n))
   shrinking_core {i} {s} h z q =
-      ap shrunk.Core q ∙ ap (λ (k : ℕ). shrunk_told (shrink try k s)) {x = 0} {y = i} (omega arith) ∙ ap shrunk_told h.is
+      ap Ok q ∙ ap (λ (k : ℕ). shrunk_told (shrink try k s)) {x = 0} {y = i} (omega arith) ∙ ap shrunk_told h.is

@@ -1,12 +1,11 @@
 -- Subsets of positions. All positions choose all (`everything-chosen`); one left out is a part (`Within`); what a subset chooses is a part
 -- of what a larger one does (`within-part`). Assumes nothing.
-use mathlib.Core.Path.{◌≡◌, refl, ap, ◌∙◌}
+use mathlib.Core.Path.{◌≡◌, refl, ap}
 use mathlib.Core.Bool.{Bool, true, false}
 use mathlib.Core.List.{List, [], ◌∷◌, ◌++◌}
-use Prim.Native.Nat.{ℕ, zero, suc, ◌+◌, ◌-◌, ◌≤◌, ◌<◌}
+use Prim.Native.Nat.{ℕ, zero, suc, ◌-◌, ◌≤◌}
 use native.Mathlib.Omega.{arith}
-use lib.ListN.{length, get_or, set, replicate, length-append, length-replicate}
-use lib.Seq.{set_at}
+use lib.ListN.{length, get_or, replicate, length-append, length-replicate}
 use Rattle.conjunction.specs.Conjunction.{Part}
 use Rattle.joint.specs.Joint.{Subset, chosen, max_formulas, everything, without}
 use Rattle.joint.specs.Meaning.{Within}
@@ -31,19 +30,6 @@ everything-chosen {A} xs = by xs (replicate (max_formulas - length xs) false)
     by : (ys : List A) (s : Subset) → chosen (replicate (length ys) true ++ s) ys ≡ ys
     by [] s = none_left s
     by (y ∷ ys) s = ap (λ (r : List A). y ∷ r) (by ys s)
-
--- one more position, as a loop sets them
-replicate_more : {A : Type 0} (n : ℕ) (a : A) (l : List A) → replicate n a ++ (a ∷ l) ≡ replicate (suc n) a ++ l
-replicate_more zero a l = refl
-replicate_more (suc n) a l = ap (λ (r : List _). a ∷ r) (replicate_more n a l)
-
-pub everything-more : (i : ℕ) → i < max_formulas → set (everything i) i true ≡ everything (i + 1)
-everything-more i l =
-    ap (λ (m : ℕ). set (replicate i true ++ replicate m false) i true) {x = max_formulas - i} {y = suc (max_formulas - (i + 1))}
-    (omega arith)
-    ∙ set_at (replicate i true) false (replicate (max_formulas - (i + 1)) false) true i (length-replicate {A = Bool} i true)
-    ∙ replicate_more i true (replicate (max_formulas - (i + 1)) false)
-    ∙ ap (λ (m : ℕ). replicate m true ++ replicate (max_formulas - (i + 1)) false) {x = suc i} {y = i + 1} (omega arith)
 
 -- ---- larger and smaller
 pub within_self : (s : Subset) → Within s s

@@ -1,12 +1,13 @@
 -- The word of a subset, put together from the highest position down: what is there is the word of the positions from here on, and one more
 -- doubles it (`Wording`). Assumes nothing.
-use mathlib.Core.Path.{◌≡◌, sym, ap, subst, ◌∙◌}
-use mathlib.Core.Bool.{false, cond}
+use mathlib.Core.Path.{◌≡◌, refl, sym, ap, subst, ◌∙◌}
+use mathlib.Core.Bool.{Bool, true, false, cond}
 use mathlib.Core.List.{[], ◌∷◌}
 use Prim.Native.Nat.{ℕ, zero, suc, ◌+◌, ◌-◌, ◌*◌, ◌^◌, ◌≤◌, ◌<◌}
 use native.Mathlib.Omega.{arith}
-use lib.ListN.{length, get_or, drop, drop_of_length-le}
+use lib.ListN.{length, get_or, drop}
 use lib.Seq.{drop-cons}
+use Rattle.std.specs.Int.{from_bool}
 use Rattle.base.specs.Bits.{word}
 use Rattle.base.proofs.WordLaws.{word_lt}
 use Rattle.joint.specs.Joint.{Subset, max_formulas}
@@ -16,9 +17,10 @@ pub record Wording (s : Subset) (x i : ℕ) : Type 0 where
   pub long : length s ≡ max_formulas
   pub below : i ≤ max_formulas
 
-pub wording_none : {s : Subset} → length s ≡ max_formulas → Wording s 0 max_formulas
-wording_none {s} e =
-    record { is = sym (ap word (drop_of_length-le s {i = max_formulas} (omega arith))); long = e; below = omega arith }
+-- what the byte of a bit is
+pub bit-byte : (b : Bool) → from_bool b ≡ cond b 1 0
+bit-byte true = refl
+bit-byte false = refl
 
 pub wording_more : {s : Subset} {x y i : ℕ} → Wording s x i → 0 < i → y ≡ cond (get_or s (i - 1) false) 1 0
     → Wording s (y + 2 * x) (i - 1)
@@ -42,6 +44,3 @@ eight-bits s e = subst (λ (n : ℕ). word s < 2 ^ n) e (word_lt s)
 
 pub wording_small : {s : Subset} {x i : ℕ} → Wording s x i → x < 256
 wording_small {s} {i = i} h = omega (arith, h.is, word-drop i s, eight-bits s h.long)
-
-pub wording_all : {s : Subset} {x i : ℕ} → Wording s x i → i ≤ 0 → x ≡ word s
-wording_all {s} {i = i} h z = h.is ∙ ap (λ (k : ℕ). word (drop k s)) {x = i} {y = 0} (omega arith)

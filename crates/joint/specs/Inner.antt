@@ -1,115 +1,57 @@
 -- What the inner functions promise each other. A reader of the promise need not read it. Assumes nothing.
-use Rattle.std.specs.Prelude.{◌≡◌, Bool, false, cond, List, [], ◌∷◌, ◌++◌, map, ℕ, ◌+◌, ◌*◌, ◌≤◌, ◌<◌, ltb, length, get_or, take, drop, set, replicate}
-use Rattle.base.specs.Lists.{range}
+use Rattle.std.specs.Prelude.{◌≡◌, Bool, true, false, List, [], ◌∷◌, ◌++◌, map, ℕ, ◌+◌, ◌≤◌, length, take, drop}
+use Rattle.std.specs.Prelude.{Option, Some, None, Result, Ok, Err}
+use Rattle.std.specs.Borrow.{Bor}
 use Rattle.base.specs.Bits.{word}
 use Rattle.formula.specs.Formula.{Formula}
 use Rattle.formula.specs.Reading.{Opcode, byte_of, Reading, parse}
-use Rattle.construction.specs.Construction.{between}
-use Rattle.catalogue.specs.Records.{Records, records}
-use Rattle.catalogue.specs.declared.Record.{Record}
+use Rattle.catalogue.specs.Records.{Records}
+use Rattle.decision.specs.Verdict.{ask_room}
 use Rattle.decision.specs.Contract.{zeroed}
 use Rattle.conjunction.specs.Conjunction.{conjoined, Accepted}
-use Rattle.joint.specs.Joint.{max_formulas, Attempt, Shrunk}
-use Rattle.joint.specs.declared.Places.{Places}
-use Rattle.joint.specs.declared.Collected.{Collected}
-use Rattle.joint.specs.declared.Ending.{Ending}
-use Rattle.joint.specs.declared.Ending.TheVariants as ending
-use Rattle.joint.specs.declared.Checked as code-checked
-use Rattle.joint.specs.declared.Checked.TheVariants.{Read, Not}
-use Rattle.joint.specs.declared.Attempt as code-attempt
-use Rattle.joint.specs.declared.Attempt.TheVariants as attempt
-use Rattle.joint.specs.declared.Joint as code-joint
-use Rattle.joint.specs.declared.Joint.TheVariants as joint
-use Rattle.decision.specs.declared.Verdict as code-verdict
-use Rattle.decision.specs.declared.Verdict.TheVariants as verdict
-use Rattle.joint.specs.declared.Shrunk as code-shrunk
-use Rattle.joint.specs.declared.Shrunk.TheVariants as shrunk
+use Rattle.joint.specs.Joint.{max_formulas, bytes_of, Attempt, Shrunk, Joint, ask_read, concluded}
+use Rattle.joint.specs.declared.Formulas.{Formulas}
+use Rattle.joint.specs.declared.Refusal.{Refusal}
+use Rattle.joint.specs.declared.Refusal.TheVariants.{Unread, Untried}
+use Rattle.decision.specs.Contract as decision
+use Rattle.decision.specs.declared.Verdict.TheVariants.{Satisfiable, Unsatisfiable}
 
--- ---- where the formulas stand
--- no places yet
-abbrev pub no_places : Places
-no_places = record { starts = replicate {A = ℕ} 9 0; sizes = replicate {A = ℕ} 9 0; count = 0 }
+-- ---- the formulas, as parts of the catalogue
+-- the bytes of several parts
+abbrev pub held : List (Bor (List ℕ)) → List (List ℕ)
+held parts = map (λ part. part.now) parts
 
--- where the next place is noted: behind the others, but not behind the ninth
-abbrev pub slot : (count : ℕ) → ℕ
-slot count = cond (ltb count max_formulas) count max_formulas
+-- There are so many formulas as the count says, and if there is room for all, the first parts are theirs.
+pub record Holds (f : Formulas) (fs : List (List ℕ)) : Type 0 where
+  pub counted : f.count ≡ length fs
+  pub are : f.count ≤ max_formulas → held (take f.count f.parts) ≡ fs
 
--- a place noted there: a count of nine stands for any above eight
-abbrev pub noted_at : Places → Record → (k : ℕ) → Places
-noted_at p r k = record { starts = set p.starts k r.start; sizes = set p.sizes k r.size; count = k + 1 }
-
--- one more
-abbrev pub noted : Places → Record → Places
-noted p r = noted_at p r (slot p.count)
-
-abbrev pub noted_all : Places → List Record → Places
-noted_all p [] = p
-noted_all p (r ∷ rs) = noted_all (noted p r) rs
-
--- what going on through the records comes to
-pub data Collection : Type 0 where
-  broken : (place : ℕ) → Collection
-  whole : Places → Collection
-
-abbrev pub collected_on : Places → Records → Collection
-collected_on p (Records.damaged place) = Collection.broken place
-collected_on p (Records.whole rs) = Collection.whole (noted_all p rs)
-
--- of all records
-abbrev pub collected : Records → Collection
-collected rs = collected_on no_places rs
-
--- how a whole catalogue with so many formulas ends: question 34
-abbrev pub ending_of : (count : ℕ) → Ending
-ending_of count = cond (between 1 max_formulas count) ending.Whole ending.Miscounted
-
--- what the code hands back
-abbrev pub handed : Ending → (starts sizes : List ℕ) (count : ℕ) → Collected
-handed e starts sizes count = record { ending = e; places = record { starts = starts; sizes = sizes; count = count } }
-
--- of what going through comes to; the places count where nothing is broken
-abbrev pub Collects : Collection → Collected → Type 0
-Collects (Collection.broken place) c = c.ending ≡ ending.Broken place
-Collects (Collection.whole p) c = (c.ending ≡ ending_of p.count) × (c.places ≡ p)
-
--- the places are those of a whole catalogue's records
-pub record CollectedFrom (catalogue : List ℕ) (p : Places) : Type 0 where
-  pub passed : List Record
-  pub whole : records catalogue ≡ Records.whole passed
-  pub is : p ≡ noted_all no_places passed
-
--- the bytes of the formula at a position, and of all
-abbrev pub held_at : (catalogue : List ℕ) → Places → ℕ → List ℕ
-held_at catalogue p i = take (get_or p.sizes i 0) (drop (get_or p.starts i 0) catalogue)
-
-abbrev pub held : (catalogue : List ℕ) → Places → List (List ℕ)
-held catalogue p = map (held_at catalogue p) (range 0 p.count)
-
--- one position is within the catalogue
-pub record Stands (catalogue : List ℕ) (p : Places) (i : ℕ) : Type 0 where
-  pub few : i < max_formulas
-  pub within : get_or p.starts i 0 + get_or p.sizes i 0 ≤ length catalogue
-
--- all are
-pub record Placed (catalogue : List ℕ) (p : Places) : Type 0 where
-  pub few : p.count ≤ max_formulas
-  pub within : (i : ℕ) → i < p.count → get_or p.starts i 0 + get_or p.sizes i 0 ≤ length catalogue
+-- of the records that a catalogue comes to, or of its damage
+abbrev pub Collects : (catalogue : List ℕ) → Records → Result Formulas ℕ → Type 0
+Collects catalogue (Records.damaged place) (Ok f) = ⊥
+Collects catalogue (Records.damaged place) (Err told) = told ≡ place
+Collects catalogue (Records.whole rs) (Ok f) = Holds f (map (bytes_of catalogue) rs)
+Collects catalogue (Records.whole rs) (Err told) = ⊥
 
 -- ---- reading each
-abbrev pub check_on : (position : ℕ) → Reading Formula → (after : code-checked.Checked) → code-checked.Checked
-check_on i (Reading.refused why) after = Not i why
+abbrev pub check_on : (position : ℕ) → Reading Formula → (after : Result (Unit {0}) Refusal) → Result (Unit {0}) Refusal
+check_on i (Reading.refused why) after = Err (Unread i why)
 check_on i (Reading.accepted f) after = after
 
 -- the first that is refused, positions counted from a number on
-abbrev pub checked : (position : ℕ) → List (List ℕ) → code-checked.Checked
-checked i [] = Read
+abbrev pub checked : (position : ℕ) → List (List ℕ) → Result (Unit {0}) Refusal
+checked i [] = Ok tt
 checked i (b ∷ bs) = check_on i (parse b) (checked (i + 1) bs)
 
--- all are formulas
-pub record Readable (catalogue : List ℕ) (p : Places) : Type 0 where
-  pub placed : Placed catalogue p
+-- all are formulas, and no more than there may be
+pub record Readable (bs : List (List ℕ)) : Type 0 where
+  pub few : length bs ≤ max_formulas
   pub formulas : List Formula
-  pub accepted : Accepted (held catalogue p) formulas
+  pub accepted : Accepted bs formulas
+
+-- the questions behind 34
+abbrev pub asked_on : (N M workspace buffer : ℕ) → List (List ℕ) → Joint
+asked_on N M workspace buffer fs = ask_read 0 fs (ask_room Joint.refused N M workspace buffer (concluded N M fs))
 
 -- ---- the conjunction, put together from its end
 -- a formula's bytes before what there is: an and comes before both, if there is anything
@@ -117,27 +59,12 @@ abbrev pub joined : List ℕ → List ℕ → List ℕ
 joined b [] = b
 joined b (c ∷ cs) = byte_of (Opcode.pair false) ∷ (b ++ (c ∷ cs))
 
--- if the formula is taken
-abbrev pub joined_if : Bool → List ℕ → List ℕ → List ℕ
-joined_if taken b rest = cond taken (joined b rest) rest
-
--- bytes were put before the place `end`, and begin at r
-pub record PutBytes (bytes : List ℕ) (end : ℕ) (out out' : List ℕ) (r : ℕ) : Type 0 where
-  pub is : drop r out' ≡ bytes ++ drop end out
-  pub begins : r + length bytes ≡ end
-  pub long : length out' ≡ length out
-
 -- From the place `at` on there was something, and from r on there is something else, of 97 more bytes at most.
 pub record Grown (at : ℕ) (now : List ℕ) (out out' : List ℕ) (r : ℕ) : Type 0 where
   pub is : drop r out' ≡ now
   pub before : r ≤ at
   pub near : at ≤ r + 97
   pub long : length out' ≡ length out
-
--- room for the formulas at i positions
-pub record Room (i at : ℕ) (out : List ℕ) : Type 0 where
-  pub enough : 97 * i ≤ at
-  pub within : at ≤ length out
 
 -- a buffer from r on has the conjunction of some formulas
 pub record Conjoins (fs : List (List ℕ)) (out out' : List ℕ) (r : ℕ) : Type 0 where
@@ -150,22 +77,19 @@ pub record Conjoins (fs : List (List ℕ)) (out out' : List ℕ) (r : ℕ) : Typ
 abbrev pub Clear : (N M : ℕ) → List ℕ → Type 0
 Clear N M w = zeroed N M w ≡ w
 
-abbrev pub attempt_told : Attempt → code-attempt.Attempt
-attempt_told Attempt.met = attempt.Met
-attempt_told Attempt.unmet = attempt.Unmet
-attempt_told (Attempt.unknown why) = attempt.Unknown
+-- what is told of it: whether some lasso meets the formulas
+abbrev pub attempt_told : Attempt → Option Bool
+attempt_told Attempt.met = Some true
+attempt_told Attempt.unmet = Some false
+attempt_told (Attempt.unknown why) = None
 
 -- the same of what the code has
-abbrev pub attempt_said : code-verdict.Verdict → code-attempt.Attempt
-attempt_said (verdict.Unread why) = attempt.Unknown
-attempt_said (verdict.Refused code) = attempt.Unknown
-attempt_said (verdict.Satisfiable stem cycle K c) = attempt.Met
-attempt_said (verdict.Unsatisfiable K P) = attempt.Unmet
+abbrev pub attempt_said : decision.Answer → Option Bool
+attempt_said (Ok (Satisfiable stem cycle K c)) = Some true
+attempt_said (Ok (Unsatisfiable K P)) = Some false
+attempt_said (Err why) = None
 
-abbrev pub shrunk_told : Shrunk → code-shrunk.Shrunk
-shrunk_told (Shrunk.stuck t why) = shrunk.Stuck (word t)
-shrunk_told (Shrunk.core s) = shrunk.Core (word s)
-
-abbrev pub core_said : (K P : ℕ) → code-shrunk.Shrunk → code-joint.Joint
-core_said K P (shrunk.Stuck s) = joint.Untried s
-core_said K P (shrunk.Core s) = joint.Unsatisfiable K P s
+-- a core, or what was tried where leaving out is stuck
+abbrev pub shrunk_told : Shrunk → Result ℕ Refusal
+shrunk_told (Shrunk.stuck t why) = Err (Untried (word t))
+shrunk_told (Shrunk.core s) = Ok (word s)

@@ -6,6 +6,7 @@ use Rattle.formula.specs.Formula.{Formula}
 use Rattle.formula.specs.Reading.{Reading, parse}
 use Rattle.formula.specs.declared.Refusal.{Refusal}
 use Rattle.construction.specs.Construction.{between}
+use Rattle.construction.specs.declared.Question.{Question}
 use Rattle.decision.specs.Verdict.{Verdict, decide, after_reading, ask_room}
 use Rattle.catalogue.specs.Records.{Records, records}
 use Rattle.catalogue.specs.declared.Record.{Record}
@@ -39,7 +40,7 @@ pub data Joint : Type 0 where
   damaged : (place : ℕ) → Joint
   miscounted : Joint
   unread : (position : ℕ) → Refusal → Joint
-  refused : (code : ℕ) → Joint
+  refused : Question → Joint
   untried : Subset → (why : Verdict) → Joint
   satisfiable : (stem cycle K c : ℕ) (letters : List ℕ) → Joint
   unsatisfiable : (K P : ℕ) (core : Subset) → Joint
@@ -55,7 +56,7 @@ pub data Attempt : Type 0 where
 
 abbrev pub attempt_of : Verdict → Attempt
 attempt_of (Verdict.unread why) = Attempt.unknown (Verdict.unread why)
-attempt_of (Verdict.refused code) = Attempt.unknown (Verdict.refused code)
+attempt_of (Verdict.refused q) = Attempt.unknown (Verdict.refused q)
 attempt_of (Verdict.satisfiable stem cycle K c letters) = Attempt.met
 attempt_of (Verdict.unsatisfiable K P) = Attempt.unmet
 
@@ -87,7 +88,7 @@ with_core K P (Shrunk.core s) = Joint.unsatisfiable K P s
 -- What comes of some formulas, by the verdict on the conjunction of all.
 abbrev pub settled : (N M : ℕ) → List (List ℕ) → Verdict → Joint
 settled N M fs (Verdict.unread why) = Joint.untried (everything (length fs)) (Verdict.unread why)
-settled N M fs (Verdict.refused code) = Joint.untried (everything (length fs)) (Verdict.refused code)
+settled N M fs (Verdict.refused q) = Joint.untried (everything (length fs)) (Verdict.refused q)
 settled N M fs (Verdict.satisfiable stem cycle K c letters) = Joint.satisfiable stem cycle K c letters
 settled N M fs (Verdict.unsatisfiable K P) =
     with_core K P (shrink (λ s. attempted N M (chosen s fs)) (length fs) (everything (length fs)))

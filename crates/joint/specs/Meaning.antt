@@ -4,7 +4,11 @@ use Rattle.std.specs.Prelude.{◌≡◌, ◌⊎◌, Bool, true, false, List, [],
 use Rattle.base.specs.Bits.{word}
 use Rattle.formula.specs.Formula.{Formula}
 use Rattle.formula.specs.Table.{table}
-use Rattle.formula.specs.Refusal.{at_byte}
+use Rattle.formula.specs.Refusal.{at_byte, fault_code}
+use Rattle.formula.specs.declared.Fault.{Fault}
+use Rattle.construction.specs.Questions.{question_code}
+use Rattle.construction.specs.declared.Question.{Question}
+use Rattle.construction.specs.declared.Question.TheVariants.{Nodes, Profiles}
 use Rattle.formula.specs.Reading.{Reading, parse}
 use Rattle.formula.specs.declared.Refusal.{Refusal}
 use Rattle.lasso.specs.Lasso.{Lasso, over_alphabet}
@@ -79,10 +83,10 @@ pub record Clash (catalogue : List ℕ) (K P : ℕ) (core : Subset) : Type 0 whe
 
 -- Why the conjunction of a subset could not be decided: it is too large to read, and then it is that of all; or room is lacking.
 pub data Reason (N M : ℕ) (bs : List (List ℕ)) (t : Subset) : Verdict → Type 0 where
-  too_large : (code place : ℕ) → (code ≡ 3) ⊎ (code ≡ 4) → t ≡ everything (length bs)
-      → parse (conjoined bs) ≡ Reading.refused (at_byte code place) → Reason N M bs t (Verdict.unread (at_byte code place))
-  no_room : (code : ℕ) → (code ≡ 14) ⊎ (code ≡ 15) → (f : Formula) → parse (conjoined (chosen t bs)) ≡ Reading.accepted f
-      → decide N M (table f) ≡ Verdict.refused code → Reason N M bs t (Verdict.refused code)
+  too_large : (fault : Fault) (place : ℕ) → (fault_code fault ≡ 3) ⊎ (fault_code fault ≡ 4) → t ≡ everything (length bs)
+      → parse (conjoined bs) ≡ Reading.refused (at_byte fault place) → Reason N M bs t (Verdict.unread (at_byte fault place))
+  no_room : (q : Question) → (q ≡ Nodes) ⊎ (q ≡ Profiles) → (f : Formula) → parse (conjoined (chosen t bs)) ≡ Reading.accepted f
+      → decide N M (table f) ≡ Verdict.refused q → Reason N M bs t (Verdict.refused q)
 
 -- 35
 pub record Untried (N M : ℕ) (catalogue : List ℕ) (t : Subset) (why : Verdict) : Type 0 where
@@ -94,19 +98,19 @@ pub record Untried (N M : ℕ) (catalogue : List ℕ) (t : Subset) (why : Verdic
   pub reason : Reason N M bytes t why
 
 -- 11 to 13 say of the formulas that each is accepted
-pub record Refused (catalogue : List ℕ) (code : ℕ) : Type 0 where
+pub record Refused (catalogue : List ℕ) (q : Question) : Type 0 where
   pub bytes : List (List ℕ)
   pub formulas : List Formula
   pub in_catalogue : HasFormulas catalogue bytes
   pub accepted : Accepted bytes formulas
-  pub from_11 : 11 ≤ code
-  pub to_13 : code ≤ 13
+  pub from_11 : 11 ≤ question_code q
+  pub to_13 : question_code q ≤ 13
 
 abbrev pub Tells : (N M : ℕ) (catalogue : List ℕ) → Joint → Type 0
 Tells N M catalogue (Joint.damaged place) = records catalogue ≡ Records.damaged place
 Tells N M catalogue Joint.miscounted = Miscounted catalogue
 Tells N M catalogue (Joint.unread i why) = (bs : List (List ℕ)) × HasFormulas catalogue bs × FirstRefused bs i why
-Tells N M catalogue (Joint.refused code) = Refused catalogue code
+Tells N M catalogue (Joint.refused q) = Refused catalogue q
 Tells N M catalogue (Joint.untried t why) = Untried N M catalogue t why
 Tells N M catalogue (Joint.satisfiable stem cycle K n letters) = MetAll catalogue stem cycle K n letters
 Tells N M catalogue (Joint.unsatisfiable K P core) = Clash catalogue K P core

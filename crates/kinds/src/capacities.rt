@@ -1,10 +1,10 @@
 // What the kinds of line have in common that decide with room for N nodes and M profiles: the fields `N M` and `lent WORK COURSE`, and
 // MET and NOT with P.
-use lines::field::{is_lent, lent, number_of, part, unbroken};
+use lines::area::is_beyond;
+use lines::field::{field, is_lent, lent, numbers};
 use lines::say;
 
-// What a line asks for: N and M, how much of the two areas is lent, and whether they are shown afterwards. A broken line asks for more
-// bytes than there are.
+// What a line asks for: N and M, how much of the two areas is lent, and whether they are shown afterwards.
 #[derive(Clone, Copy)]
 pub struct Case {
     pub n: usize,
@@ -14,22 +14,23 @@ pub struct Case {
     pub shown: bool,
 }
 
-// What the line asks for, where the field in this place may say how much is lent.
-pub fn asked(line: &[u8], place: usize) -> Case {
-    let sizes = part(line, b'|', 2);
-    let said = part(line, b'|', place);
-    let n = number_of(sizes, 0, 2);
-    let m = number_of(sizes, 1, 2);
-    Case {
-        n: n,
-        m: m,
-        work: unbroken(
-            n,
-            unbroken(m, lent(said, 1, 3, decision::workspace_size(n, m))),
-        ),
-        course: lent(said, 2, 3, decision::witness_size(n, m)),
-        shown: is_lent(said),
+// What the line asks for, where the field in this place may say how much is lent. A broken line asks for nothing, and so does one that
+// asks for more than there is.
+pub fn asked(line: &[u8], place: usize) -> Option<Case> {
+    let [n, m] = numbers::<2>(field(line, 2), 0)?;
+    let said = field(line, place);
+    let otherwise = [decision::workspace_size(n, m), decision::witness_size(n, m)];
+    let [work, course] = lent(said, otherwise)?;
+    if is_beyond(work, course) {
+        return None;
     }
+    Some(Case {
+        n,
+        m,
+        work,
+        course,
+        shown: is_lent(said),
+    })
 }
 
 // The sizes, and the course behind them.

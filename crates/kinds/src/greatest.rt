@@ -3,12 +3,11 @@
 // filled with patterns, and the outcome is followed by how many bytes are zero from the start on and how many of each area at its end are
 // as they were.
 use crate::granted;
-use lines::field::{is_lent, lent, number, part, unbroken};
+use lines::field::{field, is_lent, lent, number};
 use lines::{area, say};
-use safety::Verdict;
+use safety::{Refusal, Verdict};
 
-// What a line asks for: N, how much of the two areas is lent, and whether they are shown afterwards. A broken line asks for more bytes than
-// there are.
+// What a line asks for: N, how much of the two areas is lent, and whether they are shown afterwards.
 #[derive(Clone, Copy)]
 struct Case {
     n: usize,
@@ -17,51 +16,53 @@ struct Case {
     shown: bool,
 }
 
-pub fn outcome(line: &[u8], s: &[u8]) {
+// A broken line has none.
+pub fn outcome(line: &[u8], s: &[u8]) -> Option<()> {
     let mut workspace = area::room();
-    let mut letters = [48879u16; 8192];
-    let a = asked(line);
-    if area::is_beyond(a.work, a.course) {
-        say::malformed();
-        return;
-    }
-    let work = area::lent_bytes(&mut workspace, a.work);
-    let course = area::lent_letters(&mut letters, a.course);
-    let verdict = safety::decide_safety(s, a.n, work, course);
+    let mut letters = [area::LETTER; area::LETTERS];
+    let a = asked(line)?;
+    let work = area::lent(&mut workspace, a.work);
+    let course = area::lent(&mut letters, a.course);
+    let answer = safety::decide_safety(s, a.n, work, course);
     noted(
-        verdict,
-        area::start_bytes(&workspace, a.work),
-        area::start_letters(&letters, a.course),
+        answer,
+        area::start(&workspace, a.work),
+        area::start(&letters, a.course),
         a.shown,
     );
+    Some(())
 }
 
-fn asked(line: &[u8]) -> Case {
-    let said = part(line, b'|', 3);
-    let n = number(part(line, b'|', 2));
+fn asked(line: &[u8]) -> Option<Case> {
+    let n = number(field(line, 2))?;
+    let said = field(line, 3);
     let nodes = granted(n);
-    Case {
-        n: n,
-        work: unbroken(n, lent(said, 1, 3, construction::NODE_BYTES * nodes)),
-        course: lent(said, 2, 3, nodes),
-        shown: is_lent(said),
+    let [work, course] = lent(said, [construction::NODE_BYTES * nodes, nodes])?;
+    if area::is_beyond(work, course) {
+        return None;
     }
+    Some(Case {
+        n,
+        work,
+        course,
+        shown: is_lent(said),
+    })
 }
 
-fn noted(verdict: Verdict, workspace: &[u8], letters: &[u16], shown: bool) {
-    told(verdict, letters);
+fn noted(answer: Result<Verdict, Refusal>, workspace: &[u8], letters: &[u16], shown: bool) {
+    told(answer, letters);
     area::note_both(workspace, letters, shown);
 }
 
-fn told(verdict: Verdict, letters: &[u16]) {
-    match verdict {
-        Verdict::Satisfiable { stem, cycle, nodes } => {
+fn told(answer: Result<Verdict, Refusal>, letters: &[u16]) {
+    match answer {
+        Ok(Verdict::Satisfiable { stem, cycle, nodes }) => {
             say::met(stem, cycle, nodes);
             say::course(letters, stem, cycle);
         }
-        Verdict::Unsatisfiable(nodes) => say::not(nodes),
-        Verdict::Refused(why) => say::refused(safety::shortage_code(why)),
-        Verdict::LeastAt(place) => say::refused_at(43, place),
-        Verdict::Unread(why) => say::unread(why),
+        Ok(Verdict::Unsatisfiable(nodes)) => say::not(nodes),
+        Err(Refusal::Unread(why)) => say::unread(why),
+        Err(Refusal::LeastAt(place)) => say::refused_at(43, place),
+        Err(Refusal::No(question)) => say::refused(construction::question_code(question)),
     }
 }

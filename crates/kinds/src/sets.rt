@@ -4,74 +4,71 @@
 // lent, or nothing where 11 refuses. With `| lent WORK COURSE` behind it so many bytes and places are, filled with patterns, and the
 // outcome is followed by how many bytes are zero from the start on and how many of each area at its end are as they were.
 use crate::capacities;
-use joint::Joint;
+use joint::{Refusal, Verdict};
 use lines::{area, say};
 
-pub fn outcome(line: &[u8], s: &[u8]) {
+// A broken line has none.
+pub fn outcome(line: &[u8], s: &[u8]) -> Option<()> {
     let mut workspace = area::room();
-    let mut letters = [48879u16; 8192];
-    let a = capacities::asked(line, 3);
-    if area::is_beyond(a.work, a.course) {
-        say::malformed();
-        return;
-    }
-    let work = area::lent_bytes(&mut workspace, a.work);
-    let course = area::lent_letters(&mut letters, a.course);
+    let mut letters = [area::LETTER; area::LETTERS];
+    let a = capacities::asked(line, 3)?;
+    let work = area::lent(&mut workspace, a.work);
+    let course = area::lent(&mut letters, a.course);
     let answer = joint::decide_all(s, a.n, a.m, work, course);
     noted(
         answer,
-        area::start_bytes(&workspace, a.work),
-        area::start_letters(&letters, a.course),
+        area::start(&workspace, a.work),
+        area::start(&letters, a.course),
         a.shown,
     );
+    Some(())
 }
 
-fn noted(answer: Joint, workspace: &[u8], letters: &[u16], shown: bool) {
+fn noted(answer: Result<Verdict, Refusal>, workspace: &[u8], letters: &[u16], shown: bool) {
     told(answer, letters);
     area::note_both(workspace, letters, shown);
 }
 
-fn told(answer: Joint, letters: &[u16]) {
+fn told(answer: Result<Verdict, Refusal>, letters: &[u16]) {
     let code = joint::code_of(answer);
     match answer {
-        Joint::Damaged(place) => say::refused_at(code, place),
-        Joint::Miscounted => say::refused(code),
-        Joint::Unread { position, why } => {
+        Ok(
+            Verdict::Satisfiable {
+                stem,
+                cycle,
+                nodes,
+                profiles,
+            },
+        ) => capacities::met(stem, cycle, nodes, profiles, letters),
+        Ok(
+            Verdict::Unsatisfiable {
+                nodes,
+                profiles,
+                core,
+            },
+        ) => {
+            capacities::not(nodes, profiles);
+            positions(core);
+        }
+        Err(Refusal::Damaged(place)) => say::refused_at(code, place),
+        Err(Refusal::Unread { position, why }) => {
             say::unread(why);
             say::put(b" of");
             say::number(b' ', position);
         }
-        Joint::Refused(_) => say::refused(code),
-        Joint::Untried(tried) => {
+        Err(Refusal::Untried(tried)) => {
             say::refused(code);
             positions(tried);
         }
-        Joint::Satisfiable {
-            stem,
-            cycle,
-            nodes,
-            profiles,
-        } => capacities::met(stem, cycle, nodes, profiles, letters),
-        Joint::Unsatisfiable {
-            nodes,
-            profiles,
-            core,
-        } => {
-            capacities::not(nodes, profiles);
-            positions(core);
-        }
+        Err(Refusal::Miscounted | Refusal::No(_)) => say::refused(code),
     }
 }
 
 // The positions in a subset: bit i of its word is for position i.
 fn positions(subset: u8) {
-    let mut i = 0usize;
-    let mut rest = subset;
-    while i < joint::MAX_FORMULAS {
-        if rest % 2 == 1 {
+    for i in 0..joint::MAX_FORMULAS {
+        if subset >> i & 1 == 1 {
             say::number(b' ', i);
         }
-        rest /= 2;
-        i += 1;
     }
 }

@@ -1,15 +1,9 @@
 -- A subformula without variables of the fixpoints around it has the same sets whatever theirs are; so it is labelled once, and then
 -- left as it is. Assumes nothing.
-use mathlib.Core.Path.{◌≡◌, refl, sym, ap, ◌∙◌}
-use mathlib.Core.Logic.{◌⊎◌, inl, inr}
-use mathlib.Core.Bool.{true, false}
-use mathlib.Core.List.{List, [], ◌∷◌, ◌++◌, map}
-use Prim.Native.Nat.{ℕ, zero, suc, ◌+◌, ◌-◌, ◌≤◌, ◌<◌}
-use native.Mathlib.Omega.{arith}
+use Rattle.std.proofs.Common.{◌≡◌, refl, sym, ap, ◌∙◌, ◌⊎◌, inl, inr, true, false, List, [], ◌∷◌, ◌++◌, map, ℕ, zero, suc, ◌+◌, ◌-◌, ◌≤◌}
+use Rattle.std.proofs.Common.{◌<◌, arith, length, get_or, length-append, get_or-append-add, ltb-false}
 use native.Mathlib.Decide.{dec_lt}
-use lib.ListN.{length, get_or, length-append, get_or-append}
-use lib.Seq.{get_or-append-add}
-use borrow.Author.Tests.{ltb-false}
+use lib.ListN.{get_or-append}
 use Rattle.base.specs.Lists.{iterate}
 use Rattle.base.proofs.NumberLaws.{values_same}
 use Rattle.formula.specs.Formula.{Formula, size}

@@ -1,14 +1,9 @@
 -- Laws of columns, and of what a sweep does to them: it makes one column anew and keeps all others; and that a successor is a position.
 -- Assumes nothing.
-use mathlib.Core.Path.{◌≡◌, refl, sym, ap, ◌∙◌}
-use mathlib.Core.Bool.{Bool, true, false, cond}
-use mathlib.Core.List.{List, [], ◌∷◌, map}
-use Prim.Native.Nat.{ℕ, suc, ◌+◌, ◌≤◌, ◌<◌}
-use native.Mathlib.Omega.{arith}
-use lib.Dec.{eqb}
-use lib.ListN.{length, get_or, take, drop, length-map, length-drop}
-use lib.Seq.{ext_get_or, length-take-le, get_or-take, get_or-drop}
-use borrow.Author.Tests.{eq-eqb, ne_eqb, eqb-false}
+use Rattle.std.proofs.Common.{◌≡◌, refl, sym, ap, ◌∙◌, Bool, true, false, cond, List, [], ◌∷◌, map, ℕ, suc, ◌+◌, ◌≤◌, ◌<◌, arith, eqb}
+use Rattle.std.proofs.Common.{length, get_or, take, drop, length-drop, ext_get_or, length-take-le, get_or-take, get_or-drop, eq-eqb, ne_eqb}
+use lib.ListN.{length-map}
+use borrow.Author.Tests.{eqb-false}
 use Rattle.base.specs.Bits.{bit}
 use Rattle.base.proofs.ListLaws.{get_d_map}
 use Rattle.base.proofs.NumberLaws.{values_same}

@@ -1,14 +1,10 @@
 -- The goal of a fixpoint's rounds: the final sets of all that is inside it. Each operator keeps them (Consistent), so no pass goes past
 -- them. They are not passed at the start, where a column is all g, or that of a closed subformula, which is labelled; nor behind a
 -- round, since the body's sets are monotone in the fixpoint's. Assumes nothing.
-use mathlib.Core.Path.{◌≡◌, refl, sym, ap, subst, ◌∙◌}
-use mathlib.Core.Bool.{Bool, true, false, cond}
-use mathlib.Core.List.{List, [], ◌∷◌, map}
-use Prim.Native.Nat.{ℕ, suc, ◌+◌, ◌-◌, ◌≤◌, ◌<◌}
-use native.Mathlib.Omega.{arith}
+use Rattle.std.proofs.Common.{◌≡◌, refl, sym, ap, subst, ◌∙◌, Bool, true, false, cond, List, [], ◌∷◌, map, ℕ, suc, ◌+◌, ◌-◌, ◌≤◌, ◌<◌}
+use Rattle.std.proofs.Common.{arith, length, get_or, get_or-append-add}
 use native.Mathlib.Decide.{dec_lt}
-use lib.ListN.{length, get_or, length-map, get_or-append}
-use lib.Seq.{get_or-append-add}
+use lib.ListN.{length-map, get_or-append}
 use Rattle.base.specs.Bits.{bit}
 use Rattle.base.specs.Sets.{Toward}
 use Rattle.base.proofs.ListLaws.{Each, each_at, each_of, each_left, each_right}
@@ -165,8 +161,8 @@ module _ (rows : List ℕ) (c : Lasso) (w : List ℕ) (room : WordsRoom (length 
       operands-names rows k hi (operator_at rows k) (occurs_shaped (operator_at rows) (end_at rows) 48 x.stands).operands m
       (omega (arith, occurs_nested (operator_at rows) (end_at rows) 48 h k l (omega arith)))
 
-  pub goal-keeps : (list : List ℕ) (count : ℕ) → Movable rows e list count → SetsKept rows c list count hi ss
-  goal-keeps list count m =
+  pub goal-keeps : (list : List ℕ) → Movable rows e list → SetsKept rows c list hi ss
+  goal-keeps list m =
       let last : end_at rows e ≡ hi = written_end rows h in
       record {
         names = λ j l. let q = m.inside j l in names_at (get_or list j 0) q.0 (omega (arith, q.1));

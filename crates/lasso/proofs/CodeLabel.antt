@@ -1,11 +1,7 @@
 -- From what the code does at a subformula to the sets of it and of all inside it. Assumes nothing.
-use mathlib.Core.Path.{◌≡◌, refl, sym, ap, subst, ◌∙◌}
-use mathlib.Core.Logic.{inl, inr}
-use mathlib.Core.Bool.{Bool, true, false}
-use mathlib.Core.List.{List, [], map}
-use Prim.Native.Nat.{ℕ, ◌+◌, ◌≤◌, ◌<◌}
-use native.Mathlib.Omega.{arith}
-use lib.ListN.{length, get_or, length-map}
+use Rattle.std.proofs.Common.{◌≡◌, refl, sym, ap, subst, ◌∙◌, inl, inr, Bool, true, false, List, [], map, ℕ, ◌+◌, ◌≤◌, ◌<◌, arith, length}
+use Rattle.std.proofs.Common.{get_or}
+use lib.ListN.{length-map}
 use Rattle.base.specs.Bits.{bit}
 use Rattle.base.proofs.ListLaws.{get_d_map}
 use Rattle.base.proofs.NumberLaws.{values_at, values_cons, values_join}

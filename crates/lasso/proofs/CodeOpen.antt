@@ -1,15 +1,10 @@
 -- The subformulas of e that stand in no closed one inside e, found from e on: behind a closed subformula the search goes on where it ends,
 -- and every other number is taken. Subformulas are nested, so a closed one before k ends at k or before it. Assumes nothing.
-use mathlib.Core.Path.{◌≡◌, refl, sym, ap, ◌∙◌}
-use mathlib.Core.Bool.{Bool, true, false, cond, true≢false, false≢true}
-use mathlib.Core.List.{List}
-use Prim.Native.Nat.{ℕ, ◌+◌, ◌^◌, ◌≤◌, ◌<◌}
-use native.Mathlib.Omega.{arith}
+use Rattle.std.proofs.Common.{◌≡◌, refl, sym, ap, ◌∙◌, Bool, true, false, cond, true≢false, List, ℕ, ◌+◌, ◌^◌, ◌≤◌, ◌<◌, arith, bit_or, eqb}
+use Rattle.std.proofs.Common.{get_or, eqb-true, eq-eqb}
+use mathlib.Core.Bool.{false≢true}
 use native.Mathlib.Decide.{dec_lt}
-use lib.Bits.{bit_or}
-use lib.Dec.{eqb}
-use lib.ListN.{get_or}
-use borrow.Author.Tests.{eqb-true, eqb-false, eq-eqb}
+use borrow.Author.Tests.{eqb-false}
 use Rattle.base.specs.Bits.{bit}
 use Rattle.base.proofs.BitLaws.{bit-same, bit_other, set_on}
 use Rattle.formula.specs.Rows.{end_at}
@@ -120,24 +115,15 @@ module _ (rows : List ℕ) (e : ℕ) where
             let same : j ≡ k = omega arith in
             absurd (free (rw same at a))
 
-  pub opening_end : (k mask : ℕ) → end_at rows e ≤ k → Opens k mask → Open rows e mask
-  opening_end k mask last so_far = record {
-    inside = λ j q. let r = so_far.inside j q in (r.0, omega (arith, r.1, so_far.few));
-    apart = so_far.apart;
-    others = λ j l h. so_far.others j l (omega arith);
-  }
-
   -- a list of such numbers
-  pub movable : (mask : ℕ) (list : List ℕ) (count : ℕ) → Open rows e mask → BitsListed mask list count → Movable rows e list count
-  movable mask list count o listed = record {
-    counted = listed.counted;
+  pub movable : (mask : ℕ) (list : List ℕ) → Open rows e mask → BitsListed mask list → Movable rows e list
+  movable mask list o listed = record {
     inside = λ j l. o.inside _ (listed.all j l);
     apart = λ j l. o.apart _ (listed.all j l);
   }
 
-  pub movable-few : (list : List ℕ) (count : ℕ) → FormulaAt rows e → Movable rows e list count → Few rows list count
-  movable-few list count held m = record {
-    counted = m.counted;
+  pub movable-few : (list : List ℕ) → FormulaAt rows e → Movable rows e list → Few rows list
+  movable-few list held m = record {
     placed = λ j l.
         let q = m.inside j l in
         held-placed rows (get_or list j 0) (held-inside rows e held (get_or list j 0) q.0 q.1);

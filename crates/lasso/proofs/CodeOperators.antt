@@ -1,23 +1,11 @@
 -- What the code knows of an operator in an arm `_`: it is none of the variants that other arms name. Assumes nothing.
-use mathlib.Core.Path.{◌≡◌, refl}
-use mathlib.Core.Bool.{Bool, false}
-use Prim.Native.Nat.{ℕ}
+use Rattle.std.proofs.Common.{◌≡◌, refl, Bool, ℕ}
 use Rattle.formula.specs.Formula.{Leaf}
 use Rattle.formula.specs.Table as definitions
 use Rattle.formula.specs.Access.{decoded}
 use Rattle.formula.specs.declared.Operator.{Operator}
 use Rattle.formula.specs.declared.Operator.TheVariants.{Constant, Signal, Variable, Pair, Next, Fixpoint}
 use Rattle.formula.specs.declared.Subformula.{Subformula}
-use Rattle.lasso.specs.Inner.{outside_of}
-
--- any but a variable
-pub not_outside : (e : ℕ) (op : Operator) → ((m : Subformula) → op ≡ Variable m → ⊥) → false ≡ outside_of e (decoded op)
-not_outside e (Constant b) k = refl
-not_outside e (Signal present j) k = refl
-not_outside e (Variable m) k = absurd (k m refl)
-not_outside e (Pair either l r) k = refl
-not_outside e (Next l) k = refl
-not_outside e (Fixpoint greatest b) k = refl
 
 -- none that names an operand
 pub record NoOperand (op : Operator) : Type 0 where

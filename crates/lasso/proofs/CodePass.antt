@@ -1,18 +1,15 @@
 -- A pass takes one position after another, and at each one listed bit after another, which it moves where its operator says so. At each
 -- step bits only leave the value g; and if the operators keep some sets, then no bit goes past them, since an operator is monotone and
 -- what it says of bits that are not past the sets is not past what it says of the sets. Assumes nothing.
-use mathlib.Core.Path.{◌≡◌, refl, sym, ap, subst, ◌∙◌}
-use mathlib.Core.Bool.{Bool, true, false, not, cond, ◌||◌}
-use mathlib.Core.List.{List, []}
-use Prim.Native.Nat.{ℕ, ◌+◌, ◌≤◌, ◌<◌}
-use native.Mathlib.Omega.{arith}
-use lib.Bits.{bit_or, bit_xor}
-use lib.Dec.{eqb}
-use lib.ListN.{length, get_or, set, length-set}
-use lib.Seq.{get_or-set_other}
-use borrow.Author.Tests.{eqb-true}
+use Rattle.std.proofs.Common.{◌≡◌, refl, sym, ap, subst, ◌∙◌, Bool, true, false, not, cond, ◌||◌, List, [], ℕ, ◌+◌, ◌≤◌, ◌<◌, arith, bit_or}
+use Rattle.std.proofs.Common.{bit_and, eqb, ◌&&◌, ◌-◌, ◌%◌, ◌^◌, zero, suc, w64}
+use Rattle.std.proofs.Common.{pow_mono, length, get_or, take, set, length-set, get_or-set_other, get_or-take, length-take-le, eqb-true}
+use Rattle.std.specs.Int.{bit_at, bit_not}
+use Rattle.std.proofs.lemmas.Nat.Bits.{bit_at_not}
+use Rattle.std.proofs.Math.Nat.{div-eq_of_lt}
+use native.Mathlib.Decide.{dec_lt}
 use Rattle.base.specs.Bits.{bit}
-use Rattle.base.proofs.BitLaws.{bit-or, bit-xor, changed}
+use Rattle.base.proofs.BitLaws.{bit-or, bit-and}
 use Rattle.formula.specs.Table.{Operator}
 use Rattle.formula.specs.Rows.{operator_at}
 use Rattle.lasso.specs.Lasso.{Lasso, leaf_at, joined}
@@ -39,26 +36,44 @@ module _ (k v x : ℕ) (new : Bool) (set-bit : (m : ℕ) → bit x m ≡ cond (e
       by true q = let same : m ≡ k = eqb-true m k q in rw same p
       by false q = others m
 
-module _ (rows list : List ℕ) (letter there : ℕ) (g : Bool) (w : ℕ) where
-  pub turned_none : Turned rows list 0 letter there g w w
-  turned_none = record { kept = λ k h. refl; onward = λ k. moves_refl g (bit w k); within = λ hi here next keep past h k l. h k l }
+-- the numbers of a list, and one more behind them
+record OneMore (list more : List ℕ) (k : ℕ) : Type 0 where
+  pub long : length more ≡ length list + 1
+  pub front : (j : ℕ) → j < length list → get_or more j 0 ≡ get_or list j 0
+  pub last : get_or more (length list) 0 ≡ k
 
-  pub turned_more : (j v x k : ℕ) (on : Bool) → Turned rows list j letter there g w v → k ≡ get_or list j 0
+one-more-taken : (list : List ℕ) (j : ℕ) → j < length list → OneMore (take j list) (take (j + 1) list) (get_or list j 0)
+one-more-taken list j l =
+    let short : length (take j list) ≡ j = length-take-le j list (omega arith) in
+    record {
+      long = length-take-le (j + 1) list (omega arith) ∙ sym (ap (λ (i : ℕ). i + 1) short);
+      front = λ i m. get_or-take (j + 1) list i 0 (omega arith) ∙ sym (get_or-take j list i 0 (omega arith));
+      last = ap (λ (i : ℕ). get_or (take (j + 1) list) i 0) short ∙ get_or-take (j + 1) list j 0 (omega arith);
+    }
+
+module _ (rows : List ℕ) (letter there : ℕ) (g : Bool) (w : ℕ) where
+  pub turned_none : (list : List ℕ) → Turned rows (take 0 list) letter there g w w
+  turned_none list =
+      record { kept = λ k h. refl; onward = λ k. moves_refl g (bit w k); within = λ hi here next keep past h k l. h k l }
+
+  another : (list more : List ℕ) (v x k : ℕ) (on : Bool) → OneMore list more k → Turned rows list letter there g w v
       → (op : Operator) → operator_at rows k ≡ op → on ≡ local op letter v there
-      → ((m : ℕ) → bit x m ≡ cond (eqb m k) (joined (not g) (bit v k) on) (bit v m)) → Turned rows list (j + 1) letter there g w x
-  turned_more j v x k on t at op own_is says put =
+      → ((m : ℕ) → bit x m ≡ cond (eqb m k) (joined (not g) (bit v k) on) (bit v m)) → Turned rows more letter there g w x
+  another list more v x k on one t op own_is says put =
       let is : on ≡ local (operator_at rows k) letter v there = says ∙ ap (λ (o : Operator). local o letter v there) (sym own_is) in
       let new = joined (not g) (bit v k) on in
       record {
         kept = λ m h.
-            by_bit k v x new put (λ (i : ℕ) (b : Bool). (i ≡ m) → b ≡ bit w m) (λ q. absurd (h j (omega arith) (sym q ∙ at)))
-            (λ i q. ap (bit v) q ∙ t.kept m (λ n l. h n (omega arith))) m refl;
+            by_bit k v x new put (λ (i : ℕ) (b : Bool). (i ≡ m) → b ≡ bit w m)
+            (λ q. absurd (h (length list) (omega (arith, one.long)) (sym q ∙ sym one.last)))
+            (λ i q. ap (bit v) q ∙ t.kept m (λ n l e. h n (omega (arith, one.long)) (e ∙ sym (one.front n l)))) m refl;
         onward = by_bit k v x new put (λ m b. Moves g (bit w m) b)
             (moves_trans g (bit w k) (bit v k) new (t.onward k) (moves-on g (bit v k) on)) t.onward;
         within = λ hi here next keep past h m.
-            let before = t.within hi here next (λ n l. keep n (omega arith)) past h in
-            let own = subst (λ (i : ℕ). (here i ≡ said (operator_at rows i) letter here next) × Names hi (operator_at rows i)) (sym at)
-            (keep j (omega arith)) in
+            let Kept : ℕ → Type 0 =
+            λ (i : ℕ). (here i ≡ said (operator_at rows i) letter here next) × Names hi (operator_at rows i) in
+            let before = t.within hi here next (λ n l. subst Kept (one.front n l) (keep n (omega (arith, one.long)))) past h in
+            let own = subst Kept one.last (keep (length list) (omega (arith, one.long))) in
             by_bit k v x new put (λ m b. m < hi → Moves g b (here m))
             (λ l. moves_both g (bit v k) on (here k) (before k l)
             (subst (λ (b : Bool). Moves g b (here k)) (sym is)
@@ -67,15 +82,18 @@ module _ (rows list : List ℕ) (letter there : ℕ) (g : Bool) (w : ℕ) where
             before m;
       }
 
-  pub turned_end : {j count v : ℕ} → j ≤ count → count ≤ j → Turned rows list j letter there g w v
-      → Turned rows list count letter there g w v
-  turned_end {j} {count} {v} h k = subst (λ (i : ℕ). Turned rows list i letter there g w v) {x = j} {y = count} (omega arith)
+  pub turned_more : (list : List ℕ) (j v x k : ℕ) (on : Bool) → j < length list → k ≡ get_or list j 0
+      → Turned rows (take j list) letter there g w v
+      → (op : Operator) → operator_at rows k ≡ op → on ≡ local op letter v there
+      → ((m : ℕ) → bit x m ≡ cond (eqb m k) (joined (not g) (bit v k) on) (bit v m)) → Turned rows (take (j + 1) list) letter there g w x
+  turned_more list j v x k on l at =
+      another (take j list) (take (j + 1) list) v x k on (rw at (one-more-taken list j l))
 
-module _ (rows : List ℕ) (c : Lasso) (list : List ℕ) (count : ℕ) (g : Bool) (w : List ℕ) where
+module _ (rows : List ℕ) (c : Lasso) (list : List ℕ) (g : Bool) (w : List ℕ) where
   abbrev n : ℕ
   n = length c.letters
 
-  pub passed_none : PassMade rows c list count g w w
+  pub passed_none : PassMade rows c list g w w
   passed_none = record {
     long = refl;
     rest = λ i h. refl;
@@ -84,8 +102,8 @@ module _ (rows : List ℕ) (c : Lasso) (list : List ℕ) (count : ℕ) (g : Bool
     within = λ hi ss keep h. h;
   }
 
-  pub passed_then : (v x : List ℕ) → PassMade rows c list count g w v → PassMade rows c list count g v x
-      → PassMade rows c list count g w x
+  pub passed_then : (v x : List ℕ) → PassMade rows c list g w v → PassMade rows c list g v x
+      → PassMade rows c list g w x
   passed_then v x p q = record {
     long = q.long ∙ p.long;
     rest = λ i h. q.rest i h ∙ p.rest i h;
@@ -95,9 +113,9 @@ module _ (rows : List ℕ) (c : Lasso) (list : List ℕ) (count : ℕ) (g : Bool
     within = λ hi ss keep h. q.within hi ss keep (p.within hi ss keep h);
   }
 
-  pub passed-more : (v : List ℕ) (i j x : ℕ) → c.stem < n → n ≤ length w → PassMade rows c list count g w v → i < n
+  pub passed-more : (v : List ℕ) (i j x : ℕ) → c.stem < n → n ≤ length w → PassMade rows c list g w v → i < n
       → j ≡ after n c.stem i
-      → Turned rows list count (get_or c.letters i 0) (get_or v j 0) g (get_or v i 0) x → PassMade rows c list count g w (set v i x)
+      → Turned rows list (get_or c.letters i 0) (get_or v j 0) g (get_or v i 0) x → PassMade rows c list g w (set v i x)
   passed-more v i j x cycle long p l at t =
       let fits : i < length v = omega (arith, p.long) in
       record {
@@ -122,26 +140,6 @@ module _ (rows : List ℕ) (c : Lasso) (list : List ℕ) (count : ℕ) (g : Bool
             };
       }
 
--- a bit that an operator does not move, and one that it moves
-joined_stays : (g b : Bool) → joined (not g) b g ≡ b
-joined_stays true true = refl
-joined_stays true false = refl
-joined_stays false true = refl
-joined_stays false false = refl
-
-joined-leaves : (g b : Bool) → joined (not g) b (not g) ≡ not g
-joined-leaves true true = refl
-joined-leaves true false = refl
-joined-leaves false true = refl
-joined-leaves false false = refl
-
-module _ (g : Bool) (w k j : ℕ) where
-  pub moved_stays : bit w j ≡ cond (eqb j k) (joined (not g) (bit w k) g) (bit w j)
-  moved_stays = changed (λ i. bit w i) w k (joined (not g) (bit w k) g) (sym (joined_stays g (bit w k))) (λ i r. refl) j
-
-  pub moved_leaves : (x : Bool) → x ≡ cond (eqb j k) (not g) (bit w j) → x ≡ cond (eqb j k) (joined (not g) (bit w k) (not g)) (bit w j)
-  moved_leaves x q = q ∙ ap (λ (b : Bool). cond (eqb j k) b (bit w j)) (sym (joined-leaves g (bit w k)))
-
 -- all bits of a mask at once
 or_by : (a b : Bool) → (a || b) ≡ cond b true a
 or_by true true = refl
@@ -149,22 +147,29 @@ or_by true false = refl
 or_by false true = refl
 or_by false false = refl
 
-xor_by : (a b : Bool) → cond (a || b) (not b) b ≡ cond b false a
-xor_by true true = refl
-xor_by true false = refl
-xor_by false true = refl
-xor_by false false = refl
+and_by : (a b : Bool) → (a && not b) ≡ cond b false a
+and_by true true = refl
+and_by true false = refl
+and_by false true = refl
+and_by false false = refl
+
+other-bit : (x : ℕ) → x < 2 → eqb (1 - x) 1 ≡ not (eqb x 1)
+other-bit zero h = refl
+other-bit (suc zero) h = refl
+other-bit (suc (suc x)) h = absurd (omega arith)
+
+-- a word has no bit 64 or above
+high-bit : (w k : ℕ) → w < 2 ^ 64 → 64 ≤ k → bit w k ≡ false
+high-bit w k h l = ap (λ (x : ℕ). eqb (x % 2) 1) (div-eq_of_lt (omega (arith, pow_mono {i = 64} {j = k} l)))
 
 pub masked_on : (w m k : ℕ) → bit (bit_or w m) k ≡ cond (bit m k) true (bit w k)
 masked_on w m k = bit-or w m k ∙ or_by (bit w k) (bit m k)
 
-pub masked_off : (w m k : ℕ) → bit (bit_xor (bit_or w m) m) k ≡ cond (bit m k) false (bit w k)
-masked_off w m k =
-    bit-xor (bit_or w m) m k ∙ ap (λ (b : Bool). cond b (not (bit m k)) (bit m k)) (bit-or w m k) ∙ xor_by (bit w k) (bit m k)
-
--- the elements listed so far, and one more
-pub listed_more : (mask : ℕ) (list : List ℕ) (count x : ℕ) → count < length list → ((j : ℕ) → j < count → bit mask (get_or list j 0) ≡ true)
-    → bit mask x ≡ true → (j : ℕ) → j < count + 1 → bit mask (get_or (set list count x) j 0) ≡ true
-listed_more mask list count x l all new j h =
-    by_word count x list l (λ (j y : ℕ). j < count + 1 → bit mask y ≡ true) (λ _. new)
-    (λ m other q. all m (omega arith)) j h
+pub masked_off : (w m k : ℕ) → w < 2 ^ 64 → m < 2 ^ 64 → bit (bit_and w (bit_not w64 m)) k ≡ cond (bit m k) false (bit w k)
+masked_off w m k hw hm = bit-and w (bit_not w64 m) k ∙ by (dec_lt k 64) ∙ and_by (bit w k) (bit m k)
+  where
+    by : Dec (k < 64) → (bit w k && bit (bit_not w64 m) k) ≡ (bit w k && not (bit m k))
+    by (yes l) =
+        ap (λ (b : Bool). bit w k && b)
+        (ap (λ (x : ℕ). eqb x 1) (bit_at_not w64 m k hm l) ∙ other-bit (bit_at m k) (omega arith))
+    by (no l) = rw (high-bit w k hw (omega arith)) refl

@@ -1,12 +1,9 @@
 -- The rounds of a fixpoint, a pass before them and behind each: no column goes past its final set, and the rounds left bring the fixpoint's
 -- there at least. A pass moves columns on, within what their operators keep, so it keeps both; where no round is left, or one changes
 -- nothing, the fixpoint's column is its final set, and what is inside is as that set makes it. Assumes nothing.
-use mathlib.Core.Path.{◌≡◌, refl, sym, ap, subst, ◌∙◌}
-use mathlib.Core.Bool.{Bool, true, false, cond}
-use mathlib.Core.List.{List, ◌∷◌, map}
-use Prim.Native.Nat.{ℕ, suc, ◌+◌, ◌-◌, ◌≤◌, ◌<◌}
-use native.Mathlib.Omega.{arith}
-use lib.ListN.{length, get_or, length-map}
+use Rattle.std.proofs.Common.{◌≡◌, refl, sym, ap, subst, ◌∙◌, Bool, true, false, cond, List, ◌∷◌, map, ℕ, suc, ◌+◌, ◌-◌, ◌≤◌, ◌<◌, arith}
+use Rattle.std.proofs.Common.{length, get_or}
+use lib.ListN.{length-map}
 use Rattle.base.specs.Bits.{bit}
 use Rattle.base.specs.Lists.{iterate}
 use Rattle.base.specs.Sets.{Toward}
@@ -26,7 +23,7 @@ use Rattle.lasso.specs.Inner.{Evaluated}
 use Rattle.lasso.specs.Inner.{Outcome, Rounded}
 use Rattle.lasso.proofs.Fixpoint.{body, rounds_mono}
 use Rattle.lasso.proofs.CodeWritten.{written_end, written-body, by_operator, held-some, nested, fix-operand}
-use Rattle.lasso.proofs.CodeColumns.{column-length, column-at, column-is, columns-sized, kept_refl, kept-wide, kept_then, kept-both}
+use Rattle.lasso.proofs.CodeColumns.{column-length, column-at, column-is, columns-sized, kept-wide, kept_then, kept-both}
 use Rattle.lasso.proofs.CodeSweep.{other_bit}
 use Rattle.lasso.proofs.CodeColumns.{same-column, kept-bits, outer-kept, columns-above, swept_kept, swept-is}
 use Rattle.lasso.proofs.CodeClosed.{known_same, known-part}
@@ -45,8 +42,8 @@ module _ (rows : List ℕ) (c : Lasso) (g : Bool) (e : ℕ) where
   n = length c.letters
 
   -- a pass over columns that e's rounds move
-  module _ (list : List ℕ) (count : ℕ) (w v : List ℕ) (words : n ≤ length w) (m : Movable rows e list count)
-      (p : PassMade rows c list count g w v) where
+  module _ (list w v : List ℕ) (words : n ≤ length w) (m : Movable rows e list)
+      (p : PassMade rows c list g w v) where
     pub passed-kept : ColumnsKept n e (end_at rows e) w v
     passed-kept =
         kept-bits n w v words p.long e (end_at rows e) p.rest
@@ -94,14 +91,14 @@ module _ (rows : List ℕ) (c : Lasso) (g : Bool) (e : ℕ) where
             absurd (omega (arith, s.behind, s.before))
 
   -- from both, the rounds are begun
-  pub begun : (mask : ℕ) (list : List ℕ) (count : ℕ) (w x v : List ℕ) → WordsRoom n c.stem (length w) → FormulaAt rows e
+  pub begun : (mask : ℕ) (list w x v : List ℕ) → WordsRoom n c.stem (length w) → FormulaAt rows e
       → Open rows e mask
-      → BitsListed mask list count → BitsFilled n mask g w x → PassMade rows c list count g x v → Begun rows c g e list count w v
-  begun mask list count w x v room held o l f p =
-      let m : Movable rows e list count = movable rows e mask list count o l in
+      → BitsListed mask list → BitsFilled n mask g w x → PassMade rows c list g x v → Begun rows c g e list w v
+  begun mask list w x v room held o l f p =
+      let m : Movable rows e list = movable rows e mask list o l in
       let longer : n ≤ length x = omega (arith, f.long, room.words) in
       let kx = filled-kept mask w x room.words o f in
-      let kv = passed-kept list count x v longer m p in
+      let kv = passed-kept list x v longer m p in
       let kept : ColumnsKept n e (end_at rows e) w v = kept-both n kx kv in
       record {
         movable = m;
@@ -113,25 +110,15 @@ module _ (rows : List ℕ) (c : Lasso) (g : Bool) (e : ℕ) where
             let start : column n x e ≡ map (λ _. g) c.letters = filled-start mask w x room.words o f held in
             record {
               kept = subst (λ (k : ℕ). ColumnsKept n e k w v) last kept;
-              known = known_same rows c e (end_at rows e) x v (passed_shut list count x v longer m p)
+              known = known_same rows c e (end_at rows e) x v (passed_shut list x v longer m p)
                   (known_same rows c e (end_at rows e) w x (filled_shut mask w x room.words o f) known);
-              under = p.within (e + size F) (goal c w e bs F) (goal-keeps rows c w room h list count m)
+              under = p.within (e + size F) (goal c w e bs F) (goal-keeps rows c w room h list m)
                   (goal-start rows c w room h g mask x o f known);
               reaches = subst (λ (t : Positions). Toward g (iterate n (body c a outer) t) (iterate n (body c a outer) (column n v e))) start
                   (rounds_mono c (omega (arith, room.cycle)) a outer (closed rows c w room h) (columns-sized n w room.words bs) g n
-                  (column n x e) (column n v e) (passed-onward list count x v longer m p e));
+                  (column n x e) (column n v e) (passed-onward list x v longer m p e));
             };
       }
-
-  -- no round, and some rounds behind others
-  pub rounded_none : (left : ℕ) (w : List ℕ) → left ≡ 0 → Rounded rows c g e left w w true
-  rounded_none left w none = record {
-    kept = kept_refl n e (end_at rows e) w;
-    done = λ a s bs h first more. subst (λ (k : ℕ). Going rows c g e first bs a k w) {x = left + more} {y = more} (omega arith);
-  }
-
-  pub rounded_one : (left : ℕ) (w v : List ℕ) (r : Bool) → left ≡ 1 → Rounded rows c g e 1 w v r → Rounded rows c g e left w v r
-  rounded_one left w v r one = subst (λ (k : ℕ). Rounded rows c g e k w v r) (sym one)
 
   -- the rounds that are left, those of the first part taken apart
   apart : (half left : ℕ) → half ≤ left → (w first bs : List ℕ) (a : Formula) (more : ℕ) → Going rows c g e first bs a (left + more) w
@@ -150,12 +137,13 @@ module _ (rows : List ℕ) (c : Lasso) (g : Bool) (e : ℕ) where
   }
 
   pub rounded_early : (half left : ℕ) (w x : List ℕ) (b : Bool) → half ≤ left → b ≡ false → Rounded rows c g e half w x b
-      → Rounded rows c g e left w x false
+      → Rounded rows c g e left w x b
   rounded_early half left w x b l still p = record {
     kept = p.kept;
     done = λ a s bs h first more go.
-        subst (Outcome rows c g e first bs a (left - half + more) x) still
-        (p.done a s bs h first (left - half + more) (apart half left l w first bs a more go));
+        subst (Outcome rows c g e first bs a more x) (sym still)
+        (subst (Outcome rows c g e first bs a (left - half + more) x) still
+        (p.done a s bs h first (left - half + more) (apart half left l w first bs a more go)));
   }
 
   -- The body is labelled in a round: the words w become x.
@@ -231,26 +219,26 @@ module _ (rows : List ℕ) (c : Lasso) (g : Bool) (e : ℕ) where
         round_known = own_known rows c e w room held (local_at c (operator_at rows e) x) x y longer t (body-known go.known)
 
         -- and a pass moves on from there: the words y become z
-        going_on : (more : ℕ) → left ≡ 1 + more → (list : List ℕ) (count : ℕ) (z : List ℕ) → Movable rows e list count
-            → PassMade rows c list count g y z → Going rows c g e first bs a more z
-        going_on more one list count z m p =
+        going_on : (more : ℕ) → left ≡ 1 + more → (list z : List ℕ) → Movable rows e list
+            → PassMade rows c list g y z → Going rows c g e first bs a more z
+        going_on more one list z m p =
             let last : end_at rows e ≡ e + size f = written_end rows h in
             let long : n ≤ length y = omega (arith, longer, copy_kept.long) in
             let round = body c a outer in
             let ky : ColumnsKept n e (end_at rows e) w y =
             kept_then n body_kept copy_kept (omega arith) (omega arith) (omega arith) (omega (arith, inside)) in
-            let kz : ColumnsKept n e (end_at rows e) w z = kept-both n ky (passed-kept list count y z long m p) in
+            let kz : ColumnsKept n e (end_at rows e) w z = kept-both n ky (passed-kept list y z long m p) in
             let taken : iterate left round E ≡ iterate more round (column n y e) =
             ap (λ (k : ℕ). iterate k round E) {x = left} {y = suc more} (omega arith) ∙ ap (iterate more round) (sym copied) in
             record {
               kept = kept_then n go.kept kz (omega arith) (omega arith) (omega arith) (omega arith);
-              known = known_same rows c e (end_at rows e) y z (passed_shut list count y z long m p) round_known;
-              under = p.within (e + size f) (goal c first e bs f) (goal-keeps rows c first first-room h list count m) round_under;
+              known = known_same rows c e (end_at rows e) y z (passed_shut list y z long m p) round_known;
+              under = p.within (e + size f) (goal c first e bs f) (goal-keeps rows c first first-room h list m) round_under;
               reaches = toward_trans g (holds c f outer) (iterate more round (column n y e)) (iterate more round (column n z e))
                   (subst (Toward g (holds c f outer)) taken go.reaches)
                   (rounds_mono c (omega (arith, room.cycle)) a outer (closed rows c first first-room h)
                   (columns-sized n first first-room.words bs) g more (column n y e) (column n z e)
-                  (passed-onward list count y z long m p e));
+                  (passed-onward list y z long m p e));
             }
 
         unchanged : y ≡ x → Labelled c f e bs first x
@@ -271,11 +259,11 @@ module _ (rows : List ℕ) (c : Lasso) (g : Bool) (e : ℕ) where
           kept_then n body_kept (swept_kept n e (local_at c (operator_at rows e) x) x y t longer)
           (omega arith) (omega arith) (omega arith) (omega (arith, inside))
 
-      pub rounded_more : (list : List ℕ) (count : ℕ) (z : List ℕ) → Movable rows e list count → PassMade rows c list count g y z
+      pub rounded_more : (list z : List ℕ) → Movable rows e list → PassMade rows c list g y z
           → Rounded rows c g e 1 w z true
-      rounded_more list count z m p = record {
-        kept = kept-both n round_kept (passed-kept list count y z (omega (arith, room.words, round_kept.long)) m p);
-        done = λ a s bs h first more go. going_on h go y t more refl list count z m p;
+      rounded_more list z m p = record {
+        kept = kept-both n round_kept (passed-kept list y z (omega (arith, room.words, round_kept.long)) m p);
+        done = λ a s bs h first more go. going_on h go y t more refl list z m p;
       }
 
       -- a round that changes nothing is the last
@@ -291,8 +279,8 @@ module _ (rows : List ℕ) (c : Lasso) (g : Bool) (e : ℕ) where
 
   -- The fixpoint is labelled: its rounds are begun, the words w becoming x, and taken, x becoming u; and if the set moved to the end,
   -- the body is labelled once more.
-  module _ (held : FormulaAt rows e) (is : Fixes rows g e) (list : List ℕ) (count : ℕ) (w x u : List ℕ)
-      (room : WordsRoom n c.stem (length w)) (begins : Begun rows c g e list count w x) where
+  module _ (held : FormulaAt rows e) (is : Fixes rows g e) (list w x u : List ℕ)
+      (room : WordsRoom n c.stem (length w)) (begins : Begun rows c g e list w x) where
     outcome : (b r : Bool) → b ≡ r → Rounded rows c g e n x u b → (a : Formula) (s : Guards) (bs : List ℕ)
         → FormulaInRows rows e s bs (Formula.fix g a)
         → ClosedKnown rows c (e + 1) (end_at rows e) w → Outcome rows c g e w bs a 0 u r

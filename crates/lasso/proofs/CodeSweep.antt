@@ -1,15 +1,10 @@
 -- Words are changed one after another. Those before one are done, that one and those after it are as they were; of a word that is done
 -- every bit that is not chosen is as it was. A sweep chooses one bit, a filling those of a mask. Assumes nothing.
-use mathlib.Core.Path.{◌≡◌, refl, sym, ap, subst, ◌∙◌}
-use mathlib.Core.Bool.{Bool, true, false, not, cond, ◌||◌, true≢false}
-use mathlib.Core.List.{List}
-use Prim.Native.Nat.{ℕ, ◌+◌, ◌≤◌, ◌<◌}
-use native.Mathlib.Omega.{arith}
+use Rattle.std.proofs.Common.{◌≡◌, refl, sym, ap, subst, ◌∙◌, Bool, true, false, not, cond, ◌||◌, true≢false, List, ℕ, ◌+◌, ◌≤◌, ◌<◌, arith}
+use Rattle.std.proofs.Common.{eqb, length, get_or, set, length-set, get_or-set_same, get_or-set_other, eqb-true, ne_eqb}
 use native.Mathlib.Decide.{dec_lt}
-use lib.Dec.{eqb}
-use lib.ListN.{length, get_or, set, length-set}
-use lib.Seq.{get_or-set_same, get_or-set_other, set-get_or}
-use borrow.Author.Tests.{eqb-true, eqb-false, ne_eqb}
+use lib.Seq.{set-get_or}
+use borrow.Author.Tests.{eqb-false}
 use Rattle.base.specs.Bits.{bit}
 use Rattle.formula.specs.Table.{Operator}
 use Rattle.formula.specs.Rows.{operator_at, end_at}

@@ -1,14 +1,10 @@
 -- From the columns of all subformulas to the words: a word has the bits of its position, and none past the subformulas since the words
 -- were cleared. Assumes nothing.
-use mathlib.Core.Path.{◌≡◌, refl, sym, ap, subst, ◌∙◌}
-use mathlib.Core.Bool.{Bool, false, ◌&&◌}
-use mathlib.Core.List.{List, [], ◌++◌}
-use Prim.Native.Nat.{ℕ, ◌+◌, ◌≤◌, ◌<◌}
-use native.Mathlib.Omega.{arith}
+use Rattle.std.proofs.Common.{◌≡◌, refl, sym, ap, subst, ◌∙◌, Bool, false, ◌&&◌, List, [], ◌++◌, ℕ, ◌+◌, ◌≤◌, ◌<◌, arith, length, get_or}
+use Rattle.std.proofs.Common.{take, drop, replicate, length-append, take-append-drop, ext_get_or, length-take-le, get_or-take, drop_at}
+use Rattle.std.proofs.Common.{lt-ltb, le-ltb}
 use native.Mathlib.Decide.{dec_lt}
-use lib.ListN.{length, get_or, take, drop, replicate, length-append, take-append-drop, length-replicate, get_or-replicate, get_or-append}
-use lib.Seq.{ext_get_or, length-take-le, get_or-take, drop_at}
-use borrow.Author.Tests.{lt-ltb, le-ltb}
+use lib.ListN.{length-replicate, get_or-replicate, get_or-append}
 use Rattle.base.specs.Bits.{bit}
 use Rattle.base.proofs.WordLaws.{no-bit, same_bits}
 use Rattle.base.proofs.NumberLaws.{values_at}
@@ -21,7 +17,7 @@ use Rattle.lasso.specs.Inner.{FormulaInRows, FormulaAt, WordsRoom, outside_of, c
 use Rattle.lasso.specs.Inner.{ClosedLabelled, TruthFound}
 use Rattle.lasso.proofs.Consistent.{length-labelling, labelling-bit, labelling-past}
 use Rattle.lasso.proofs.CodeWritten.{written_end, nested}
-use Rattle.lasso.proofs.CodeColumns.{column-at, kept_refl, kept_then}
+use Rattle.lasso.proofs.CodeColumns.{column-at, kept_then}
 use Rattle.lasso.proofs.CodeLabel.{first-shown}
 
 -- Closed subformulas are labelled from the last to the first: those from k on are, in the words v, which were w at first.
@@ -31,13 +27,6 @@ pub record Labelling (rows : List ℕ) (c : Lasso) (w : List ℕ) (k : ℕ) (v :
   pub known : ClosedKnown rows c k (end_at rows 0) v
 
 module _ (rows : List ℕ) (c : Lasso) (w : List ℕ) where
-  pub labelling-none : (k : ℕ) → k ≡ end_at rows 0 → Labelling rows c w k w
-  labelling-none k last = record {
-    few = omega arith;
-    kept = kept_refl (length c.letters) 0 (end_at rows 0) w;
-    known = record { shown = λ j l m. absurd (omega arith) };
-  }
-
   pub labelling-more : (k j : ℕ) (v x : List ℕ) → FormulaAt rows 0 → k ≡ j + 1 → Labelling rows c w k v → ClosedLabelled rows c j v x
       → Labelling rows c w j x
   labelling-more k j v x held next so_far t =

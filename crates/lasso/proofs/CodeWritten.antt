@@ -1,12 +1,7 @@
 -- Rows that have a formula at e have its operands where its operator says, each of them smaller. What stands there is a formula (`Occurs`
 -- of crate formula), and what is inside it is the formula's; here both are found by the operator that the code sees. Assumes nothing.
-use mathlib.Core.Path.{◌≡◌, sym, subst, ◌∙◌}
-use mathlib.Core.Bool.{Bool, true, false}
-use mathlib.Core.List.{List, ◌∷◌, map}
-use Prim.Native.Nat.{ℕ, ◌+◌, ◌-◌, ◌*◌, ◌≤◌, ◌<◌}
-use native.Mathlib.Nat.{mul-le-mul_left, mul-add}
-use native.Mathlib.Omega.{arith}
-use lib.ListN.{get_or}
+use Rattle.std.proofs.Common.{◌≡◌, sym, ap, subst, ◌∙◌, Bool, true, false, List, ◌∷◌, map, ℕ, ◌+◌, ◌-◌, ◌*◌, ◌≤◌, ◌<◌, mul-le-mul_left}
+use Rattle.std.proofs.Common.{mul-add, arith, length, get_or}
 use Rattle.formula.specs.Formula.{Formula, size}
 use Rattle.formula.specs.Table.{Operator}
 use Rattle.formula.specs.Occurrence.{Guards}
@@ -15,7 +10,8 @@ use Rattle.formula.specs.Access.{Placed}
 use Rattle.formula.proofs.WellFormed.{Operands, Single, Pair, Shaped, sits_first, occurs_left, occurs_right, occurs_next, occurs_body}
 use Rattle.formula.proofs.WellFormed.{occurs_end, occurs_nested, occurs_shaped, located}
 use Rattle.formula.proofs.FitLaws.{shaped_fits, placed}
-use Rattle.lasso.specs.Inner.{FormulaInRows, FormulaAt, WordsRoom, LabelReady, Fixes, RoundsReady}
+use Rattle.lasso.specs.Inner.{course, FormulaInRows, FormulaAt, WordsRoom, LabelReady, Fixes}
+use Rattle.lasso.specs.declared.labeller.Labeller.{Labeller}
 
 -- how many subformulas e has
 abbrev pub size-at : List ℕ → ℕ → ℕ
@@ -147,16 +143,13 @@ module _ (rows : List ℕ) (e : ℕ) (h : FormulaAt rows e) where
       let p = fix-operand rows e h x in
       operand rows e h (e + 1) (omega arith) (omega (arith, p.first, p.inside))
 
--- what is asked, with as many words
-pub same-room : {n stem m : ℕ} (k : ℕ) → WordsRoom n stem m → n ≤ k → WordsRoom n stem k
-same-room k room h = record { cycle = room.cycle; words = h }
+-- what labelling asks leaves room for the lasso's words
+pub room : (l : Labeller) {m : ℕ} → length l.letters.now ≤ m → WordsRoom (length (course l).letters) (course l).stem m
+room l h = record { cycle = l.cycle; words = h }
 
-pub same-ready : {rows : List ℕ} {e n stem m : ℕ} (k : ℕ) → LabelReady rows e n stem m → n ≤ k → LabelReady rows e n stem k
-same-ready k r h = record { held = r.held; room = same-room k r.room h }
-
-pub same_rounds : {rows : List ℕ} {g : Bool} {e : ℕ} {list : List ℕ} {count n stem m : ℕ} (k : ℕ)
-    → RoundsReady rows g e list count n stem m → n ≤ k → RoundsReady rows g e list count n stem k
-same_rounds k r h = record { held = r.held; room = same-room k r.room h; fixes = r.fixes; movable = r.movable }
+-- the kind of a fixpoint, kept elsewhere
+pub same-kind : {rows : List ℕ} {g h : Bool} {e : ℕ} → g ≡ h → Fixes rows h e → Fixes rows g e
+same-kind q x = record { body = x.body; is = x.is ∙ ap (λ (g : Bool). Operator.fix g x.body) (sym q) }
 
 -- The measure of a call, as one number: a subformula's size, paired with the rounds left, of which there are at most n. Three numbers above
 -- n stand for a subformula whose rounds have not begun.
@@ -174,12 +167,12 @@ paired_size n small large i h =
     omega (arith, mul-add (n + 4) small 1)
 
 -- What the call for an operand of e asks, and the one for e itself with fewer rounds left.
-module _ {rows : List ℕ} {e n stem m t : ℕ} (held : FormulaAt rows e) (room : WordsRoom n stem m) (left : ℕ)
-    (is : paired n (size-at rows e) left ≡ t)
-  where
-    pub operand_call : {k : ℕ} → OperandAt rows e k → (paired n (size-at rows k) (n + 3) < t) × LabelReady rows k n stem m
-    operand_call {k} o =
-        rw (← is) (paired_size n (size-at rows k) (size-at rows e) left o.smaller, record { held = o.held; room = room })
+module _ (l : Labeller) (e : ℕ) {t : ℕ} (left : ℕ) (is : paired (length l.letters.now) (size-at l.rows.now e) left ≡ t) where
+  pub operand_call : {k : ℕ} (m : ℕ) → length l.letters.now ≤ m → OperandAt l.rows.now e k
+      → (paired (length l.letters.now) (size-at l.rows.now k) (length l.letters.now + 3) < t) × LabelReady l k m
+  operand_call {k} m long o =
+      let n = length l.letters.now in
+      rw (← is) (paired_size n (size-at l.rows.now k) (size-at l.rows.now e) left o.smaller, record { held = o.held; words = long })
 
-    pub same_call : {Q : Type 0} (i : ℕ) → i < left → Q → (paired n (size-at rows e) i < t) × Q
-    same_call i l q = rw (← is) (paired_left n (size-at rows e) i left l, q)
+  pub same_call : {Q : Type 0} (i : ℕ) → i < left → Q → (paired (length l.letters.now) (size-at l.rows.now e) i < t) × Q
+  same_call i less q = rw (← is) (paired_left (length l.letters.now) (size-at l.rows.now e) i left less, q)

@@ -2,16 +2,12 @@
 -- variable's that of its fixpoint, a fixpoint's that of its body. Along the formula's tree each operator's sets stand beside its row of
 -- the table; only the fixpoint's row is no matter of computing, and there the rounds have come to rest (Fixpoint). Also: the sets are
 -- as many as the subformulas, of one element for each letter, and the words of the labelling have exactly these bits. Assumes nothing.
-use mathlib.Core.Path.{◌≡◌, refl, sym, ap, ◌∙◌}
-use mathlib.Core.Bool.{Bool, true, false, cond}
-use mathlib.Core.List.{List, [], ◌∷◌, map}
-use Prim.Native.Nat.{ℕ, zero, suc, ◌+◌, ◌≤◌, ◌<◌}
-use native.Mathlib.Omega.{arith}
-use lib.Dec.{eqb}
+use Rattle.std.proofs.Common.{◌≡◌, refl, sym, ap, ◌∙◌, Bool, true, false, cond, List, [], ◌∷◌, map, ℕ, zero, suc, ◌+◌, ◌≤◌, ◌<◌, arith, eqb}
+use Rattle.std.proofs.Common.{length, get_or, length-append, eqb-true}
 use lib.ListN
-use lib.ListN.{length, get_or, length-append, length-map, get_or-append, get_or-eq_default}
+use lib.ListN.{length-map, get_or-append, get_or-eq_default}
 use lib.Seq.{get_or_at}
-use borrow.Author.Tests.{eqb-true, eqb-false}
+use borrow.Author.Tests.{eqb-false}
 use Rattle.base.specs.Bits.{bit}
 use Rattle.base.specs.Lists.{range}
 use Rattle.base.proofs.WordLaws.{word-bit}

@@ -1,9 +1,7 @@
 -- The truth examples of document 01, and two of places that there are not, computed from the definition. Assumes nothing.
-use mathlib.Core.Path.{◌≡◌, refl}
-use mathlib.Core.Bool.{true, false}
-use mathlib.Core.List.{List, [], ◌∷◌, map}
-use Prim.Native.Nat.{ℕ}
+use Rattle.std.proofs.Common.{◌≡◌, refl, true, false, List, [], ◌∷◌, map, ℕ}
 use Rattle.lasso.specs.Truth.{Truth, truth}
+use Rattle.lasso.specs.declared.Refusal.TheVariants.{Stem, Alphabet}
 
 pub record Example : Type 0 where
   pub bytes : List ℕ
@@ -27,9 +25,9 @@ table =
     ∷ is eventually (0x4000 ∷ []) 0 (Truth.holds false (0 ∷ []))
     ∷ is eventually (0x4000 ∷ 0x4000 ∷ 0x4001 ∷ []) 2 (Truth.holds true (27 ∷ 27 ∷ 31 ∷ []))
     ∷ is always (0x4001 ∷ []) 0 (Truth.holds false (4 ∷ []))
-    ∷ is eventually [] 0 (Truth.refused 16)
-    ∷ is eventually (0x4001 ∷ 0x0001 ∷ []) 0 (Truth.refused 19)
-    ∷ is eventually (0xC000 ∷ 0x4001 ∷ []) 0 (Truth.refused 19)
+    ∷ is eventually [] 0 (Truth.refused Stem)
+    ∷ is eventually (0x4001 ∷ 0x0001 ∷ []) 0 (Truth.refused Alphabet)
+    ∷ is eventually (0xC000 ∷ 0x4001 ∷ []) 0 (Truth.refused Alphabet)
     ∷ []
 
 pub examples : map (λ (x : Example). truth x.bytes (record { letters = x.letters; stem = x.stem }) 8) table ≡ map

@@ -3,12 +3,8 @@
 -- positions, and further rounds change nothing. The idea: the body is monotone, so the rounds only move away from the start, and each
 -- of n positions can leave the start's value once, so after n rounds nothing is left to move. Least and greatest are one argument, over
 -- the Bool g that the start has at each position. It takes a lasso with a letter, and no more of the stem. Assumes nothing.
-use mathlib.Core.Path.{◌≡◌, ◌∙◌}
-use mathlib.Core.Bool.{Bool, true, false}
-use mathlib.Core.List.{List, ◌∷◌, map}
-use Prim.Native.Nat.{ℕ, suc, ◌+◌, ◌<◌}
-use native.Mathlib.Omega.{arith}
-use lib.ListN.{length, length-map}
+use Rattle.std.proofs.Common.{◌≡◌, ◌∙◌, Bool, true, false, List, ◌∷◌, map, ℕ, suc, ◌+◌, ◌<◌, arith, length}
+use lib.ListN.{length-map}
 use Rattle.base.specs.Lists.{iterate}
 use Rattle.base.specs.Sets.{Inside, Toward}
 use Rattle.base.proofs.ListLaws.{iterate-add, iterate_stays, iterate-keeps}

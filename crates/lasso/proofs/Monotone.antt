@@ -1,12 +1,9 @@
 -- Truth is monotone: if the sets given for the enclosing fixpoints grow, the set of positions where the formula is true grows. No
 -- operator negates a variable, so each keeps the order of its operands' sets, position by position, and so do the rounds of a
 -- fixpoint. Also: every set has an element for each letter of the lasso. Assumes nothing.
-use mathlib.Core.Path.{◌≡◌, refl, sym, ap, ◌∙◌}
-use mathlib.Core.Bool.{Bool, true, false}
-use mathlib.Core.List.{List, [], ◌∷◌, ◌++◌, map}
-use Prim.Native.Nat.{ℕ, zero, suc, ◌<◌}
-use native.Mathlib.Omega.{arith}
-use lib.ListN.{length, get_or, length-append, length-map}
+use Rattle.std.proofs.Common.{◌≡◌, refl, sym, ap, ◌∙◌, Bool, true, false, List, [], ◌∷◌, ◌++◌, map, ℕ, zero, suc, ◌<◌, arith, length}
+use Rattle.std.proofs.Common.{get_or, length-append}
+use lib.ListN.{length-map}
 use Rattle.base.proofs.ListLaws.{iterate-keeps}
 use Rattle.base.specs.Sets.{Below, Inside}
 use Rattle.base.proofs.Inside.{below-least, below-greatest, inside-at, inside_refl, inside-append, inside-tail, inside-iterate}

@@ -1,10 +1,6 @@
 -- Sets that leave a value, position by position: from one Bool to another the value g is only left, and a set lies toward another if it
 -- does at each position. Said once for least and greatest fixpoints, over the Bool g that their rounds start from. Assumes nothing.
-use mathlib.Core.Path.{◌≡◌, refl, sym, subst}
-use mathlib.Core.Bool.{Bool, true, false, not, true≢false}
-use Prim.Native.Nat.{ℕ, ◌<◌}
-use native.Mathlib.Omega.{arith}
-use lib.ListN.{length, get_or}
+use Rattle.std.proofs.Common.{◌≡◌, refl, sym, subst, Bool, true, false, not, true≢false, ℕ, ◌<◌, arith, length, get_or}
 use Rattle.base.specs.Sets.{Below, Toward}
 use Rattle.base.proofs.Inside.{below_true, below_of, below-least, below-greatest, inside_of}
 use Rattle.lasso.specs.Lasso.{Positions, joined}

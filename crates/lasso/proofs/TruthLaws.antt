@@ -1,16 +1,13 @@
 -- The questions that truth asks after reading (MEANING 2.5), by what they mean, in their order; and what 19 asks, letter by letter. Assumes
 -- nothing.
-use mathlib.Core.Path.{◌≡◌, refl}
-use mathlib.Core.Logic.{◌↔◌}
-use Prim.Native.Nat.{ℕ, ◌≤◌, ◌<◌}
-use lib.Dec.{T}
-use lib.ListN.{length, get_or}
+use Rattle.std.proofs.Common.{◌≡◌, refl, ◌↔◌, ℕ, ◌≤◌, ◌<◌, T, length, get_or}
 use Rattle.base.proofs.AskLaws.{Asked, asked as asked_of, asked_le, asked_lt}
 use Rattle.base.proofs.MemberLaws.{all-at, all_in}
 use Rattle.letters.specs.Alphabet.{in_alphabet}
 use Rattle.formula.specs.Formula.{Formula}
 use Rattle.lasso.specs.Lasso.{Lasso, over_alphabet, labelling, meets}
 use Rattle.lasso.specs.Truth.{Truth, asked}
+use Rattle.lasso.specs.declared.Refusal.TheVariants.{Stem, Positions, Words, Alphabet}
 
 -- a lasso is over the alphabet exactly if the letter at each position is in it
 pub over_exactly : (c : Lasso) → T (over_alphabet c) ↔ ((i : ℕ) → i < length c.letters → T (in_alphabet (get_or c.letters i 0)))
@@ -20,10 +17,10 @@ over_exactly c = (all-at in_alphabet c.letters 0, all_in in_alphabet c.letters 0
 -- 16, 17, 19 and 18, and then what comes after
 abbrev pub From16 : Lasso → (room : ℕ) → (Truth → Type 0) → Truth → Type 0
 From16 c room After =
-    Asked (c.stem < length c.letters) (Truth.refused 16)
-    (Asked (length c.letters ≤ 8192) (Truth.refused 17)
-    (Asked (T (over_alphabet c)) (Truth.refused 19)
-    (Asked (length c.letters ≤ room) (Truth.refused 18)
+    Asked (c.stem < length c.letters) (Truth.refused Stem)
+    (Asked (length c.letters ≤ 8192) (Truth.refused Positions)
+    (Asked (T (over_alphabet c)) (Truth.refused Alphabet)
+    (Asked (length c.letters ≤ room) (Truth.refused Words)
     After)))
 
 -- the answer past them

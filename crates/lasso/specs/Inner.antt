@@ -1,5 +1,6 @@
 -- What the inner functions of truth on a lasso promise. A reader of the public contract need not read it. Assumes nothing.
-use Rattle.std.specs.Prelude.{◌≡◌, Bool, true, false, cond, List, [], ◌∷◌, ◌++◌, map, ℕ, ◌+◌, ◌≤◌, ◌<◌, eqb, ltb, length, get_or, take, drop}
+use Rattle.std.specs.Prelude.{◌≡◌, Bool, true, false, cond, List, [], ◌∷◌, ◌++◌, map, ℕ, ◌+◌, ◌≤◌, ◌<◌, eqb}
+use Rattle.std.specs.Prelude.{ltb, length, get_or, take, drop, Result}
 use Rattle.base.specs.Lists.{range, iterate}
 use Rattle.base.specs.Bits.{bit}
 use Rattle.base.specs.Sets.{Below, Toward}
@@ -10,8 +11,18 @@ use Rattle.formula.specs.Occurrence.{Guards, Occurs}
 use Rattle.formula.specs.Access.{Placed}
 use Rattle.lasso.specs.Lasso.{Lasso, Positions, leaf_at, joined, holds, sets, labelling, meets}
 use Rattle.lasso.specs.Truth.{asked, written}
-use Rattle.lasso.specs.Contract.{answer}
-use Rattle.lasso.specs.declared.Truth as code
+use Rattle.lasso.specs.Contract.{lasso, answer}
+use Rattle.lasso.specs.declared.Refusal.{Refusal}
+use Rattle.lasso.specs.declared.labeller.Labeller.{Labeller}
+use Rattle.lasso.specs.declared.labeller.Moving.{Moving}
+
+-- the lasso that is labelled
+abbrev pub course : Labeller → Lasso
+course l = lasso l.letters.now l.stem
+
+-- the numbers of the columns that rounds move
+abbrev pub numbers : Moving → List ℕ
+numbers m = take m.count m.list
 
 -- the successor of position i of n
 abbrev pub after : (n stem i : ℕ) → ℕ
@@ -74,10 +85,10 @@ pub record WordsRoom (n stem m : ℕ) : Type 0 where
   pub cycle : stem < n
   pub words : n ≤ m
 
--- what labelling e asks: the rows have a formula there, and each letter a word
-pub record LabelReady (rows : List ℕ) (e n stem m : ℕ) : Type 0 where
-  pub held : FormulaAt rows e
-  pub room : WordsRoom n stem m
+-- what labelling e asks, with m words: the rows have a formula there, and each letter a word
+pub record LabelReady (l : Labeller) (e m : ℕ) : Type 0 where
+  pub held : FormulaAt l.rows.now e
+  pub words : length l.letters.now ≤ m
 
 -- e is a fixpoint, the greatest one if g
 pub record Fixes (rows : List ℕ) (g : Bool) (e : ℕ) : Type 0 where
@@ -85,10 +96,10 @@ pub record Fixes (rows : List ℕ) (g : Bool) (e : ℕ) : Type 0 where
   pub is : operator_at rows e ≡ Operator.fix g body
 
 -- what labelling it asks
-pub record FixpointReady (rows : List ℕ) (g : Bool) (e n stem m : ℕ) : Type 0 where
-  pub held : FormulaAt rows e
-  pub room : WordsRoom n stem m
-  pub fixes : Fixes rows g e
+pub record FixpointReady (l : Labeller) (g : Bool) (e m : ℕ) : Type 0 where
+  pub held : FormulaAt l.rows.now e
+  pub words : length l.letters.now ≤ m
+  pub fixes : Fixes l.rows.now g e
 
 -- whether an operator is a variable of a fixpoint before e
 abbrev pub outside_of : ℕ → Operator → Bool
@@ -121,33 +132,30 @@ pub record Open (rows : List ℕ) (e mask : ℕ) : Type 0 where
   pub apart : (k : ℕ) → bit mask k ≡ true → Shut rows e k → ⊥
   pub others : (k : ℕ) → e ≤ k → k < end_at rows e → bit mask k ≡ false → Shut rows e k
 
--- the first `count` elements of a list are numbers of subformulas that have a place in the rows
-pub record Few (rows list : List ℕ) (count : ℕ) : Type 0 where
-  pub counted : count ≤ 48
-  pub placed : (j : ℕ) → j < count → Placed rows (get_or list j 0)
+-- the elements of a list are numbers of subformulas that have a place in the rows
+pub record Few (rows list : List ℕ) : Type 0 where
+  pub placed : (j : ℕ) → j < length list → Placed rows (get_or list j 0)
 
--- what a pass over them asks
-pub record PassReady (rows list : List ℕ) (count n stem m : ℕ) : Type 0 where
-  pub few : Few rows list count
-  pub room : WordsRoom n stem m
+-- what a pass over them asks, with m words
+pub record PassReady (l : Labeller) (list : List ℕ) (m : ℕ) : Type 0 where
+  pub few : Few l.rows.now list
+  pub words : length l.letters.now ≤ m
 
 -- they are bits of a mask
-pub record BitsListed (mask : ℕ) (list : List ℕ) (count : ℕ) : Type 0 where
-  pub counted : count ≤ 48
-  pub all : (j : ℕ) → j < count → bit mask (get_or list j 0) ≡ true
+pub record BitsListed (mask : ℕ) (list : List ℕ) : Type 0 where
+  pub all : (j : ℕ) → j < length list → bit mask (get_or list j 0) ≡ true
 
 -- they stand in e, and in no closed subformula inside e
-pub record Movable (rows : List ℕ) (e : ℕ) (list : List ℕ) (count : ℕ) : Type 0 where
-  pub counted : count ≤ 48
-  pub inside : (j : ℕ) → j < count → (e ≤ get_or list j 0) × (get_or list j 0 < end_at rows e)
-  pub apart : (j : ℕ) → j < count → Shut rows e (get_or list j 0) → ⊥
+pub record Movable (rows : List ℕ) (e : ℕ) (list : List ℕ) : Type 0 where
+  pub inside : (j : ℕ) → j < length list → (e ≤ get_or list j 0) × (get_or list j 0 < end_at rows e)
+  pub apart : (j : ℕ) → j < length list → Shut rows e (get_or list j 0) → ⊥
 
--- what the rounds of the fixpoint e ask, which move them
-pub record RoundsReady (rows : List ℕ) (g : Bool) (e : ℕ) (list : List ℕ) (count n stem m : ℕ) : Type 0 where
-  pub held : FormulaAt rows e
-  pub room : WordsRoom n stem m
-  pub fixes : Fixes rows g e
-  pub movable : Movable rows e list count
+-- what the rounds of the fixpoint e ask, which move them, with m words
+pub record RoundsReady (l : Labeller) (moving : Moving) (e m : ℕ) : Type 0 where
+  pub held : FormulaAt l.rows.now e
+  pub words : length l.letters.now ≤ m
+  pub fixes : Fixes l.rows.now moving.greatest e
+  pub movable : Movable l.rows.now e (numbers moving)
 
 -- bit e of the first n words: the set of positions that they have for subformula e
 abbrev pub column : ℕ → List ℕ → ℕ → Positions
@@ -190,11 +198,11 @@ Names hi (Operator.fix g l) = l < hi
 
 -- one position of a pass, whose word w becomes v: bits leave the value g only, and only listed ones; and if their operators keep some
 -- truth of the position and its successor, of which no bit below hi is past, then none of v is
-pub record Turned (rows list : List ℕ) (count letter there : ℕ) (g : Bool) (w v : ℕ) : Type 0 where
-  pub kept : (k : ℕ) → ((j : ℕ) → j < count → k ≡ get_or list j 0 → ⊥) → bit v k ≡ bit w k
+pub record Turned (rows list : List ℕ) (letter there : ℕ) (g : Bool) (w v : ℕ) : Type 0 where
+  pub kept : (k : ℕ) → ((j : ℕ) → j < length list → k ≡ get_or list j 0 → ⊥) → bit v k ≡ bit w k
   pub onward : (k : ℕ) → Moves g (bit w k) (bit v k)
   pub within : (hi : ℕ) (here next : ℕ → Bool)
-      → ((j : ℕ) → j < count → (here (get_or list j 0) ≡ said (operator_at rows (get_or list j 0)) letter here next)
+      → ((j : ℕ) → j < length list → (here (get_or list j 0) ≡ said (operator_at rows (get_or list j 0)) letter here next)
       × Names hi (operator_at rows (get_or list j 0)))
       → ((k : ℕ) → k < hi → Moves g (bit there k) (next k)) → ((k : ℕ) → k < hi → Moves g (bit w k) (here k))
       → (k : ℕ) → k < hi → Moves g (bit v k) (here k)
@@ -204,20 +212,20 @@ pub record Under (n : ℕ) (g : Bool) (ss : List Positions) (hi : ℕ) (w : List
   pub at : (k : ℕ) → k < hi → (i : ℕ) → i < n → Moves g (bit (get_or w i 0) k) (get_or (get_or ss k []) i false)
 
 -- each listed operator, which names numbers below hi, keeps the sets ss
-pub record SetsKept (rows : List ℕ) (c : Lasso) (list : List ℕ) (count hi : ℕ) (ss : List Positions) : Type 0 where
-  pub names : (j : ℕ) → j < count → Names hi (operator_at rows (get_or list j 0))
-  pub right : (j : ℕ) → j < count → (i : ℕ) → i < length c.letters
+pub record SetsKept (rows : List ℕ) (c : Lasso) (list : List ℕ) (hi : ℕ) (ss : List Positions) : Type 0 where
+  pub names : (j : ℕ) → j < length list → Names hi (operator_at rows (get_or list j 0))
+  pub right : (j : ℕ) → j < length list → (i : ℕ) → i < length c.letters
       → get_or (get_or ss (get_or list j 0) []) i false
       ≡ said (operator_at rows (get_or list j 0)) (get_or c.letters i 0) (λ k. get_or (get_or ss k []) i false)
       (λ k. get_or (get_or ss k []) (after (length c.letters) c.stem i) false)
 
 -- a pass: the words w become v. Columns that are not listed are kept, the others move on, and past no sets that the operators keep.
-pub record PassMade (rows : List ℕ) (c : Lasso) (list : List ℕ) (count : ℕ) (g : Bool) (w v : List ℕ) : Type 0 where
+pub record PassMade (rows : List ℕ) (c : Lasso) (list : List ℕ) (g : Bool) (w v : List ℕ) : Type 0 where
   pub long : length v ≡ length w
   pub rest : (i : ℕ) → length c.letters ≤ i → get_or v i 0 ≡ get_or w i 0
-  pub kept : (i k : ℕ) → ((j : ℕ) → j < count → k ≡ get_or list j 0 → ⊥) → bit (get_or v i 0) k ≡ bit (get_or w i 0) k
+  pub kept : (i k : ℕ) → ((j : ℕ) → j < length list → k ≡ get_or list j 0 → ⊥) → bit (get_or v i 0) k ≡ bit (get_or w i 0) k
   pub onward : (i k : ℕ) → Moves g (bit (get_or w i 0) k) (bit (get_or v i 0) k)
-  pub within : (hi : ℕ) (ss : List Positions) → SetsKept rows c list count hi ss → Under (length c.letters) g ss hi w
+  pub within : (hi : ℕ) (ss : List Positions) → SetsKept rows c list hi ss → Under (length c.letters) g ss hi w
       → Under (length c.letters) g ss hi v
 
 -- the final sets of f, which stands at e, behind the columns of the numbers before it
@@ -234,8 +242,8 @@ pub record Going (rows : List ℕ) (c : Lasso) (g : Bool) (e : ℕ) (w bs : List
       (iterate left (λ s. holds c a (s ∷ map (column (length c.letters) w) bs)) (column (length c.letters) v e))
 
 -- the rounds are begun, all of them left
-pub record Begun (rows : List ℕ) (c : Lasso) (g : Bool) (e : ℕ) (list : List ℕ) (count : ℕ) (w v : List ℕ) : Type 0 where
-  pub movable : Movable rows e list count
+pub record Begun (rows : List ℕ) (c : Lasso) (g : Bool) (e : ℕ) (list w v : List ℕ) : Type 0 where
+  pub movable : Movable rows e list
   pub kept : ColumnsKept (length c.letters) e (end_at rows e) w v
   pub started : (a : Formula) (guards : Guards) (binders : List ℕ) → FormulaInRows rows e guards binders (Formula.fix g a)
       → ClosedKnown rows c (e + 1) (end_at rows e) w → Going rows c g e w binders a (length c.letters) v
@@ -276,6 +284,6 @@ pub record TruthFound (rows : List ℕ) (c : Lasso) (b : Bool) (w v : List ℕ) 
   pub words : (f : Formula) → FormulaInRows rows 0 [] [] f → v ≡ labelling c f ++ drop (length c.letters) w
 
 -- the questions after reading are asked of the formula that the rows have
-pub record Judged (rows : List ℕ) (c : Lasso) (r : code.Truth) (w v : List ℕ) : Type 0 where
+pub record Judged (rows : List ℕ) (c : Lasso) (r : Result Bool Refusal) (w v : List ℕ) : Type 0 where
   pub answer : (f : Formula) → FormulaInRows rows 0 [] [] f → r ≡ answer (asked c (length w) f)
   pub words : (f : Formula) → FormulaInRows rows 0 [] [] f → v ≡ written (asked c (length w) f) w

@@ -1,4 +1,5 @@
 pub mod Lasso
+pub mod Refusal
 pub mod Truth
 pub mod Contract
 pub mod Inner

@@ -3,15 +3,13 @@
 -- (`clash_of`, `clash_in`), and exactly if no letter of the alphabet satisfies it (`clash_exactly`): a clash leaves no letter
 -- (`clash_leaves_none`), and without one the letter that is taken is in the alphabet (`letter_in`) and satisfies it (`letter_satisfies`).
 -- That letter has what is to be present, the flag that is due, and nothing else (`letter_exactly`). Assumes nothing.
-use mathlib.Core.Path.{◌≡◌, refl, sym, ap, subst, subst⁻¹, ◌∙◌}
-use mathlib.Core.Logic.{◌↔◌, ◌⊎◌, inl, inr, ⊎_elim}
-use mathlib.Core.Bool.{Bool, true, false, not, cond, ◌&&◌, ◌||◌, not-not}
-use Prim.Native.Nat.{ℕ, ◌^◌, ◌<◌}
-use native.Mathlib.Omega.{arith}
-use native.Mathlib.Decide.{dec_lt}
-use lib.Dec.{T, eqb, eqb→eq, T_not, not_T}
-use lib.Bits.{bit_and, bit_or, or_lt}
-use borrow.Author.Tests.{eq-eqb}
+use Rattle.std.proofs.Common.{◌≡◌, refl, sym, ap, subst, ◌∙◌, ◌↔◌, ◌⊎◌, inl, inr, ⊎_elim, Bool, true, false, not, cond, ◌&&◌, ◌||◌, ℕ}
+use Rattle.std.proofs.Common.{◌^◌, ◌<◌, T, eqb, eqb→eq, T_not, bit_and, arith, eq-eqb}
+use Rattle.std.proofs.Math.Dec.{not_T}
+use lib.Bits.{or_lt}
+use Rattle.std.proofs.Math.Bool.{not-not}
+use Rattle.std.proofs.Math.Decide.{dec_lt}
+use Rattle.std.proofs.Math.Path.{subst⁻¹}
 use Rattle.base.specs.Lists.{any, range}
 use Rattle.base.specs.Bits.{bit}
 use Rattle.base.proofs.BoolLaws.{by_test, to_T, and_left, and_right, and_both, or_cases, or_left, or_right}
@@ -125,12 +123,6 @@ module _ (r : Requirement) where
       (λ h. current (or_cases (bit r.present current_scale) (bit r.absent previous_scale) h))
       (λ n. previous (λ p. n (or_left (bit r.present current_scale) (bit r.absent previous_scale) p))
       (λ a. n (or_right (bit r.present current_scale) (bit r.absent previous_scale) a)))
-
-  -- as code asks which flag is due
-  pub letter_due : (b : Bool) → (bit r.present current_scale || bit r.absent previous_scale) ≡ b
-      → bit_or r.present (2 ^ cond b current_scale previous_scale) ≡ letter_of r
-  unfolding letter_of
-  letter_due b q = ap (λ (d : Bool). bit_or r.present (2 ^ cond d current_scale previous_scale)) (sym q)
 
   letter-bit : (j : ℕ) → bit (letter_of r) j ≡ cond (eqb j (scale_for r)) true (bit r.present j)
   unfolding letter_of

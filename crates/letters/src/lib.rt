@@ -1,9 +1,8 @@
 // The letters that there are, and what a transition requires of one.
 #![tactic(auto)]
 
-ghost use Rattle.std.specs.Prelude.{◌≡◌, ◌<◌};
+ghost use Rattle.std.specs.Prelude.{◌≡◌};
 ghost use Rattle.base.specs.Lists.{all};
-ghost use Rattle.base.specs.Bits.{bit};
 ghost use Rattle.letters.specs.Alphabet.{both_scales, in_alphabet};
 ghost use Rattle.letters.specs.Requirements.{clash, letter_of};
 
@@ -21,6 +20,7 @@ pub struct Requirement {
 }
 
 // Whether a word is in the alphabet: of the two flags it has one.
+#[tactic(auto, unfolding(crate::specs::Alphabet::in_alphabet))]
 fn in_alphabet(word: u16) -> bool
     ensures { result ≡ in_alphabet word }
 {
@@ -32,13 +32,9 @@ fn in_alphabet(word: u16) -> bool
 pub fn all_in_alphabet(words: &[u16]) -> bool
     ensures { result ≡ all in_alphabet words.now }
 {
-    let mut all = true;
-    let mut i = 0;
-    while i < words.len() {
-        all = all & in_alphabet(words[i]);
-        i += 1;
-    }
-    all
+    words
+        .iter()
+        .fold(true, |all, word| all & in_alphabet(*word))
 }
 
 // Whether a word has both flags.
@@ -57,20 +53,17 @@ pub fn clashes(required: Requirement) -> bool
     !apart | scales
 }
 
-// Whether a signal is present in a letter, or in a word of a requirement.
-pub fn has(word: u16, signal: usize) -> bool
-    requires { signal < 16 }
-    ensures { result ≡ bit word signal }
-{
-    (word >> signal) % 2 == 1
-}
-
 // The letter that is taken where one can: what is to be present, and the flag of the current scale where that is due, else of the previous.
+#[tactic(auto, unfolding(crate::specs::Requirements::letter_of))]
 pub fn letter_of(required: Requirement) -> u16
     ensures { result ≡ letter_of required }
 {
-    if has(required.present, CURRENT_SCALE) | has(required.absent, PREVIOUS_SCALE) {
-        return required.present | (1u16 << CURRENT_SCALE);
-    }
-    required.present | (1u16 << PREVIOUS_SCALE)
+    let current = base::has(u64::from(required.present), CURRENT_SCALE);
+    let not_previous = base::has(u64::from(required.absent), PREVIOUS_SCALE);
+    let scale = if current | not_previous {
+        CURRENT_SCALE
+    } else {
+        PREVIOUS_SCALE
+    };
+    required.present | (1u16 << scale)
 }

@@ -1,135 +1,61 @@
-// The areas that are lent. All bytes of one are 165 beforehand, all letters 48,879 (beef in hex), all words 2 ^ 63, which is no truth
-// word; behind the outcome stands what is so afterwards.
+// The areas that are lent, with a pattern in them beforehand; behind the outcome stands what is so afterwards.
 ghost use Rattle.std.specs.Prelude.{◌≡◌, length};
 
 use crate::say::{number, put};
 
+// The patterns of bytes, of letters (beef in hex), and of words, 2 ^ 63, which is no truth word.
+pub const BYTE: u8 = 165;
+
+pub const LETTER: u16 = 48879;
+
+pub const WORD: u64 = 9223372036854775808;
+
+// How many bytes and letters there are.
+pub const BYTES: usize = 800000;
+
+pub const LETTERS: usize = 8192;
+
 // All that can be lent as a workspace. The `ensures` gives only the length.
-pub fn room() -> [u8; 800000]
-    ensures { 800000 ≡ length result }
+pub fn room() -> [u8; BYTES]
+    ensures { BYTES ≡ length result }
 {
-    [165; 800000]
+    [BYTE; BYTES]
 }
 
 // Whether more is asked for than there is.
 pub fn is_beyond(work: usize, course: usize) -> bool {
-    if 800000 < work {
-        return true;
-    }
-    8192 < course
+    BYTES < work || LETTERS < course
 }
 
-// The first bytes, as many as there are.
-pub fn start_bytes(s: &[u8], n: usize) -> &[u8] {
-    if n <= s.len() {
-        return &s[0..n];
-    }
-    s
-}
-
-pub fn start_letters(s: &[u16], n: usize) -> &[u16] {
-    if n <= s.len() {
-        return &s[0..n];
-    }
-    s
-}
-
-pub fn start_words(s: &[u64], n: usize) -> &[u64] {
-    if n <= s.len() {
-        return &s[0..n];
-    }
-    s
+// The first n, or as many as there are.
+pub fn start<T>(s: &[T], n: usize) -> &[T] {
+    &s[..n.min(s.len())]
 }
 
 // The same, to be written.
-pub fn lent_bytes(s: &mut [u8], n: usize) -> &mut [u8] {
-    if n <= s.len() {
-        return &mut s[0..n];
-    }
-    s
+pub fn lent<T>(s: &mut [T], n: usize) -> &mut [T] {
+    let end = n.min(s.len());
+    &mut s[..end]
 }
 
-pub fn lent_letters(s: &mut [u16], n: usize) -> &mut [u16] {
-    if n <= s.len() {
-        return &mut s[0..n];
-    }
-    s
-}
-
-pub fn lent_words(s: &mut [u64], n: usize) -> &mut [u64] {
-    if n <= s.len() {
-        return &mut s[0..n];
-    }
-    s
-}
-
-// The bytes behind the first n, where there are so many.
-pub fn rest_bytes(s: &[u8], n: usize) -> &[u8] {
-    if n <= s.len() {
-        return &s[n..];
-    }
-    &s[0..0]
+// Those behind the first n, where there are so many.
+pub fn rest<T>(s: &[T], n: usize) -> &[T] {
+    &s[n.min(s.len())..]
 }
 
 // How many bytes are zero from the start on.
 pub fn zeros(area: &[u8]) -> usize {
-    let mut i = 0;
-    while i < area.len() {
-        if area[i] != 0 {
-            return i;
-        }
-        i += 1;
-    }
-    i
+    area.iter().take_while(|b| **b == 0).count()
 }
 
 // How many at the end are as they were.
-fn kept_bytes(area: &[u8]) -> usize {
-    let mut n = area.len();
-    while 0 < n {
-        if area[n - 1] != 165 {
-            return area.len() - n;
-        }
-        n -= 1;
-    }
-    area.len()
-}
-
-fn kept_letters(area: &[u16]) -> usize {
-    let mut n = area.len();
-    while 0 < n {
-        if area[n - 1] != 48879 {
-            return area.len() - n;
-        }
-        n -= 1;
-    }
-    area.len()
-}
-
-fn kept_words(area: &[u64]) -> usize {
-    let mut n = area.len();
-    while 0 < n {
-        if area[n - 1] != 9223372036854775808 {
-            return area.len() - n;
-        }
-        n -= 1;
-    }
-    area.len()
+fn kept<T: Copy + Eq>(area: &[T], pattern: T) -> usize {
+    area.iter().rev().take_while(|x| **x == pattern).count()
 }
 
 // How many bytes from the start on are as before.
 fn alike(before: &[u8], area: &[u8]) -> usize {
-    let mut i = 0;
-    while i < before.len() {
-        if area.len() <= i {
-            return i;
-        }
-        if area[i] != before[i] {
-            return i;
-        }
-        i += 1;
-    }
-    i
+    before.iter().zip(area).take_while(|(a, b)| a == b).count()
 }
 
 // The notes behind an outcome: how many bytes are zero from the start on, how many at the end are as they were, and how many were lent.
@@ -137,24 +63,24 @@ pub fn note_bytes(area: &[u8]) {
     put(b" | work: zero");
     number(b' ', zeros(area));
     put(b", kept");
-    kept(kept_bytes(area), area.len());
+    of(kept(area, BYTE), area.len());
 }
 
 // How many bytes behind those of an outcome are zero, from the first on, and how many there are.
 pub fn note_rest(area: &[u8]) {
     put(b" | rest: zero");
-    kept(zeros(area), area.len());
+    of(zeros(area), area.len());
 }
 
 // How many of the bytes at the area's start are as before, from the first on, and how many there were.
 pub fn note_nodes(before: &[u8], area: &[u8]) {
     put(b" | nodes: kept");
-    kept(alike(before, area), before.len());
+    of(alike(before, area), before.len());
 }
 
 pub fn note_letters(area: &[u16]) {
     put(b" | course: kept");
-    kept(kept_letters(area), area.len());
+    of(kept(area, LETTER), area.len());
 }
 
 // The notes on both areas, where they are to be shown.
@@ -167,11 +93,11 @@ pub fn note_both(workspace: &[u8], letters: &[u16], shown: bool) {
 
 pub fn note_words(area: &[u64]) {
     put(b" | words: kept");
-    kept(kept_words(area), area.len());
+    of(kept(area, WORD), area.len());
 }
 
-fn kept(kept: usize, lent: usize) {
-    number(b' ', kept);
+fn of(some: usize, all: usize) {
+    number(b' ', some);
     put(b" of");
-    number(b' ', lent);
+    number(b' ', all);
 }

@@ -1,120 +1,40 @@
 // The lines of standard input, one after another. Blank ones and comments are passed over. Blanks are kept as one space between words,
 // and none at the line's ends or beside a bar; so fields and words are what stands between bars and spaces.
-ghost use Rattle.std.specs.Prelude.{◌≤◌};
+ghost use Rattle.std.specs.Prelude.{◌≤◌, length};
 
-// How many bytes were read last, and how many of them are left; how long the line is so far, and whether it is whole.
-#[derive(Clone, Copy)]
-pub struct Place {
-    pub count: usize,
-    pub left: usize,
-    pub length: usize,
-    pub whole: bool,
-}
+use crate::area::start;
 
-pub fn begun() -> Place {
-    Place {
-        count: 0,
-        left: 0,
-        length: 0,
-        whole: false,
-    }
-}
-
-// The next line. At the input's end it has no bytes.
-pub fn next(line: &mut [u8], chunk: &mut [u8], from: Place) -> Place {
-    let mut place = Place {
-        count: from.count,
-        left: from.left,
-        length: 0,
-        whole: false,
-    };
-    let mut turns = u64::MAX;
-    while 0 < turns {
-        turns -= 1;
-        let full = filled(chunk, place);
-        place = taken(line, full, byte(chunk, full));
-        if place.whole {
-            return place;
+// How many bytes the next line has, which `room` begins with; none at the input's end. Nothing says that the input ends, so the loop has
+// more turns than any run uses up.
+pub fn next(room: &mut [u8]) -> Option<usize> {
+    let mut n = 0;
+    for _ in 0..u64::MAX {
+        match read() {
+            None => return is_run(start(room, n)).then_some(n),
+            Some(b'\n') => {
+                if is_run(start(room, n)) {
+                    return Some(n);
+                }
+                n = 0;
+            }
+            Some(b) => n = pushed(room, n, b),
         }
     }
-    place
-}
-
-// More of the input, where nothing is left.
-fn filled(chunk: &mut [u8], place: Place) -> Place {
-    if 0 < place.left {
-        return place;
-    }
-    let n = read(chunk);
-    Place {
-        count: n,
-        left: n,
-        length: place.length,
-        whole: false,
-    }
+    None
 }
 
 // One byte, so that a line is answered as soon as it has come.
-fn read(chunk: &mut [u8]) -> usize {
-    if chunk.len() == 0 {
-        return 0;
+fn read() -> Option<u8> {
+    let mut byte = [0];
+    if io::read_full(0, &mut byte) == 0 {
+        return None;
     }
-    io::read_full(0, &mut chunk[..1])
+    Some(byte[0])
 }
 
-// The next byte, or 256 at the input's end.
-fn byte(chunk: &[u8], place: Place) -> usize {
-    if place.count < place.left {
-        return 256;
-    }
-    let at = place.count - place.left;
-    if chunk.len() <= at {
-        return 256;
-    }
-    if place.left == 0 {
-        return 256;
-    }
-    base::wide(chunk[at])
-}
-
-// The line with one byte more. The input's end ends it.
-fn taken(line: &mut [u8], place: Place, b: usize) -> Place {
-    if b == 256 {
-        return ended(place, kept(line, place.length), true);
-    }
-    if b == 10 {
-        return ended(place, kept(line, place.length), false);
-    }
-    Place {
-        count: place.count,
-        left: one_less(place.left),
-        length: pushed(line, place.length, (b % 256) as u8),
-        whole: false,
-    }
-}
-
-fn one_less(n: usize) -> usize {
-    if 0 < n { n - 1 } else { n }
-}
-
-fn ended(place: Place, length: usize, last: bool) -> Place {
-    Place {
-        count: place.count,
-        left: one_less(place.left),
-        length: length,
-        whole: last || 0 < length,
-    }
-}
-
-// How long a line is that is to be run: a comment is not.
-fn kept(line: &[u8], n: usize) -> usize {
-    if line.len() == 0 {
-        return 0;
-    }
-    if line[0] == b'#' {
-        return 0;
-    }
-    n
+// Whether the line is to be run: neither one with no bytes nor a comment is.
+fn is_run(line: &[u8]) -> bool {
+    !matches!(line.first(), None | Some(b'#'))
 }
 
 // The line, of n bytes, with one byte more. One that fills the room stays as it is.
@@ -122,76 +42,50 @@ fn pushed(line: &mut [u8], n: usize, b: u8) -> usize {
     if line.len() <= n {
         return n;
     }
-    if is_blank(b) {
-        if is_parted(line, n) {
-            return n;
-        }
-        line[n] = b' ';
-        return n + 1;
+    if !is_blank(b) {
+        let at = joined(&line[..n], b);
+        line[at] = b;
+        return at + 1;
     }
-    let at = joined(line, n, b);
-    line[at] = b;
-    at + 1
+    if is_parted(&line[..n]) {
+        return n;
+    }
+    line[n] = b' ';
+    n + 1
 }
 
 fn is_blank(b: u8) -> bool {
-    if b == 9 {
-        return true;
-    }
-    if b == 13 {
-        return true;
-    }
-    b == b' '
+    matches!(b, b'\t' | b'\r' | b' ')
 }
 
 // Whether no word ends there.
-fn is_parted(line: &[u8], n: usize) -> bool {
-    if n == 0 {
-        return true;
-    }
-    if line.len() < n {
-        return true;
-    }
-    if line[n - 1] == b'|' {
-        return true;
-    }
-    line[n - 1] == b' '
+fn is_parted(line: &[u8]) -> bool {
+    matches!(line.last(), None | Some(b' ' | b'|'))
 }
 
 // Where the byte goes: a bar takes the place of a space in front of it.
-fn joined(line: &[u8], n: usize, b: u8) -> usize
-    ensures { result ≤ n }
+fn joined(line: &[u8], b: u8) -> usize
+    ensures { result ≤ length line.now }
 {
     if b == b'|' {
-        return trimmed(line, n);
+        trimmed(line).len()
+    } else {
+        line.len()
     }
-    n
 }
 
 // Without a space at the end.
-fn trimmed(line: &[u8], n: usize) -> usize
-    ensures { result ≤ n }
+fn trimmed(line: &[u8]) -> &[u8]
+    ensures { length result.now ≤ length line.now }
 {
-    if n == 0 {
-        return n;
-    }
-    if line.len() < n {
-        return n;
-    }
-    if line[n - 1] == b' ' {
-        return n - 1;
-    }
-    n
+    line.strip_suffix(b" ").unwrap_or(line)
 }
 
 // The line, of n bytes. One that filled the room is too long: it is cut to a byte, and no operation has so short a name.
-pub fn whole(line: &[u8], n: usize) -> &[u8] {
-    if n < line.len() {
-        let end = trimmed(line, n);
-        return &line[0..end];
+pub fn whole(room: &[u8], n: usize) -> &[u8] {
+    if n < room.len() {
+        trimmed(&room[..n])
+    } else {
+        start(room, 1)
     }
-    if 1 < line.len() {
-        return &line[0..1];
-    }
-    line
 }

@@ -1,5 +1,5 @@
 // What is written for an outcome, piece by piece, to standard output.
-use crate::area::start_letters;
+use crate::area::start;
 use formula::Refusal;
 
 pub fn put(said: &[u8]) {
@@ -8,15 +8,13 @@ pub fn put(said: &[u8]) {
 
 // In decimal, behind one byte.
 pub fn number(front: u8, n: usize) {
-    let byte = [front];
-    io::write_all(1, &byte);
+    put(&[front]);
     io::print_decimal(1, n as u64);
 }
 
 // In hex, behind one byte.
 pub fn hex(front: u8, n: u64, width: usize) {
-    let byte = [front];
-    io::write_all(1, &byte);
+    put(&[front]);
     io::print_hex(1, n, width);
 }
 
@@ -32,7 +30,7 @@ fn worded(word: &[u8], n: usize) {
 }
 
 pub fn refused(code: u8) {
-    worded(b"REFUSED", code as usize);
+    worded(b"REFUSED", usize::from(code));
 }
 
 pub fn refused_at(code: u8, place: usize) {
@@ -49,31 +47,21 @@ pub fn unread(why: Refusal) {
 pub fn places(why: Refusal) {
     worded(b" at", formula::place_of(why));
     match why {
-        Refusal::AtByte { code: _, at: _ } => {}
-        Refusal::Unguarded { at: _, binder_at } => worded(b" from", binder_at),
+        Refusal::AtByte { .. } => {}
+        Refusal::Unguarded { binder_at, .. } => worded(b" from", binder_at),
     }
 }
 
 // Bytes in hex, behind a space; a dash stands for none.
 pub fn spelled(s: &[u8]) {
-    if s.len() == 0 {
+    if s.is_empty() {
         put(b" -");
         return;
     }
     put(b" ");
-    hex_bytes(s);
-}
-
-fn hex_bytes(s: &[u8]) {
-    let mut i = 0;
-    while i < s.len() {
-        hex_byte(s[i]);
-        i += 1;
+    for b in s {
+        io::print_hex(1, u64::from(*b), 2);
     }
-}
-
-fn hex_byte(b: u8) {
-    io::print_hex(1, b as u64, 2);
 }
 
 // How long lead-in and loop are, and how many nodes there are.
@@ -90,26 +78,7 @@ pub fn not(nodes: usize) {
 
 // The letters of lead-in and loop, which are the first in a witness buffer.
 pub fn course(letters: &[u16], stem: usize, cycle: usize) {
-    hex_letters(start_letters(letters, total(stem, cycle)));
-}
-
-fn total(stem: usize, cycle: usize) -> usize {
-    if stem <= 8192 {
-        if cycle <= 8192 {
-            return stem + cycle;
-        }
+    for letter in start(letters, stem.saturating_add(cycle)) {
+        hex(b' ', u64::from(*letter), 4);
     }
-    0
-}
-
-fn hex_letters(letters: &[u16]) {
-    let mut i = 0;
-    while i < letters.len() {
-        hex_letter(letters[i]);
-        i += 1;
-    }
-}
-
-fn hex_letter(letter: u16) {
-    hex(b' ', letter as u64, 4);
 }

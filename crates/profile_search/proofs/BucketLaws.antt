@@ -1,16 +1,11 @@
--- Records found by their hash. A profile's bucket is the fold that the code goes through (`fold_more`, `bucket_is`). What stands as the
--- head of a bucket is taken if it leads to a record of this bucket, and otherwise there is no such record (`head-is`, `head-none`). The
--- same profile has the same bucket, so whoever goes from the head by the links passes every record that could be the profile
--- (`ChainPassed`). The chains stay while a record's own bytes change (`chained-kept`), and three stores into spare bytes add one record
--- (`linked-records`, `chained_more`). Assumes nothing.
-use mathlib.Core.Path.{◌≡◌, sym, ap, subst, subst₂, ◌∙◌}
-use mathlib.Core.Bool.{false}
-use mathlib.Core.List.{List, map, foldl, foldl-append}
-use Prim.Native.Nat.{ℕ, ◌+◌, ◌-◌, ◌*◌, ◌/◌, ◌%◌, ◌≤◌, ◌<◌}
-use native.Mathlib.Nat.{zero-add}
-use native.Mathlib.Omega.{arith}
-use native.Mathlib.Decide.{dec_lt, ℕ_discrete}
-use borrow.Author.Count.{below_more}
+-- Records found by their hash. A profile's bucket is the fold that the code goes through (`fold_more`, `bucket_is`). The same profile has
+-- the same bucket, so whoever goes from the head by the links passes every record that could be the profile (`ChainPassed`). The chains
+-- stay while a record's own bytes change (`chained-kept`), and three stores into spare bytes add one record (`linked-records`,
+-- `chained_more`). Assumes nothing.
+use Rattle.std.proofs.Common.{◌≡◌, sym, ap, subst, subst₂, ◌∙◌, false, List, map, ℕ, ◌+◌, ◌-◌, ◌*◌, ◌/◌, ◌%◌, ◌≤◌, ◌<◌, zero-add, arith}
+use Rattle.std.proofs.Common.{below_more}
+use Rattle.std.proofs.Math.Decide.{dec_lt, ℕ_discrete}
+use mathlib.Core.List.{foldl, foldl-append}
 use Rattle.base.specs.Lists.{range}
 use Rattle.base.proofs.TestLaws.{not_of_T}
 use Rattle.base.proofs.NumberLaws.{values_add}
@@ -73,23 +68,6 @@ chained-none s b = record {
   heads = λ p h. absurd (omega arith);
 }
 
--- what stands as the head of bucket k
-module _ {s : Store} {b : List ℕ} {count : ℕ} (c : Chained s b count) (k : ℕ) {v : ℕ} (e : v ≡ head_at s b k) where
-  head_of : (p : ℕ) → p < count → bucket_at s b p ≡ k → Latest (bucket_at s b) k count v
-  head_of p h q =
-      subst (λ (u : ℕ). Latest (bucket_at s b) k count u) (sym e)
-      (subst (λ (i : ℕ). Latest (bucket_at s b) i count (head_at s b i)) q (c.heads p h))
-
-  pub head-none : (0 < v → v ≤ count → bucket_at s b (v - 1) ≡ k → ⊥) → Latest (bucket_at s b) k count 0
-  head-none d = record { among = omega arith; there = λ h. absurd (omega arith); later = λ q h m r. go q m r (dec_lt q v) (head_of q m r) }
-    where
-      go : (q : ℕ) → q < count → bucket_at s b q ≡ k → Dec (q < v) → Latest (bucket_at s b) k count v → ⊥
-      go q m r (yes h) l = d (omega arith) l.among (l.there (omega arith))
-      go q m r (no h) l = l.later q (omega arith) m r
-
-  pub head-is : 0 < v → v ≤ count → bucket_at s b (v - 1) ≡ k → Latest (bucket_at s b) k count v
-  head-is h l = head_of (v - 1) (omega arith)
-
 -- The search has come to v: the records from there on are not the profile x.
 pub record ChainPassed (s : Store) (b : List ℕ) (count : ℕ) (x : TableProfile) (v : ℕ) : Type 0 where
   pub among : v ≤ count
@@ -108,24 +86,27 @@ module _ {s : Store} {b : List ℕ} {count : ℕ} (c : Chained s b count) (x : T
   passed_start e l =
       record { among = l.among; there = λ h. l.there h ∙ e; others = λ q h m. other_bucket q m (λ r. l.later q h m (r ∙ sym e)) }
 
-  -- on from v to the link u
-  module _ {v u : ℕ} (w : ChainPassed s b count x v) (h : 0 < v) (e : u ≡ link_at s b (v - 1)) where
-    link : Latest (bucket_at s b) (bucket_at s b (v - 1)) (v - 1) u
-    link = subst (λ (i : ℕ). Latest (bucket_at s b) (bucket_at s b (v - 1)) (v - 1) i) (sym e) (c.links (v - 1) (omega (arith, w.among)))
+  -- on from record p to the link u
+  module _ {u : ℕ} (p : ℕ) (w : ChainPassed s b count x (p + 1)) (e : u ≡ link_at s b p) where
+    here : bucket_at s b p ≡ bucket_of s x
+    here = ap (bucket_at s b) {x = p} {y = p + 1 - 1} (omega arith) ∙ w.there (omega arith)
 
-    pub passed-less : u < v
+    link : Latest (bucket_at s b) (bucket_at s b p) p u
+    link = subst (λ (i : ℕ). Latest (bucket_at s b) (bucket_at s b p) p i) (sym e) (c.links p (omega (arith, w.among)))
+
+    pub passed-less : u < p + 1
     passed-less = omega (arith, link.among)
 
-    pub passed-more : Other (v - 1) → ChainPassed s b count x u
+    pub passed-more : Other p → ChainPassed s b count x u
     passed-more o =
         record {
           among = omega (arith, w.among, link.among);
-          there = λ m. link.there m ∙ w.there h;
-          others = λ q m. go q m (dec_lt q (v - 1)) (ℕ_discrete q (v - 1));
+          there = λ m. link.there m ∙ here;
+          others = λ q m. go q m (dec_lt q p) (ℕ_discrete q p);
         }
       where
-        go : (q : ℕ) → u ≤ q → Dec (q < v - 1) → Dec (q ≡ v - 1) → q < count → Other q
-        go q m (yes l) d i = other_bucket q i (λ r. link.later q m l (r ∙ sym (w.there h)))
+        go : (q : ℕ) → u ≤ q → Dec (q < p) → Dec (q ≡ p) → q < count → Other q
+        go q m (yes l) d i = other_bucket q i (λ r. link.later q m l (r ∙ sym here))
         go q m (no l) (yes r) i = subst (λ (j : ℕ). Other j) (sym r) o
         go q m (no l) (no r) i = w.others q (omega arith) i
 

@@ -3,13 +3,8 @@
 -- after the other (`grown-on`, `grown_then`). Once there is no room, whatever is still to come changes nothing (`grown-longer`), so a loop
 -- may stop there; every loop that adds the lists of rising numbers goes by `turn_more` and `turn_stop`, and may leave out empty ones
 -- (`turn_past`). Assumes nothing.
-use mathlib.Core.Path.{◌≡◌, refl, sym, ap, subst, ◌∙◌}
-use mathlib.Core.Bool.{Bool, true, false, cond, ◌||◌}
-use mathlib.Core.List.{List, [], ◌∷◌, ◌++◌, map, append-nil}
-use Prim.Native.Nat.{ℕ, zero, suc, ◌+◌, ◌-◌, ◌≤◌, ◌<◌}
-use native.Mathlib.Nat.{zero-add}
-use native.Mathlib.Omega.{arith}
-use lib.ListN.{length, get_or, length-append}
+use Rattle.std.proofs.Common.{◌≡◌, refl, sym, ap, subst, ◌∙◌, Bool, true, false, cond, ◌||◌, List, [], ◌∷◌, ◌++◌, map, append-nil, ℕ}
+use Rattle.std.proofs.Common.{zero, suc, ◌+◌, ◌-◌, ◌≤◌, ◌<◌, zero-add, arith, length, get_or, length-append}
 use Rattle.base.specs.Lists.{range, flat_map, any, At}
 use Rattle.base.specs.Spread.{seen, add, adds}
 use Rattle.base.proofs.At.{at_of}

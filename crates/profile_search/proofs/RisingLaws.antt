@@ -1,10 +1,7 @@
 -- Records that stand by rising first node, as those of one transition do (`singles-rising`). A search by halves finds how many begin before
 -- a node: all before `low` do, none from `high` on does (`Halved`), and what the record between them says moves one of the two. Assumes
 -- nothing.
-use mathlib.Core.Path.{◌≡◌, ap, subst}
-use mathlib.Core.List.{List}
-use Prim.Native.Nat.{ℕ, ◌+◌, ◌≤◌, ◌<◌}
-use native.Mathlib.Omega.{arith}
+use Rattle.std.proofs.Common.{◌≡◌, ap, subst, List, ℕ, ◌+◌, ◌≤◌, ◌<◌, arith}
 use Rattle.base.proofs.At.{At}
 use Rattle.formula.specs.Table.{Table}
 use Rattle.tableau.specs.Saturation.{Subset}

@@ -3,15 +3,10 @@
 -- `single-nowhere`). The nodes stay while records are added behind them (`given-kept`). All choice words make the profiles of a node
 -- (`of_turn`, `of_stop`, `of_done`), and all nodes but the root those of one transition (`all_turn`, `all_stop`, `all_done`). Assumes
 -- nothing.
-use mathlib.Core.Path.{◌≡◌, refl, sym, ap, subst, subst⁻¹, ◌∙◌}
-use mathlib.Core.Bool.{Bool, false, cond}
-use mathlib.Core.List.{List, [], ◌∷◌, ◌++◌, map, Memᴰ}
-use Prim.Native.Nat.{ℕ, zero, suc, ◌+◌, ◌-◌, ◌*◌, ◌^◌, ◌≤◌, ◌<◌}
-use native.Mathlib.Nat.{zero-add}
-use native.Mathlib.Omega.{arith}
-use borrow.Author.Tests.{lt-ltb}
-use lib.Dec.{eqb}
-use lib.ListN.{length, get_or}
+use Rattle.std.proofs.Common.{◌≡◌, refl, sym, ap, subst, ◌∙◌, Bool, false, cond, List, [], ◌∷◌, ◌++◌, map, ℕ, zero, suc, ◌+◌, ◌-◌, ◌*◌}
+use Rattle.std.proofs.Common.{◌^◌, ◌≤◌, ◌<◌, Option, None, Some, zero-add, arith, lt-ltb, eqb, length, get_or}
+use Rattle.std.proofs.Math.Path.{subst⁻¹}
+use mathlib.Core.List.{Memᴰ}
 use Rattle.base.specs.Bits.{bit, word}
 use Rattle.base.specs.Lists.{range, flat_map, index, tail}
 use Rattle.base.specs.Spread.{add, adds}
@@ -22,16 +17,13 @@ use Rattle.base.proofs.NumberLaws.{values_length, values_at}
 use Rattle.base.proofs.ShiftLaws.{same_low_bits}
 use Rattle.base.proofs.WordLaws.{word-bit, word_lt, word_inj}
 use Rattle.letters.specs.Requirements.{letter_of}
-use Rattle.letters.specs.declared.Requirement.{Requirement}
 use Rattle.formula.specs.Table.{Table}
 use Rattle.tableau.specs.Saturation.{Subset, same_subset, saturate}
 use Rattle.tableau.specs.Transition.{ors, choice_of, Transition, by_word, transitions}
 use Rattle.tableau.specs.Inner.{table_of, LeadsNowhere, TargetBy}
 use Rattle.tableau.specs.Area.{eight, words_at, lookup, SubsetsSized}
 use Rattle.tableau.specs.declared.NodeNumber.{NodeNumber}
-use Rattle.tableau.specs.declared.Lookup.{Lookup}
-use Rattle.tableau.specs.declared.Lookup.TheVariants.{Number, Absent}
-use Rattle.tableau.specs.declared.Target.TheVariants.{Leads}
+use Rattle.tableau.specs.declared.Target.{Target}
 use Rattle.tableau.proofs.TransitionLaws.{transition_with, to-length, transitions-by_word, word_in}
 use Rattle.tableau.proofs.WordSets.{same_word}
 use Rattle.tableau.proofs.LoopLaws.{table-length}
@@ -44,11 +36,11 @@ use Rattle.triples.specs.Inner.{triples_in}
 use Rattle.traces.specs.Inner.{TriplesOf}
 use Rattle.traces.specs.declared.Ranks.{Ranks}
 use Rattle.profile_search.specs.declared.Store.{Store}
-use Rattle.profile_search.specs.Stored.{found_of, stored, StoreFits, BytesBetween, Chained, Grown, ProfilesAdded}
+use Rattle.profile_search.specs.Stored.{found_of, stored, StoreFits, BytesBetween, Chained, Grown, AddedTo, ProfilesAdded}
 use Rattle.profile_search.specs.Singles.{subset_of, node_in, nodes_in, singles_by, SearchInput}
 use Rattle.profile_search.proofs.GrowLaws.{grown-still, with_first, turn_more, turn_stop}
 use Rattle.profile_search.proofs.BucketLaws.{chained-none}
-use Rattle.profile_search.proofs.TurnLaws.{grown-same}
+use Rattle.profile_search.proofs.TurnLaws.{grown-same, grown_to-same}
 
 -- sets and their words
 pub subset_length : (count w : ℕ) → length (subset_of count w) ≡ count
@@ -98,16 +90,18 @@ module _ {count : ℕ} {l : List Subset} {area : List ℕ} (s : SubsetsSized cou
 
 -- what the answer to a lookup says, if there is such a node
 module _ (nodes n : ℕ) (low : n < nodes) where
-  answer : lookup nodes n ≡ Number (record { 0 = n })
-  answer = ap (λ (b : Bool). cond b (Number (record { 0 = n })) Absent) (lt-ltb n nodes low)
+  answer : lookup nodes n ≡ Some (record { 0 = n })
+  answer =
+      let there : Option NodeNumber = Some (record { 0 = n }) in
+      ap (λ (b : Bool). cond b there None) (lt-ltb n nodes low)
 
-  not_absent : lookup nodes n ≡ Absent → ⊥
+  not_absent : lookup nodes n ≡ None → ⊥
   not_absent e =
       let h = answer in
       let z : ◌≡◌ {A = ℕ} 0 1 = cc in
       omega arith
 
-  the_number : (last : NodeNumber) → lookup nodes n ≡ Number last → last.0 ≡ n
+  the_number : (last : NodeNumber) → lookup nodes n ≡ Some last → last.0 ≡ n
   the_number last e = let h = answer in cc
 
 -- all choice words make the transitions of a node, and all nodes from i on theirs
@@ -190,10 +184,10 @@ module _ {rows : List ℕ} {count : ℕ} {r : Ranks} {s : Store} {nodes : ℕ} {
         grown-same (ap (λ (ys : List Transition). adds same_profile (stored s a had) (map (single_of t vs i v) ys))
         (sym (n.is v long (f ∙ node-is)))) (grown-still s had a l k)
 
-    module _ {from to : ℕ} {required : Requirement} (choice : x < 2 ^ ors t) (f : from ≡ eight a (8 * i))
-        (st : TargetBy rows count x from (Leads to required))
+    module _ {from : ℕ} {target : Target} (choice : x < 2 ^ ors t) (f : from ≡ eight a (8 * i))
+        (st : TargetBy rows count x from (Some target))
       where
-        found : StepFound t w (saturate t w v) to required
+        found : StepFound t w (saturate t w v) target
         found = a_target t w (saturate t w v) (st.is v long (f ∙ node-is))
 
         -- the transition that it is
@@ -202,7 +196,7 @@ module _ {rows : List ℕ} {count : ℕ} {r : Ranks} {s : Store} {nodes : ℕ} {
 
         -- where the area has its node
         abbrev found_number : ℕ
-        found_number = index (eqb to) (words_at a 0 nodes)
+        found_number = index (eqb target.to) (words_at a 0 nodes)
 
         found_number_is : found_number ≡ number_of vs y.to
         found_number_is =
@@ -215,29 +209,26 @@ module _ {rows : List ℕ} {count : ℕ} {r : Ranks} {s : Store} {nodes : ℕ} {
             (g.closed i h y (word_in t v x choice (subst⁻¹ (Memᴰ y) found.exists (Memᴰ.head refl))))
 
         -- it has one
-        pub single-there : {q : Lookup} → q ≡ lookup nodes found_number → q ≡ Absent → ⊥
+        pub single-there : {q : Option NodeNumber} → q ≡ lookup nodes found_number → q ≡ None → ⊥
         single-there e n = not_absent nodes found_number found_number_low (sym e ∙ n)
 
-        pub single-last : {q : Lookup} (last : NodeNumber) → q ≡ lookup nodes found_number → q ≡ Number last
+        pub single-last : {q : Option NodeNumber} (last : NodeNumber) → q ≡ lookup nodes found_number → q ≡ Some last
             → last.0 ≡ number_of vs y.to
         single-last last e n = the_number nodes found_number found_number_low last (sym e ∙ n) ∙ found_number_is
 
-        pub single-small : {q : Lookup} (last : NodeNumber) → q ≡ lookup nodes found_number → q ≡ Number last → last.0 < 65536
-        single-small last e n = omega (arith, the_number nodes found_number found_number_low last (sym e ∙ n), found_number_low, g.few)
-
-        pub single-some : {choice had q letter : ℕ} {d : List ℕ} {number last : NodeNumber} (triple_set : List ℕ) → number.0 ≡ i
-            → last.0 ≡ number_of vs y.to → letter ≡ letter_of required → choice ≡ word w
+        pub single-some : {choice letter : ℕ} {number last : NodeNumber} (had : ℕ) (q : Option ℕ) (d triple_set : List ℕ) → number.0 ≡ i
+            → last.0 ≡ number_of vs y.to → letter ≡ letter_of target.required → choice ≡ word w
             → TriplesOf rows count choice from triple_set
-            → ProfilesAdded s had a q d (found_of (record { first = number; last = last; parent = 0; letter = letter })
+            → AddedTo s had a q d (found_of (record { first = number; last = last; parent = 0; letter = letter })
             (triples_in s.n triple_set) ∷ [])
-            → ProfilesAdded s had a q d (singles_by t vs i v x)
-        single-some {had = had} triple_set e l z c k m =
-            let q : triples_in s.n triple_set ≡ triples t v w =
+            → AddedTo s had a q d (singles_by t vs i v x)
+        single-some had q d triple_set e l z c k m =
+            let same : triples_in s.n triple_set ≡ triples t v w =
             ap (λ (n : ℕ). triples_in n triple_set) (g.nexts ∙ g.ranks.nexts_are) ∙ k v w (f ∙ node-is) c in
             let u = z ∙ ap letter_of found.required-is in
-            grown-same
+            grown_to-same s had a q d
             ((λ j. add same_profile (stored s a had)
-            (record { at = record { first = e j; last = l j; triple_set = q j }; parent = 0; label = u j }))
+            (record { at = record { first = e j; last = l j; triple_set = same j }; parent = 0; label = u j }))
             ∙ ap (λ (ys : List Transition). adds same_profile (stored s a had) (map (single_of t vs i v) ys)) (sym found.exists))
             m
 

@@ -1,15 +1,8 @@
 -- What one turn adds: a profile followed by one of one transition (`longer-none`, `longer-one`), followed by each of them that begins
 -- where it ends (`extend_start`, `extend_more`, `extend_done`), and the turns of the breadth-first search over a layer of records
 -- (`Pending`). Assumes nothing.
-use mathlib.Core.Path.{◌≡◌, sym, ap, subst, ◌∙◌}
-use mathlib.Core.Bool.{Bool, cond}
-use mathlib.Core.List.{List, [], ◌∷◌}
-use Prim.Native.Nat.{ℕ, suc, ◌+◌, ◌-◌, ◌≤◌, ◌<◌}
-use native.Mathlib.Nat.{zero-add}
-use native.Mathlib.Numerals.{add-one}
-use native.Mathlib.Omega.{arith}
-use borrow.Author.Tests.{ne_eqb, eq-eqb}
-use lib.ListN.{get_or}
+use Rattle.std.proofs.Common.{◌≡◌, sym, ap, subst, ◌∙◌, Bool, cond, List, [], ◌∷◌, ℕ, suc, ◌+◌, ◌-◌, ◌≤◌, ◌<◌, Option, zero-add, add-one}
+use Rattle.std.proofs.Common.{arith, ne_eqb, eq-eqb, get_or}
 use Rattle.base.specs.Lists.{range, At}
 use Rattle.base.specs.Spread.{adds, spread}
 use Rattle.base.proofs.AppendLaws.{flat_map_map}
@@ -21,7 +14,7 @@ use Rattle.triples.proofs.CellLaws.{triples_copied}
 use Rattle.profile_search.specs.declared.Header.{Header}
 use Rattle.profile_search.specs.declared.Store.{Store}
 use Rattle.profile_search.specs.Stored.{found_of, record_start, record_of, stored, first_of, HeaderOf, Chained, Grown}
-use Rattle.profile_search.specs.Stored.{ProfilesAdded}
+use Rattle.profile_search.specs.Stored.{GrownTo, AddedTo, ProfilesAdded}
 use Rattle.profile_search.proofs.RecordLaws.{triple_set-at}
 use Rattle.profile_search.proofs.GrowLaws.{record_at, stored-kept, grown-still, grown-longer, grown_then, with_first}
 use Rattle.profile_search.proofs.GrowLaws.{turn_more, turn_stop, turn_past}
@@ -29,6 +22,11 @@ use Rattle.profile_search.proofs.GrowLaws.{turn_more, turn_stop, turn_past}
 pub grown-same : {s : Store} {count r : ℕ} {a b : List ℕ} {xs ys : List FoundProfile} → xs ≡ ys → Grown s count a r b xs
     → Grown s count a r b ys
 grown-same {s} {count} {r} {a} {b} e g = subst (Grown s count a r b) e g
+
+-- the same of a number that may be told
+pub grown_to-same : (s : Store) (count : ℕ) (a : List ℕ) (r : Option ℕ) (b : List ℕ) {xs ys : List FoundProfile} → xs ≡ ys
+    → GrownTo s count a r b xs → GrownTo s count a r b ys
+grown_to-same s count a r b e g = subst (λ (l : List FoundProfile). GrownTo s count a r b l) e g
 
 -- the record y after the record x
 module _ (n p : ℕ) (x y : FoundProfile) where
@@ -68,17 +66,17 @@ module _ (s : Store) (count : ℕ) (a : List ℕ) (p q : ℕ) where
         (apart s.n p (record_of s a p) (record_of s a q) (λ m. n (ds.last ∙ m ∙ sym es.first))))
         (grown-still s count a h c)
 
-    pub longer-one : {r x y : ℕ} {b : List ℕ} (u v t : List ℕ) → s.n ≤ 12 → d.last.0 ≡ e.first.0 → x ≡ record_start s p
+    pub longer-one : {x y : ℕ} (r : Option ℕ) (b u v t : List ℕ) → s.n ≤ 12 → d.last.0 ≡ e.first.0 → x ≡ record_start s p
         → y ≡ record_start s q
         → ((i : ℕ) → i < 144 → get_or u i 0 ≡ get_or a (x + i) 0) → ((i : ℕ) → i < 144 → get_or v i 0 ≡ get_or a (y + i) 0)
         → triples_in s.n t ≡ join s.n (triples_in s.n u) (triples_in s.n v)
-        → ProfilesAdded s count a r b (found_of (record { first = d.first; last = e.last; parent = p + 1; letter = e.letter })
+        → AddedTo s count a r b (found_of (record { first = d.first; last = e.last; parent = p + 1; letter = e.letter })
         (triples_in s.n t) ∷ [])
-        → After r b
-    longer-one {x = x} {y = y} u v t h m ex ey cu cv j g =
+        → AddedTo s count a r b (follow s.n p (record_of s a p) (record_of s a q))
+    longer-one {x = x} {y = y} r b u v t h m ex ey cu cv j g =
         let du = triples_copied s.n a u x h cu ∙ triple_set-at s a p ex in
         let dv = triples_copied s.n a v y h cv ∙ triple_set-at s a q ey in
-        grown-same (ap (adds same_profile (stored s a count))
+        grown_to-same s count a r b (ap (adds same_profile (stored s a count))
         (joins s.n p (record_of s a p) (record_of s a q) ds es m (j ∙ (λ i. join s.n (du i) (dv i))))) g
 
 -- profile p followed by the first of those of one transition

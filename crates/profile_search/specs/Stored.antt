@@ -3,7 +3,7 @@
 -- record's bucket, for 1 + the number of the record before it in this bucket (0 for none), and for the head of a chain; 34 are unused. The
 -- head of bucket k stands in record k, whether or not there is such a record yet. What the functions over these records promise. A reader
 -- of the decision's contract need not read it. Assumes nothing.
-use Rattle.std.specs.Prelude.{◌≡◌, Bool, ℕ, ◌+◌, ◌-◌, ◌*◌, ◌/◌, ◌%◌, ◌≤◌, ◌<◌, min, length, get_or}
+use Rattle.std.specs.Prelude.{◌≡◌, Bool, Option, None, Some, MatchOption, ℕ, ◌+◌, ◌-◌, ◌*◌, ◌/◌, ◌%◌, ◌≤◌, ◌<◌, min, length, get_or}
 use mathlib.Core.List.{List, map, foldl}
 use Rattle.base.specs.Bits.{bit, word}
 use Rattle.base.specs.Bytes.{number_at}
@@ -119,6 +119,11 @@ bucket_of s x = foldl mixed_row (x.first + x.last * 65536) x.triple_set / 65536 
 abbrev pub bucket_at : Store → List ℕ → ℕ → ℕ
 bucket_at s b p = two b (record_start s p + 152)
 
+-- how a record that may be there is told in another one: by 1 + its number, and by 0 if there is none
+abbrev pub link_of : Option ℕ → ℕ
+link_of None = 0
+link_of (Some p) = p + 1
+
 -- 1 + the number of the record before it in the bucket
 abbrev pub link_at : Store → List ℕ → ℕ → ℕ
 link_at s b p = two b (record_start s p + 154)
@@ -158,3 +163,11 @@ pub record Grown (s : Store) (count : ℕ) (a : List ℕ) (r : ℕ) (b : List �
 -- The same, where the list is the count records with the profiles ys too, each unless it is there.
 abbrev pub ProfilesAdded : Store → (count : ℕ) → List ℕ → (r : ℕ) → List ℕ → List FoundProfile → Type 0
 ProfilesAdded s count a r b ys = Grown s count a r b (adds same_profile (stored s a count) ys)
+
+-- The same, where the number of records is told while the store has room for the list, and none is told once it has not.
+abbrev pub GrownTo : Store → (count : ℕ) → List ℕ → Option ℕ → List ℕ → List FoundProfile → Type 0
+GrownTo s count a r b xs = MatchOption r (Grown s count a (s.capacity + 1) b xs) (λ k. (k ≤ s.capacity) × Grown s count a k b xs)
+
+-- Both: the count records with the profiles ys too, as far as there is room.
+abbrev pub AddedTo : Store → (count : ℕ) → List ℕ → Option ℕ → List ℕ → List FoundProfile → Type 0
+AddedTo s count a r b ys = GrownTo s count a r b (adds same_profile (stored s a count) ys)

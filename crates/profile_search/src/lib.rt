@@ -4,16 +4,16 @@
 ghost use Rattle.std.specs.Prelude.{◌≡◌, [], ◌∷◌, ℕ, ◌+◌, ◌*◌, ◌≤◌, ◌<◌, length, get_or};
 ghost use Rattle.base.specs.Spread.{seen};
 ghost use Rattle.profile_tables.specs.Runs.{same_profile, follow, longer, layer, singles_of, singles};
-ghost use Rattle.tableau.specs.Inner.{table_of};
+ghost use Rattle.tableau.specs.Operators.{operators};
 ghost use Rattle.triples.specs.Inner.{triples_in};
 ghost use Rattle.profile_search.specs.Stored.{two, profile_of, found_of, record_start, record_of, stored, Rising, FirstParted};
 ghost use Rattle.profile_search.specs.Stored.{HeaderFits, HeaderOf, StoreFits};
-ghost use Rattle.profile_search.specs.Stored.{BytesBetween, bits_of, row_of, mixed, mixed_row, bucket_of, bucket_at, Latest};
-ghost use Rattle.profile_search.specs.Stored.{Chained, StoreChained};
-ghost use Rattle.profile_search.specs.Stored.{Grown, ProfilesAdded, TwoWithin};
+ghost use Rattle.profile_search.specs.Stored.{BytesBetween, bits_of, row_of, mixed, mixed_row, bucket_of, bucket_at};
+ghost use Rattle.profile_search.specs.Stored.{link_of, Latest, Chained, StoreChained};
+ghost use Rattle.profile_search.specs.Stored.{GrownTo, AddedTo, TwoWithin};
 ghost use Rattle.profile_search.specs.Singles.{node_in, nodes_in, singles_by, SearchInput, NodeReady, ChoiceReady};
 
-use tableau::{Core, Lookup, NodeNumber, Target};
+use tableau::{Core, NodeNumber, Tableau};
 use traces::Ranks;
 
 // A profile's nodes, 1 + the number of the profile that it goes on from (0 for none), and its last letter.
@@ -87,11 +87,7 @@ fn store_triples(area: &mut [u8], at: usize, t: &[u8; 144])
     ensures by_index { (i : ℕ) → i < 144 → get_or area.new (at + i) 0 ≡ get_or t.now i 0 }
     ensures bytes_between { BytesBetween at (at + 144) area.old area.new }
 {
-    let mut i = 0;
-    while i < 144 {
-        area[at + i] = t[i];
-        i += 1;
-    }
+    area[at..at + 144].copy_from_slice(t);
 }
 
 // Writes record p.
@@ -105,7 +101,7 @@ fn write(area: &mut [u8], store: Store, p: usize, header: Header, t: &[u8; 144])
     put2(area, store, p, 144, header.first.0);
     put2(area, store, p, 146, header.last.0);
     put2(area, store, p, 148, header.parent);
-    put2(area, store, p, 150, base::wide16(header.letter));
+    put2(area, store, p, 150, usize::from(header.letter));
 }
 
 // Whether record p is this profile.
@@ -130,7 +126,7 @@ fn mix(sum: usize, x: u8) -> usize
     requires { sum < 4398046511104 }
     ensures { result ≡ mixed sum (bits_of x) }
 {
-    sum * 8 + base::wide(x)
+    sum * 8 + usize::from(x)
 }
 
 // The bytes of row f into a hash, modulo 2^32: the factor, a prime near 2^32 over the golden ratio, spreads them and what came before. One
@@ -140,10 +136,8 @@ fn mix_row(h: usize, t: &[u8; 144], n: usize, f: usize) -> usize
     ensures { (result < 4294967296) × (result ≡ mixed_row h (row_of t.now n f)) }
 {
     let mut sum = 0;
-    let mut g = 0;
-    while g < n {
+    for g in 0..n {
         sum = mix(sum, t[f * 12 + g]);
-        g += 1;
     }
     (h + sum) % 0x1_0000_0000 * 0x9e3779b1 % 0x1_0000_0000
 }
@@ -156,32 +150,32 @@ fn bucket(store: Store, header: Header, t: &[u8; 144]) -> usize
 {
     let n = store.n;
     let mut h = header.first.0 + header.last.0 * 65536;
-    let mut f = 0;
-    while f < n {
+    for f in 0..n {
         h = mix_row(h, t, n, f);
-        f += 1;
     }
     h / 65536 % store.capacity
 }
 
-// 1 + the number of the last record in bucket k, or 0. The area was not cleared: what stands there counts only if it leads to a record of
-// this bucket.
-fn head(area: &[u8], store: Store, count: usize, k: usize) -> usize
+// The record that an offset of record p leads to, if it leads to one.
+fn linked(area: &[u8], store: Store, p: usize, offset: usize) -> Option<usize>
+    requires { TwoWithin store p offset (length area.now) }
+    ensures { two area.now (record_start store p + offset) ≡ link_of result }
+{
+    get2(area, store, p, offset).checked_sub(1)
+}
+
+// The last record in bucket k, if there is one. The area was not cleared: what stands there counts only if it leads to a record of this
+// bucket.
+fn head(area: &[u8], store: Store, count: usize, k: usize) -> Option<usize>
     requires store_chained { StoreChained store area.now count }
     requires k_lt_capacity { k < store.capacity }
-    ensures { Latest (bucket_at store area.now) k count result }
+    ensures { Latest (bucket_at store area.now) k count (link_of result) }
 {
-    let v = get2(area, store, k, 156);
-    if v == 0 {
-        return 0;
+    let p = linked(area, store, k, 156)?;
+    if count <= p || get2(area, store, p, 152) != k {
+        return None;
     }
-    if count < v {
-        return 0;
-    }
-    if get2(area, store, v - 1, 152) != k {
-        return 0;
-    }
-    v
+    Some(p)
 }
 
 // Whether one of the records is this profile, whose bucket is k.
@@ -192,12 +186,12 @@ fn known(area: &[u8], store: Store, count: usize, k: usize, header: Header, t: &
     ensures { result ≡ seen same_profile (profile_of header (triples_in store.n t.now))
         (stored store area.now count) }
 {
-    let mut v = head(area, store, count, k);
-    while 0 < v {
-        if same_profile(area, store, v - 1, header, t) {
+    let mut at = head(area, store, count, k);
+    while let Some(p) = at {
+        if same_profile(area, store, p, header, t) {
             return true;
         }
-        v = get2(area, store, v - 1, 154);
+        at = linked(area, store, p, 154);
     }
     false
 }
@@ -211,35 +205,34 @@ fn chain(area: &mut [u8], store: Store, count: usize, k: usize)
     ensures by_index { (p : ℕ) → record_of store area.new p ≡ record_of store area.old p }
     ensures bytes_between { BytesBetween store.base (record_start store store.capacity) area.old area.new }
 {
-    let v = head(area, store, count, k);
+    let before = head(area, store, count, k).map_or(0, |p| p + 1);
     put2(area, store, count, 152, k);
-    put2(area, store, count, 154, v);
+    put2(area, store, count, 154, before);
     put2(area, store, k, 156, count + 1);
 }
 
-// How many profiles there are once this one is; capacity + 1 where there is no room for it.
-fn add(area: &mut [u8], store: Store, count: usize, header: Header, t: &[u8; 144]) -> usize
+// How many profiles there are once this one is, or none where there is no room for it.
+fn add(area: &mut [u8], store: Store, count: usize, header: Header, t: &[u8; 144]) -> Option<usize>
     requires store_chained { StoreChained store area.old count }
     requires header_fits { HeaderFits header }
-    ensures { ProfilesAdded store count area.old result area.new
+    ensures { AddedTo store count area.old result area.new
         (found_of header (triples_in store.n t.now) ∷ []) }
 {
     let k = bucket(store, header, t);
     if known(area, store, count, k, header, t) {
-        return count;
+        return Some(count);
     }
-    if count < store.capacity {
-        write(area, store, count, header, t);
-        chain(area, store, count, k);
-        return count + 1;
+    if store.capacity <= count {
+        return None;
     }
-    count + 1
+    write(area, store, count, header, t);
+    chain(area, store, count, k);
+    Some(count + 1)
 }
 
 // Adds the profile of the transition that starts there, if there is one.
 fn single(
-    rows: &[u8; 144],
-    subformulas: usize,
+    tableau: &Tableau,
     r: Ranks,
     store: Store,
     area: &mut [u8],
@@ -248,126 +241,94 @@ fn single(
     core: Core,
     from: Source,
     count: usize,
-) -> usize
-    requires node_ready { NodeReady rows.now subformulas r store nodes area.old from.number.0 count }
-    requires choice_ready { ChoiceReady rows.now subformulas area.old unmet.now core from }
-    ensures { ProfilesAdded store count area.old result area.new
-        (singles_by (table_of rows.now subformulas) (nodes_in subformulas area.old nodes) from.number.0
-        (node_in subformulas area.old from.number.0) from.word) }
+) -> Option<usize>
+    requires node_ready { NodeReady tableau.now.table.rows tableau.now.table.count r store nodes area.old from.number.0 count }
+    requires choice_ready { ChoiceReady tableau.now.table.rows tableau.now.table.count area.old unmet.now core from }
+    ensures { AddedTo store count area.old result area.new
+        (singles_by (operators tableau.now) (nodes_in tableau.now.table.count area.old nodes) from.number.0
+        (node_in tableau.now.table.count area.old from.number.0) from.word) }
 {
-    match tableau::by_word(rows, subformulas, unmet, core, from.word) {
-        Target::Nothing => count,
-        Target::Leads { to, required } => match tableau::find(area, nodes, to) {
-            Lookup::Absent => count,
-            Lookup::Number(last) => {
-                let choice = tableau::choice_of(rows, subformulas, from.word);
-                let t = traces::triples_of(rows, subformulas, r, choice, from.set);
-                let first = from.number;
-                let header = Header {
-                    first: first,
-                    last: last,
-                    parent: 0,
-                    letter: letters::letter_of(required),
-                };
-                add(area, store, count, header, &t)
-            }
-        },
-    }
+    let Some(target) = tableau.by_word(unmet, core, from.word) else {
+        return Some(count);
+    };
+    let Some(last) = tableau::find(area, nodes, target.to) else {
+        return Some(count);
+    };
+    let choice = tableau.choice_of(from.word);
+    let t = traces::triples_of(tableau, r, choice, from.set);
+    let header = Header {
+        first: from.number,
+        last,
+        parent: 0,
+        letter: letters::letter_of(target.required),
+    };
+    add(area, store, count, header, &t)
 }
 
 // Adds the profiles of the transitions of a node, by rising choice word.
 fn singles_of(
-    rows: &[u8; 144],
-    subformulas: usize,
+    tableau: &Tableau,
     r: Ranks,
     store: Store,
     area: &mut [u8],
     nodes: usize,
     number: NodeNumber,
     count: usize,
-) -> usize
-    requires { NodeReady rows.now subformulas r store nodes area.old number.0 count }
-    ensures { ProfilesAdded store count area.old result area.new
-        (singles_of (table_of rows.now subformulas) (nodes_in subformulas area.old nodes) number.0
-        (node_in subformulas area.old number.0)) }
+) -> Option<usize>
+    requires { NodeReady tableau.now.table.rows tableau.now.table.count r store nodes area.old number.0 count }
+    ensures { AddedTo store count area.old result area.new
+        (singles_of (operators tableau.now) (nodes_in tableau.now.table.count area.old nodes) number.0
+        (node_in tableau.now.table.count area.old number.0)) }
 {
     let set = tableau::node(area, number);
-    let core = tableau::core_of(rows, subformulas, set);
-    let unmet = tableau::unmet(rows, subformulas, set);
-    let end = base::power(tableau::ors(rows, subformulas));
+    let core = tableau.core_of(set);
+    let unmet = tableau.unmet(set);
+    let end = base::power(tableau.ors());
     let mut all = count;
-    let mut word = 0u64;
-    while word < end {
-        if store.capacity < all {
-            return all;
-        }
-        let from = Source {
-            number: number,
-            set: set,
-            word: word,
-        };
-        all = single(
-            rows,
-            subformulas,
-            r,
-            store,
-            area,
-            nodes,
-            &unmet,
-            core,
-            from,
-            all,
-        );
-        word += 1;
+    for word in 0..end {
+        let from = Source { number, set, word };
+        all = single(tableau, r, store, area, nodes, &unmet, core, from, all)?;
     }
-    all
+    Some(all)
 }
 
-// The profiles of one transition, of all nodes but the root in order; how many, or capacity + 1.
+// The profiles of one transition, of all nodes but the root in order; how many, or none where there is no room for them.
 pub fn singles(
-    rows: &[u8; 144],
-    subformulas: usize,
+    tableau: &Tableau,
     r: Ranks,
     store: Store,
     area: &mut [u8],
     nodes: usize,
-) -> usize
-    requires { SearchInput rows.now subformulas r store nodes area.old }
-    ensures { Grown store 0 area.old result area.new
-        (singles (table_of rows.now subformulas) (nodes_in subformulas area.old nodes)) }
+) -> Option<usize>
+    requires { SearchInput tableau.now.table.rows tableau.now.table.count r store nodes area.old }
+    ensures { GrownTo store 0 area.old result area.new
+        (singles (operators tableau.now) (nodes_in tableau.now.table.count area.old nodes)) }
 {
     let mut all = 0;
-    let mut i = 1;
-    while i < nodes {
-        if store.capacity < all {
-            return all;
-        }
-        all = singles_of(rows, subformulas, r, store, area, nodes, NodeNumber(i), all);
-        i += 1;
+    for i in 1..nodes {
+        all = singles_of(tableau, r, store, area, nodes, NodeNumber(i), all)?;
     }
-    all
+    Some(all)
 }
 
 // Adds profile p followed by profile q of one transition.
-fn longer(area: &mut [u8], store: Store, p: usize, q: usize, count: usize) -> usize
+fn longer(area: &mut [u8], store: Store, p: usize, q: usize, count: usize) -> Option<usize>
     requires store_chained { StoreChained store area.old count }
     requires p_lt_count { (p < count) × (q < count) }
-    ensures { ProfilesAdded store count area.old result area.new
+    ensures { AddedTo store count area.old result area.new
         (follow store.n p (record_of store area.old p) (record_of store area.old q)) }
 {
     let a = header_of(area, store, p);
     let b = header_of(area, store, q);
     if a.last.0 != b.first.0 {
-        return count;
+        return Some(count);
     }
     let x = triples::copied(area, record_start(store, p));
     let y = triples::copied(area, record_start(store, q));
     let t = triples::joined(&x, &y, store.n);
-    let first = a.first;
-    let last = b.last;
     let header = Header {
-        first: first,
-        last: last,
+        first: a.first,
+        last: b.last,
         parent: p + 1,
         letter: b.letter,
     };
@@ -396,44 +357,35 @@ fn begin_before(area: &[u8], store: Store, singles: usize, node: NodeNumber) -> 
 }
 
 // Adds profile p followed by each of the `singles` profiles of one transition: those that begin where it ends stand together.
-fn extend(area: &mut [u8], store: Store, p: usize, singles: usize, count: usize) -> usize
+fn extend(area: &mut [u8], store: Store, p: usize, singles: usize, count: usize) -> Option<usize>
     requires store_chained { StoreChained store area.old count }
     requires rising { Rising store area.old singles }
     requires p_lt_count { (p < count) × (singles ≤ count) }
-    ensures { ProfilesAdded store count area.old result area.new
+    ensures { AddedTo store count area.old result area.new
         (longer store.n (stored store area.old singles) p (record_of store area.old p)) }
 {
     let e = header_of(area, store, p);
     let end = begin_before(area, store, singles, NodeNumber(e.last.0 + 1));
+    let first = begin_before(area, store, singles, e.last);
     let mut all = count;
-    let mut q = begin_before(area, store, singles, e.last);
-    while q < end {
-        if store.capacity < all {
-            return all;
-        }
-        all = longer(area, store, p, q, all);
-        q += 1;
+    for q in first..end {
+        all = longer(area, store, p, q, all)?;
     }
-    all
+    Some(all)
 }
 
 // Adds what the profiles from number `from` up to number `to` lead to: where these are all of runs of one length, the profiles of runs that
-// are longer by one. How many there are then, or capacity + 1.
-pub fn layer(area: &mut [u8], store: Store, from: usize, to: usize, singles: usize) -> usize
+// are longer by one. How many there are then, or none where there is no room for them.
+pub fn layer(area: &mut [u8], store: Store, from: usize, to: usize, singles: usize) -> Option<usize>
     requires store_chained { StoreChained store area.old to }
     requires rising { Rising store area.old singles }
     requires from_le_to { (from ≤ to) × (singles ≤ to) }
-    ensures { Grown store to area.old result area.new
+    ensures { GrownTo store to area.old result area.new
         (layer store.n (stored store area.old singles) from to (stored store area.old to)) }
 {
     let mut all = to;
-    let mut p = from;
-    while p < to {
-        if store.capacity < all {
-            return all;
-        }
-        all = extend(area, store, p, singles, all);
-        p += 1;
+    for p in from..to {
+        all = extend(area, store, p, singles, all)?;
     }
-    all
+    Some(all)
 }

@@ -1,19 +1,13 @@
 -- One pair more in a relation: the bits of two pairs of numbers below 1,024 stand at one index of one word only if the pairs are the same,
 -- since a number is settled by its quotient and its remainder (`related_more`). Where all words are 0 no bit is set (`none_related`). A
 -- block copied into words that relate nothing has what it had: behind it nothing is related in either list (`widened`). Assumes nothing.
-use mathlib.Core.Path.{◌≡◌, sym, ap, ◌∙◌}
-use mathlib.Core.Logic.{◌⊎◌, inl, inr}
-use mathlib.Core.Bool.{Bool, true, false, cond, ◌&&◌, ◌||◌, and-false, or-false, or-true}
-use mathlib.Core.List.{List}
-use Prim.Native.Nat.{ℕ, ◌+◌, ◌*◌, ◌/◌, ◌%◌, ◌≤◌, ◌<◌}
-use native.Mathlib.Omega.{arith}
-use native.Mathlib.Decide.{dec_lt, ℕ_discrete}
-use lib.Dec.{eqb, ltb}
-use lib.ListN.{length, get_or, set, replicate, length-replicate, get_or-replicate, get_or-eq_default}
-use lib.Seq.{get_or-set_same, get_or-set_other}
-use borrow.Author.Tests.{eq-eqb, ne_eqb, lt-ltb, le-ltb}
+use Rattle.std.proofs.Common.{◌≡◌, sym, ap, ◌∙◌, ◌⊎◌, inl, inr, Bool, true, false, cond, ◌&&◌, ◌||◌, List, ◌++◌, ℕ, ◌+◌, ◌-◌, ◌*◌, ◌/◌}
+use Rattle.std.proofs.Common.{◌%◌, ◌≤◌, ◌<◌, arith, eqb, ltb, length, get_or, set, drop, replicate, get_or-append-add, get_or-drop}
+use Rattle.std.proofs.Common.{get_or-set_same, get_or-set_other, eq-eqb, ne_eqb, lt-ltb, le-ltb}
+use Rattle.std.proofs.Math.Bool.{and-false, or-false, or-true}
+use Rattle.std.proofs.Math.Decide.{dec_lt, ℕ_discrete}
+use Rattle.std.proofs.Math.ListN.{length-replicate, get_or-append, get_or-replicate, get_or-eq_default}
 use Rattle.base.specs.Bits.{bit}
-use Rattle.base.proofs.FillLaws.{Filled, filled-below, filled-above}
 use Rattle.base.proofs.WordLaws.{no-bit}
 use Rattle.relation.specs.Relation.{block_words, linked, Related, Unrelated, Widened}
 
@@ -127,26 +121,37 @@ none_related n = record { is = none }
         ]
 
 -- A block copied into words that related nothing.
-module _ {i : ℕ} (r l l' : List ℕ) (long : length r ≡ block_words) (nothing : Unrelated l)
-    (f : Filled 0 (λ (k : ℕ). get_or r k 0) i l l') (upto : i ≤ 1024) (done : 1024 ≤ i) where
-  -- in the block, and behind it
-  near_same : (u a : ℕ) → u < 1024 → a < 1024 → linked l' u a ≡ linked r u a
+module _ (r l : List ℕ) (long : length r ≡ block_words) (nothing : Unrelated l) where
+  abbrev copied : List ℕ
+  copied = r ++ drop block_words l
+
+  -- behind the block
+  far_word : (k : ℕ) → block_words ≤ k → get_or copied k 0 ≡ get_or l k 0
+  far_word k h =
+      let i = k - block_words in
+      ap (λ (n : ℕ). get_or copied n 0) {x = k} {y = length r + i} (omega (arith, long))
+      ∙ get_or-append-add r (drop block_words l) i 0
+      ∙ get_or-drop block_words l i 0
+      ∙ ap (λ (n : ℕ). get_or l n 0) {x = block_words + i} {y = k} (omega arith)
+
+  near_same : (u a : ℕ) → u < 1024 → a < 1024 → linked copied u a ≡ linked r u a
   near_same u a h k =
       elim (dec_lt a 64) [
         | yes b ↦
-            linked-bit l' u a h k ∙ ap (λ (x : ℕ). bit x (a % 64)) (filled-below f (word_of u a) (omega arith))
+            linked-bit copied u a h k
+            ∙ ap (λ (x : ℕ). bit x (a % 64)) (get_or-append r (drop block_words l) 0 (word_of u a) (omega (arith, long)))
             ∙ sym (linked-bit r u a h k)
         | no b ↦
-            linked-bit l' u a h k ∙ ap (λ (x : ℕ). bit x (a % 64)) (filled-above f (word_of u a) (omega arith))
+            linked-bit copied u a h k ∙ ap (λ (x : ℕ). bit x (a % 64)) (far_word (word_of u a) (omega arith))
             ∙ sym (linked-bit l u a h k) ∙ nothing.is u a
-            ∙ sym (zero_unlinked r u a h k (get_or-eq_default r 0 {n = word_of u a} (omega arith)))
+            ∙ sym (zero_unlinked r u a h k (get_or-eq_default r 0 {n = word_of u a} (omega (arith, long))))
       ]
 
-  pub widened : Widened r l'
+  pub widened : Widened r copied
   widened = record {
     is = λ u a.
         elim (near_or_far u a) [
           | inl (h, k) ↦ near_same u a h k
-          | inr e ↦ linked_far l' u a e ∙ sym (linked_far r u a e)
+          | inr e ↦ linked_far copied u a e ∙ sym (linked_far r u a e)
         ];
   }

@@ -30,9 +30,5 @@ pub fn widen(small: &[u64], large: &mut [u64])
     requires unrelated { Unrelated large.old }
     ensures { Widened small.now large.new }
 {
-    let mut i = 0;
-    while i < BLOCK_WORDS {
-        large[i] = small[i];
-        i += 1;
-    }
+    large[..BLOCK_WORDS].copy_from_slice(small);
 }

@@ -3,7 +3,7 @@
 -- nothing.
 use mathlib.Core.Path.{◌≡◌, refl, sym, ap, subst, ◌∙◌}
 use mathlib.Core.List.{List, ◌++◌, map, map-append}
-use mathlib.Core.Option.{Option, none, some}
+use Rattle.std.specs.Prelude.{Option, None, Some, Ok}
 use Prim.Native.Nat.{ℕ, ◌+◌, ◌≤◌, ◌<◌}
 use native.Mathlib.Omega.{arith}
 use lib.ListN.{length, drop, length-append, length-map}
@@ -23,7 +23,6 @@ use Rattle.witness.proofs.StemLaws.{origins-noted, stem_is}
 use Rattle.witness.proofs.WriteLaws.{over-both}
 use Rattle.safety.specs.Safety.{Verdict, chosen, conclude}
 use Rattle.safety.specs.Inner.{node, CycleThere, CycleWritten, CourseWritten, concluded, NodesReady, Answers}
-use Rattle.safety.specs.declared.Verdict as code
 use Rattle.safety.specs.declared.Verdict.TheVariants.{Satisfiable, Unsatisfiable}
 use Rattle.safety.proofs.FirstCycle.{found-closed, found-foremost}
 use Rattle.safety.proofs.ShortCourse.{foremost-short}
@@ -49,12 +48,12 @@ module _ (rows : List ℕ) (count : ℕ) {known : ℕ} {area slots o rel : List 
   ready_steps = relation_steps rows count r.known_is r.words_are r.noted r.there.few r.long
 
   -- no closed walk: the cycle that was chosen would be one
-  nothing-chosen : numbers.Acyclic rel known → chosen t ≡ none
+  nothing-chosen : numbers.Acyclic rel known → chosen t ≡ None
   nothing-chosen a = by (chosen t) refl
     where
-      by : (x : Option (Item Transition Subset)) → chosen t ≡ x → chosen t ≡ none
-      by none e = e
-      by (some x) e =
+      by : (x : Option (Item Transition Subset)) → chosen t ≡ x → chosen t ≡ None
+      by None e = e
+      by (Some x) e =
           let c = found-closed t e in
           let (j, h, q) = reachable-number t c.reachable in
           let k : j < known = omega (arith, r.known_is) in
@@ -62,12 +61,12 @@ module _ (rows : List ℕ) (count : ℕ) {known : ℕ} {area slots o rel : List 
           absurd (a.none j (length x.way) c.some_step
           (omega (arith, r.known_is, foremost-short t (found-foremost t e))) w)
 
-  pub told_not : numbers.Acyclic rel known → {l : List ℕ} → Answers (concluded t) l l (Unsatisfiable known)
+  pub told_not : numbers.Acyclic rel known → {l : List ℕ} → Answers (concluded t) l l (Ok (Unsatisfiable known))
   unfolding letter_of
   told_not a {l} =
       let e : concluded t ≡ Verdict.unsatisfiable known =
       ap (conclude (nodes t)) (nothing-chosen a) ∙ ap Verdict.unsatisfiable (sym r.known_is) in
-      subst (λ (v : Verdict). Answers v l l (Unsatisfiable known)) (sym e) (record { answered = refl; buffered = refl })
+      subst (λ (v : Verdict). Answers v l l (Ok (Unsatisfiable known))) (sym e) (record { answered = refl; buffered = refl })
 
   -- a shortest closed walk
   module _ {v L : ℕ} {steps : List ℕ} (s : numbers.Shortest rel known v L steps) where
@@ -96,7 +95,7 @@ module _ (rows : List ℕ) (count : ℕ) {known : ℕ} {area slots o rel : List 
 
     -- Theorem: what is written is the witness, and the lengths are its own.
     pub told-met : {before after : List ℕ} {n : ℕ} → buffer ≡ length before → CourseWritten t o v L before after n
-        → Answers (concluded t) before after (Satisfiable n L known)
+        → Answers (concluded t) before after (Ok (Satisfiable n L known))
     unfolding letter_of
     told-met {before} {after} {n} b c =
         let rs = stem t (node t v) in
@@ -107,7 +106,7 @@ module _ (rows : List ℕ) (count : ℕ) {known : ℕ} {area slots o rel : List 
         ap (conclude (nodes t)) e
         ∙ (λ i. Verdict.satisfiable (length (p i)) (length (q i)) (node_count t) (map letter (p i ++ q i)))
         ∙ (λ i. Verdict.satisfiable (stem-n i) (c.closed.long i) (sym r.known_is i) (map letter (rs ++ ss))) in
-        subst (λ (w : Verdict). Answers w before after (Satisfiable n L known)) (sym is)
+        subst (λ (w : Verdict). Answers w before after (Ok (Satisfiable n L known))) (sym is)
         (record { answered = refl; buffered = filled })
       where
         xs : List ℕ

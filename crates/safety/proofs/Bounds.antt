@@ -4,7 +4,7 @@
 use mathlib.Core.Path.{◌≡◌, refl, subst⁻¹}
 use mathlib.Core.List.{List, [], ◌∷◌}
 use mathlib.Core.Bool.{cond}
-use mathlib.Core.Option.{some}
+use Rattle.std.specs.Prelude.{Some, Ok, Err}
 use Prim.Native.Nat.{ℕ, ◌+◌, ◌*◌, ◌≤◌, ◌<◌}
 use native.Mathlib.Omega.{arith}
 use lib.ListN.{length}
@@ -20,10 +20,10 @@ use Rattle.formula.proofs.WellFormed.{table-size}
 use Rattle.profile.specs.Profiles.{is_least}
 use Rattle.construction.specs.Construction.{max_nodes, node_count}
 use Rattle.safety.specs.Safety.{Verdict, first_least, verdict}
-use Rattle.safety.specs.Contract.{says, Decided}
-use Rattle.safety.specs.declared.Shortage.{Shortage}
-use Rattle.safety.specs.declared.Verdict as code
-use Rattle.safety.specs.declared.Verdict.TheVariants.{Satisfiable, Unsatisfiable, Refused, LeastAt, Unread}
+use Rattle.safety.specs.Contract.{Answer, says, Decided}
+use Rattle.construction.specs.declared.Question.{Question}
+use Rattle.safety.specs.declared.Verdict.TheVariants.{Satisfiable, Unsatisfiable}
+use Rattle.safety.specs.declared.Refusal.TheVariants.{LeastAt, No, Unread}
 use Rattle.safety.proofs.VerdictLaws.{Concluded, VerdictCases, verdict-answered}
 
 -- the numbers of an answer with at most N nodes
@@ -32,12 +32,12 @@ pub record Sized (N stem cycle K : ℕ) : Type 0 where
   pub together : stem + cycle ≤ K
   pub cycle-some : 0 < cycle
 
-abbrev pub Bounded : (N : ℕ) → code.Verdict → Type 0
-Bounded N (Satisfiable stem cycle K) = Sized max_nodes stem cycle K × (K ≤ N)
-Bounded N (Unsatisfiable K) = (K ≤ max_nodes) × (K ≤ N)
-Bounded N (Refused s) = Unit {0}
-Bounded N (LeastAt place) = place ≤ 96
-Bounded N (Unread why) = PlacesWithin 97 why
+abbrev pub Bounded : (N : ℕ) → Answer → Type 0
+Bounded N (Ok (Satisfiable stem cycle K)) = Sized max_nodes stem cycle K × (K ≤ N)
+Bounded N (Ok (Unsatisfiable K)) = (K ≤ max_nodes) × (K ≤ N)
+Bounded N (Err (No q)) = Unit {0}
+Bounded N (Err (LeastAt place)) = place ≤ 96
+Bounded N (Err (Unread why)) = PlacesWithin 97 why
 
 -- a place of 43 has at most two bytes for each operator before it
 width_small : (o : Operator) → width o ≤ 2
@@ -48,10 +48,10 @@ width_small (Operator.pair o l r) = omega arith
 width_small (Operator.next g) = omega arith
 width_small (Operator.fix g l) = omega arith
 
-least-early : (p : ℕ) (t : Table) {place : ℕ} → first_least p t ≡ some place → place ≤ p + 2 * length t
+least-early : (p : ℕ) (t : Table) {place : ℕ} → first_least p t ≡ Some place → place ≤ p + 2 * length t
 least-early p [] e = absurd (let z : ◌≡◌ {A = ℕ} 0 1 = cc in omega arith)
 least-early p (o ∷ t) {place} e =
-    by_test (is_least o) (λ b. cond b (some p) (first_least (p + width o) t) ≡ some place → place ≤ p + 2 * length (o ∷ t))
+    by_test (is_least o) (λ b. cond b (Some p) (first_least (p + width o) t) ≡ Some place → place ≤ p + 2 * length (o ∷ t))
     (λ h q. let i : p ≡ place = cc in omega arith)
     (λ h q. omega (arith, least-early (p + width o) t q, width_small o))
     e
@@ -66,9 +66,9 @@ concluded_bounded N t h k o (Concluded.unmet n) = (omega arith, k)
 pub verdict_bounded : (N workspace buffer : ℕ) (bytes : List ℕ) → Bounded N (says (verdict N workspace buffer bytes))
 verdict_bounded N workspace buffer bytes = by refl (verdict-answered N workspace buffer bytes)
   where
-    asked_bounded : {Question : Type 0} {s : Shortage} {After : Verdict → Type 0}
-        → (Question → (o : Verdict) → After o → Bounded N (says o))
-        → (o : Verdict) → Asked Question (Verdict.refused s) After o → Bounded N (says o)
+    asked_bounded : {Asks : Type 0} {q : Question} {After : Verdict → Type 0}
+        → (Asks → (o : Verdict) → After o → Bounded N (says o))
+        → (o : Verdict) → Asked Asks (Verdict.refused q) After o → Bounded N (says o)
     asked_bounded f = every_outcome (λ (o : Verdict). Bounded N (says o)) tt f
 
     by : {r : Reading Formula} {o : Verdict} → parse bytes ≡ r → VerdictCases N workspace buffer r o → Bounded N (says o)
@@ -79,5 +79,5 @@ verdict_bounded N workspace buffer bytes = by refl (verdict-answered N workspace
         asked_bounded (λ r. asked_bounded (λ _. asked_bounded (λ _. asked_bounded (λ k o c.
         concluded_bounded N (table f) r.1 k o c)))) o d
 
-pub decided_bounded : {bytes : List ℕ} {N : ℕ} {w w' b b' : List ℕ} {v : code.Verdict} → Decided bytes N w w' b b' v → Bounded N v
+pub decided_bounded : {bytes : List ℕ} {N : ℕ} {w w' b b' : List ℕ} {v : Answer} → Decided bytes N w w' b b' v → Bounded N v
 decided_bounded {bytes} {N} {w} {b = b} d = subst⁻¹ (Bounded N) d.answered (verdict_bounded N (length w) (length b) bytes)

@@ -5,7 +5,7 @@
 use mathlib.Core.Path.{◌≡◌, refl, sym, ap, subst, subst⁻¹, ◌∙◌}
 use mathlib.Core.Logic.{inl, inr}
 use mathlib.Core.List.{List, [], ◌∷◌, map}
-use mathlib.Core.Option.{Option, none, some}
+use Rattle.std.specs.Prelude.{Option, None, Some}
 use Prim.Native.Nat.{ℕ, ◌+◌, ◌≤◌, ◌<◌}
 use native.Mathlib.Omega.{arith}
 use native.Mathlib.Decide.{dec_lt}
@@ -28,12 +28,12 @@ use Rattle.tableau.specs.Origins.{way_letters}
 use Rattle.tableau.specs.Inner.{table_of}
 use Rattle.tableau.proofs.NodeLaws.{by_way, Nearer, nodes_sorted, stem, stem_of, stem-leads, stem-first}
 use Rattle.tableau.proofs.ForemostLaws.{StandsFirst, foremost_of, one-foremost, standing_nearer, standing_by_stem, standing_by_cycle}
-use Rattle.theory.proofs.Walks.{Walk, along_walk}
+use Rattle.theory.proofs.Walks.{along_walk}
 use Rattle.construction.specs.Construction.{node_count}
 use Rattle.safety.specs.Safety.{Verdict, cycle_of, chosen, conclude, decide}
 use Rattle.safety.specs.Closed.{ClosedRun}
 use Rattle.safety.specs.Inner.{node, CycleThere, FirstClosed}
-use Rattle.safety.specs.declared.Shortage.TheVariants.{Nodes}
+use Rattle.construction.specs.declared.Question.TheVariants.{Nodes}
 use Rattle.safety.proofs.FirstCycle.{cycle-first, cycle-none, found_none, found-foremost}
 use Rattle.safety.proofs.ShortCourse.{walk_along, foremost-short}
 use Rattle.safety.proofs.NumberWalks.{number-reachable, reachable-number, walk_of, walk_in}
@@ -81,14 +81,14 @@ module _ (t : Table) where
 
   -- what the definition chooses is the first of all
   pub chosen_is : {rs ss : List Transition} → Foremost t (ClosedRun t) rs ss
-      → (x : Item Transition Subset) × (chosen t ≡ some x) × (stem t x.at ≡ rs) × (x.way ≡ ss)
+      → (x : Item Transition Subset) × (chosen t ≡ Some x) × (stem t x.at ≡ rs) × (x.way ≡ ss)
   unfolding chosen
   chosen_is {rs} {ss} f = by (chosen t) refl
     where
       by : (o : Option (Item Transition Subset)) → chosen t ≡ o
-          → (x : Item Transition Subset) × (o ≡ some x) × (stem t x.at ≡ rs) × (x.way ≡ ss)
-      by none e = absurd (found_none t e _ ss f.is_one.counts)
-      by (some x) e =
+          → (x : Item Transition Subset) × (o ≡ Some x) × (stem t x.at ≡ rs) × (x.way ≡ ss)
+      by None e = absurd (found_none t e _ ss f.is_one.counts)
+      by (Some x) e =
           let q = one-foremost t (ClosedRun t) (λ v rs c. c.back) (found-foremost t e) f in
           (x, refl, q.0, q.1)
 
@@ -164,10 +164,10 @@ module _ (rows : List ℕ) (count : ℕ) {known : ℕ} {area slots steps : List 
   first-closed = by (cycle_of u (node u v)) refl
     where
       by : (o : Option (Item Transition Subset)) → cycle_of u (node u v) ≡ o → (ss : List Transition) × FirstClosed u (node u v) L ss
-      by none e =
+      by None e =
           let (ss, l, w) = walk_of rows count c.known_is c.words_are c.noted c.shortest.closed in
           absurd (cycle-none u (node u v) e ss (walk_along u w) (omega (arith, c.shortest.positive)))
-      by (some x) e =
+      by (Some x) e =
           let k = cycle-first u (node u v) e in
           let (ss, l, w) = walk_of rows count c.known_is c.words_are c.noted c.shortest.closed in
           let ahead = k.foremost ss (walk_along u w) (omega (arith, c.shortest.positive)) in

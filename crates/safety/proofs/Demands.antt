@@ -8,7 +8,7 @@
 use mathlib.Core.Path.{◌≡◌, refl, sym, subst, subst⁻¹, ◌∙◌}
 use mathlib.Core.Logic.{◌⊎◌, inl, inr, ◌↔◌}
 use mathlib.Core.Bool.{true}
-use mathlib.Core.Option.{none, some}
+use Rattle.std.specs.Prelude.{None, Some}
 use mathlib.Core.List.{List}
 use Prim.Native.Nat.{ℕ, ◌+◌, ◌*◌, ◌≤◌}
 use native.Mathlib.Omega.{arith}
@@ -25,11 +25,11 @@ use Rattle.profile.specs.Cycle.{AcceptingCycle}
 use Rattle.theory.proofs.Soundness.{lasso_of}
 use Rattle.theory.proofs.ReadLaws.{AcceptingRun, run-such, run_holds, no-lasso}
 use Rattle.construction.specs.Construction.{node_count}
-use Rattle.safety.specs.declared.Shortage.{Shortage}
-use Rattle.safety.specs.declared.Shortage.TheVariants.{Capacity, Workspace, Buffer, Nodes}
+use Rattle.construction.specs.declared.Question.{Question}
 use Rattle.safety.specs.Safety.{Verdict, first_least, verdict}
 use Rattle.safety.specs.Closed.{ClosedRun}
-use Rattle.safety.specs.Contract.{shortage_code, number_of}
+use Rattle.construction.specs.Questions.{question_code}
+use Rattle.safety.specs.Contract.{number_of}
 use Rattle.safety.proofs.FirstCycle.{none-some}
 use Rattle.safety.proofs.EveryCycle.{Greatest, none-least, greatest-none, closed-accepting, accepting-closed}
 use Rattle.safety.proofs.LeastPlace.{LeastPlace, least-placed, least-found}
@@ -84,10 +84,14 @@ pub record Least (bytes : List ℕ) (place : ℕ) : Type 0 where
   pub reads : parse bytes ≡ Reading.accepted formula
   pub placed : LeastPlace bytes (table formula) place
 
+-- a refusal is that of one of the questions 11 to 14
+abbrev pub OfRoom : Question → Type 0
+OfRoom q = (11 ≤ question_code q) × (question_code q ≤ 14)
+
 abbrev pub Says : (bytes : List ℕ) → Verdict → Type 0
 Says bytes (Verdict.unread why) = parse bytes ≡ Reading.refused why
 Says bytes (Verdict.least_at place) = Least bytes place
-Says bytes (Verdict.refused s) = Unit {0}
+Says bytes (Verdict.refused q) = OfRoom q
 Says bytes (Verdict.satisfiable stem cycle K letters) = Met bytes stem cycle K letters
 Says bytes (Verdict.unsatisfiable K) = Unmet bytes K
 
@@ -127,13 +131,14 @@ module _ (bytes : List ℕ) (f : Formula) (reads : parse bytes ≡ Reading.accep
   concluded-says g (Concluded.unmet n) =
       record { formula = f; reads = reads; greatest = g; none_holds = none-meets n; nodes_counted = refl }
 
-  asked-says : {Question : Type 0} {s : Shortage} {After : Verdict → Type 0} → ((o : Verdict) → After o → Says bytes o)
-      → (o : Verdict) → Asked Question (Verdict.refused s) After o → Says bytes o
-  asked-says s = every_outcome (Says bytes) tt (λ q. s)
+  asked-says : {Asks : Type 0} {q : Question} {After : Verdict → Type 0} → OfRoom q → ((o : Verdict) → After o → Says bytes o)
+      → (o : Verdict) → Asked Asks (Verdict.refused q) After o → Says bytes o
+  asked-says n s = every_outcome (Says bytes) n (λ h. s)
 
   decided-says : Greatest (table f) → {N workspace buffer : ℕ} {o : Verdict} → DecidedCases N workspace buffer (table f) o
       → Says bytes o
-  decided-says g {o = o} d = asked-says (asked-says (asked-says (asked-says (λ o c. concluded-says g c)))) o d
+  decided-says g {o = o} d = asked-says (omega arith, omega arith) (asked-says (omega arith, omega arith)
+      (asked-says (omega arith, omega arith) (asked-says (omega arith, omega arith) (λ o c. concluded-says g c)))) o d
 
 pub one-formula : {f g : Formula} → Reading.accepted f ≡ Reading.accepted g → f ≡ g
 one-formula e = cc
@@ -152,16 +157,10 @@ pub data Number : ℕ → Type 0 where
   of_room : (n : ℕ) → 11 ≤ n → n ≤ 14 → Number n
   of_least : Number 43
 
-shortage_number : (s : Shortage) → Number (shortage_code s)
-shortage_number Capacity = of_room 11 (omega arith) (omega arith)
-shortage_number Workspace = of_room 12 (omega arith) (omega arith)
-shortage_number Buffer = of_room 13 (omega arith) (omega arith)
-shortage_number Nodes = of_room 14 (omega arith) (omega arith)
-
 numbered : (bytes : List ℕ) (o : Verdict) → Says bytes o → Number (number_of o)
 numbered bytes (Verdict.unread why) s = let r = parse_stopped bytes s in of_reading (code_of why) r.some r.known
 numbered bytes (Verdict.least_at place) s = of_least
-numbered bytes (Verdict.refused c) s = shortage_number c
+numbered bytes (Verdict.refused q) s = of_room (question_code q) s.0 s.1
 numbered bytes (Verdict.satisfiable stem cycle K letters) s = answer
 numbered bytes (Verdict.unsatisfiable K) s = answer
 
@@ -212,8 +211,8 @@ module _ (N workspace buffer : ℕ) (bytes : List ℕ) where
   -- what the verdict on a formula can be
   abbrev ReadCases : Formula → Verdict → Type 0
   ReadCases f o =
-      ((place : ℕ) × (first_least 0 (table f) ≡ some place) × (o ≡ Verdict.least_at place))
-      ⊎ ((first_least 0 (table f) ≡ none) × DecidedCases N workspace buffer (table f) o)
+      ((place : ℕ) × (first_least 0 (table f) ≡ Some place) × (o ≡ Verdict.least_at place))
+      ⊎ ((first_least 0 (table f) ≡ None) × DecidedCases N workspace buffer (table f) o)
 
   read_of : {f : Formula} {o : Verdict} → VerdictCases N workspace buffer (Reading.accepted f) o → ReadCases f o
   read_of (VerdictCases.least {place = place} q) = inl (place, q, refl)
@@ -238,7 +237,7 @@ module _ (N workspace buffer : ℕ) (bytes : List ℕ) where
         same : {place : ℕ} (r : Least bytes place) → r.formula ≡ f
         same r = one-formula (sym r.reads ∙ reads)
 
-        by : ReadCases f given → (place : ℕ) × (first_least 0 (table f) ≡ some place) → (place : ℕ) × (given ≡ Verdict.least_at place)
+        by : ReadCases f given → (place : ℕ) × (first_least 0 (table f) ≡ Some place) → (place : ℕ) × (given ≡ Verdict.least_at place)
         by (inl (place, q, e)) h = (place, e)
         by (inr (q, d)) h = absurd (none-some (sym q ∙ h.1))
 

@@ -3,7 +3,7 @@
 -- (`closed-accepting`, `accepting-closed`). `first_least` finds no place exactly then (`none-least`, `greatest-none`). Assumes nothing.
 use mathlib.Core.Path.{◌≡◌, refl, ap, subst, ◌∙◌}
 use mathlib.Core.Bool.{Bool, false, cond}
-use mathlib.Core.Option.{none, some}
+use Rattle.std.specs.Prelude.{None, Some}
 use mathlib.Core.List.{List, [], ◌∷◌}
 use Prim.Native.Nat.{ℕ, zero, suc, ◌+◌, ◌<◌}
 use native.Mathlib.Omega.{arith}
@@ -27,11 +27,11 @@ abbrev pub Greatest : Table → Type 0
 Greatest t = (e : ℕ) → is_least (operator t e) ≡ false
 
 -- Theorem: where no place is found, no operator is a least fixpoint.
-pub none-least : (p : ℕ) (t : Table) → first_least p t ≡ none → Greatest t
+pub none-least : (p : ℕ) (t : Table) → first_least p t ≡ None → Greatest t
 none-least p [] q e = refl
 none-least p (o ∷ t) q e =
     by_test (is_least o)
-    (λ b. cond b (some p) (first_least (p + width o) t) ≡ none → is_least o ≡ b → is_least (operator (o ∷ t) e) ≡ false)
+    (λ b. cond b (Some p) (first_least (p + width o) t) ≡ None → is_least o ≡ b → is_least (operator (o ∷ t) e) ≡ false)
     (λ h r d. let z : ◌≡◌ {A = ℕ} 0 1 = cc in absurd (omega arith))
     (λ h r d. at e d (none-least (p + width o) t r))
     q refl
@@ -41,10 +41,10 @@ none-least p (o ∷ t) q e =
     at (suc e) d g = g e
 
 -- Theorem: and where none is, no place is found.
-pub greatest-none : (p : ℕ) (t : Table) → Greatest t → first_least p t ≡ none
+pub greatest-none : (p : ℕ) (t : Table) → Greatest t → first_least p t ≡ None
 greatest-none p [] g = refl
 greatest-none p (o ∷ t) g =
-    ap (λ (b : Bool). cond b (some p) (first_least (p + width o) t)) (g 0) ∙ greatest-none (p + width o) t (λ e. g (suc e))
+    ap (λ (b : Bool). cond b (Some p) (first_least (p + width o) t)) (g 0) ∙ greatest-none (p + width o) t (λ e. g (suc e))
 
 module _ (t : Table) (greatest : Greatest t) where
   pub no-rejecting : (xs : List Triple) → Rejecting t xs → ⊥

@@ -6,7 +6,7 @@ use mathlib.Core.Path.{◌≡◌, refl}
 use mathlib.Core.List.{List, [], ◌∷◌, map}
 use Prim.Native.Nat.{ℕ}
 use Rattle.formula.specs.Refusal.{unguarded}
-use Rattle.safety.specs.declared.Shortage.TheVariants.{Capacity, Workspace, Buffer, Nodes}
+use Rattle.construction.specs.declared.Question.TheVariants.{Capacity, Workspace, Buffer, Nodes}
 use Rattle.safety.specs.Safety.{Verdict, verdict}
 
 pub record Example : Type 0 where

@@ -5,8 +5,9 @@
 -- is kept, no reachable node has a closed run (`found_none`). Assumes nothing.
 use mathlib.Core.Path.{◌≡◌, refl, sym, ap, subst, subst⁻¹, ◌∙◌}
 use mathlib.Core.Logic.{◌⊎◌, inl, inr}
-use mathlib.Core.Bool.{Bool, cond}
-use mathlib.Core.Option.{Option, none, some}
+use mathlib.Core.Bool.{Bool, cond, true, false}
+use mathlib.Core.Option.{none, some}
+use Rattle.std.specs.Prelude.{Option, None, Some, find}
 use mathlib.Core.List.Memᴰ
 use mathlib.Core.List.{List, [], ◌∷◌, map, Memᴰ}
 use Prim.Native.Nat.{ℕ, ◌≤◌, ◌<◌}
@@ -16,6 +17,7 @@ use lib.ListN.{length, length-append}
 use Rattle.base.specs.Order.{NoLater}
 use Rattle.base.specs.Search.{Item}
 use Rattle.base.proofs.BoolLaws.{by_test}
+use Rattle.base.specs.Lists.{first}
 use Rattle.base.proofs.FirstLaws.{first-none, Least, first_some}
 use Rattle.base.proofs.OrderLaws.{no_later_first, no_later_trans}
 use Rattle.base.proofs.SearchLaws.{ReachableBy, search-found}
@@ -36,7 +38,27 @@ use Rattle.tableau.proofs.ForemostLaws.{standing_nearer, standing_by_stem, stand
 use Rattle.safety.specs.Safety.{start, beyond, cycle_of, shorter, shortest, chosen}
 use Rattle.safety.specs.Closed.{ClosedRun}
 
-pub none-some : {A : Type 0} {a : A} → none ≡ some a → ⊥
+-- what `find` finds is the first, as the laws of `base` have it
+module _ {A : Type 0} (q : A → Bool) where
+  first-found : (xs : List A) {x : A} → find q xs ≡ Some x → first q xs ≡ some x
+  first-found [] e = cc
+  first-found (y ∷ ys) {x} e = by (q y) (first-found ys) e
+    where
+      by : (b : Bool) → (find q ys ≡ Some x → first q ys ≡ some x) → cond b (Some y) (find q ys) ≡ Some x
+          → cond b (some y) (first q ys) ≡ some x
+      by true behind e = let i : y ≡ x = cc in ap some i
+      by false behind e = behind e
+
+  none-first : (xs : List A) → find q xs ≡ None → first q xs ≡ none
+  none-first [] e = refl
+  none-first (y ∷ ys) e = by (q y) (none-first ys) e
+    where
+      by : (b : Bool) → (find q ys ≡ None → first q ys ≡ none) → cond b (Some y) (find q ys) ≡ None
+          → cond b (some y) (first q ys) ≡ none
+      by true behind e = cc
+      by false behind e = behind e
+
+pub none-some : {A : Type 0} {a : A} → None ≡ Some a → ⊥
 none-some e = let z : ◌≡◌ {A = ℕ} 0 1 = cc in omega arith
 
 -- The search from one node.
@@ -99,10 +121,10 @@ module _ (t : Table) (v : Subset) where
     pub foremost : (ss : List Transition) → Along t v ss v → 0 < length ss → NoLater (by_way t x) (length ss ∷ choice_words t ss)
 
   -- Theorem: the cycle of v is that,
-  pub cycle-first : {x : Item Transition Subset} → cycle_of t v ≡ some x → FirstCycle x
+  pub cycle-first : {x : Item Transition Subset} → cycle_of t v ≡ Some x → FirstCycle x
   unfolding transitions
   cycle-first {x} e =
-      let l = first_some around (Nearer t) beyond_sorted e in
+      let l = first_some around (Nearer t) beyond_sorted (first-found around (beyond t v) e) in
       let q : v ≡ x.at = subset_sound v x.at l.passes in
       let f = beyond-found l.present in
       record {
@@ -124,11 +146,11 @@ module _ (t : Table) (v : Subset) where
           (no-later y (record { way = ss; at = v }) k)
 
   -- and where it has none, no such run leads back to v.
-  pub cycle-none : cycle_of t v ≡ none → (ss : List Transition) → Along t v ss v → 0 < length ss → ⊥
+  pub cycle-none : cycle_of t v ≡ None → (ss : List Transition) → Along t v ss v → 0 < length ss → ⊥
   unfolding transitions
   cycle-none e ss a h =
       let (y, m, q, k) = beyond_led a h in
-      first-none around (beyond t v) e m (subst (λ (u : Subset). T (same_subset v u)) q (subset_refl v))
+      first-none around (beyond t v) (none-first around (beyond t v) e) m (subst (λ (u : Subset). T (same_subset v u)) q (subset_refl v))
 
 -- Of the cycles of some nodes the first of the shortest.
 module _ (t : Table) where
@@ -136,13 +158,13 @@ module _ (t : Table) where
   record Best (ns : List (Item Transition Subset)) (x : Item Transition Subset) : Type 0 where
     node : Item Transition Subset
     present : Memᴰ node ns
-    is : cycle_of t node.at ≡ some x
-    stands : (m : Item Transition Subset) → Memᴰ m ns → (y : Item Transition Subset) → cycle_of t m.at ≡ some y
+    is : cycle_of t node.at ≡ Some x
+    stands : (m : Item Transition Subset) → Memᴰ m ns → (y : Item Transition Subset) → cycle_of t m.at ≡ Some y
         → NoLater (standing t node.way x.way) (standing t m.way y.way)
 
   -- where there is none, no node has a cycle
-  shortest-none : (ns : List (Item Transition Subset)) → shortest t ns ≡ none → {m : Item Transition Subset} → Memᴰ m ns
-      → cycle_of t m.at ≡ none
+  shortest-none : (ns : List (Item Transition Subset)) → shortest t ns ≡ None → {m : Item Transition Subset} → Memᴰ m ns
+      → cycle_of t m.at ≡ None
   unfolding transitions
   shortest-none [] e m = absurd (Memᴰ.not-nil m)
   shortest-none (n ∷ ns) e {m} i =
@@ -151,12 +173,12 @@ module _ (t : Table) where
         | inr r ↦ shortest-none ns (both-none (cycle_of t n.at) (shortest t ns) e).1 r
       ]
     where
-      both-none : (o p : Option (Item Transition Subset)) → shorter o p ≡ none → (o ≡ none) × (p ≡ none)
-      both-none none p e = (refl, e)
-      both-none (some x) none e = absurd (none-some (sym e))
-      both-none (some x) (some y) e =
+      both-none : (o p : Option (Item Transition Subset)) → shorter o p ≡ None → (o ≡ None) × (p ≡ None)
+      both-none None p e = (refl, e)
+      both-none (Some x) None e = absurd (none-some (sym e))
+      both-none (Some x) (Some y) e =
           by_test (leb (length x.way) (length y.way))
-          (λ b. cond b (some x) (some y) ≡ none → (some x ≡ none) × (some y ≡ none))
+          (λ b. cond b (Some x) (Some y) ≡ None → (Some x ≡ None) × (Some y ≡ None))
           (λ h q. absurd (none-some (sym q))) (λ h q. absurd (none-some (sym q))) e
 
   -- one node more in front of nearer ones
@@ -164,8 +186,8 @@ module _ (t : Table) where
       (ahead : (m : Item Transition Subset) → Memᴰ m ns → Nearer t n m)
     where
       -- its cycle, where those of the others are no shorter
-      best_here : {a : Item Transition Subset} → cycle_of t n.at ≡ some a
-          → ((m : Item Transition Subset) → Memᴰ m ns → (y : Item Transition Subset) → cycle_of t m.at ≡ some y
+      best_here : {a : Item Transition Subset} → cycle_of t n.at ≡ Some a
+          → ((m : Item Transition Subset) → Memᴰ m ns → (y : Item Transition Subset) → cycle_of t m.at ≡ Some y
           → length a.way ≤ length y.way)
           → Best (n ∷ ns) a
       unfolding transitions
@@ -181,12 +203,12 @@ module _ (t : Table) where
                 ];
           }
         where
-          same : (m y : Item Transition Subset) → m ≡ n → some a ≡ some y → standing t n.way a.way ≡ standing t m.way y.way
+          same : (m y : Item Transition Subset) → m ≡ n → Some a ≡ Some y → standing t n.way a.way ≡ standing t m.way y.way
           same m y d q = let r : a ≡ y = cc in λ i. standing t (sym d i).way (r i).way
 
       -- the best of the others, where its cycle is shorter than that of the node, if this has one
       best_there : {x : Item Transition Subset} → Best ns x
-          → ((y : Item Transition Subset) → cycle_of t n.at ≡ some y → length x.way < length y.way)
+          → ((y : Item Transition Subset) → cycle_of t n.at ≡ Some y → length x.way < length y.way)
           → Best (n ∷ ns) x
       unfolding transitions
       best_there {x} b f =
@@ -202,14 +224,14 @@ module _ (t : Table) where
           }
 
       best_more : (o p : Option (Item Transition Subset)) → cycle_of t n.at ≡ o → shortest t ns ≡ p
-          → ((x : Item Transition Subset) → shortest t ns ≡ some x → Best ns x)
-          → {x : Item Transition Subset} → shorter o p ≡ some x → Best (n ∷ ns) x
+          → ((x : Item Transition Subset) → shortest t ns ≡ Some x → Best ns x)
+          → {x : Item Transition Subset} → shorter o p ≡ Some x → Best (n ∷ ns) x
       unfolding transitions
-      best_more none p e d f {x} q = best_there (f x (d ∙ q)) (λ y r. absurd (none-some (sym e ∙ r)))
-      best_more (some a) none e d f {x} q =
+      best_more None p e d f {x} q = best_there (f x (d ∙ q)) (λ y r. absurd (none-some (sym e ∙ r)))
+      best_more (Some a) None e d f {x} q =
           best_here (e ∙ q) (λ m r y j. absurd (none-some (sym (shortest-none ns d r) ∙ j)))
-      best_more (some a) (some b) e d f {x} q =
-          by_test (leb (length a.way) (length b.way)) (λ c. cond c (some a) (some b) ≡ some x → Best (n ∷ ns) x)
+      best_more (Some a) (Some b) e d f {x} q =
+          by_test (leb (length a.way) (length b.way)) (λ c. cond c (Some a) (Some b) ≡ Some x → Best (n ∷ ns) x)
           (λ h r. subst BestWith (the r) (best_here e (λ m i y j. no_longer m i y j (leb→le (length a.way) (length b.way) h))))
           (λ h r. subst BestWith (the r) (best_there (f b d) (λ y j. shorter_than y (sym e ∙ j) (λ l. h (le→leb _ _ l)))))
           q
@@ -217,32 +239,32 @@ module _ (t : Table) where
           BestWith : Item Transition Subset → Type 0
           BestWith x = Best (n ∷ ns) x
 
-          the : {y z : Item Transition Subset} → some y ≡ some z → y ≡ z
+          the : {y z : Item Transition Subset} → Some y ≡ Some z → y ≡ z
           the r = cc
 
-          no_longer : (m : Item Transition Subset) → Memᴰ m ns → (y : Item Transition Subset) → cycle_of t m.at ≡ some y
+          no_longer : (m : Item Transition Subset) → Memᴰ m ns → (y : Item Transition Subset) → cycle_of t m.at ≡ Some y
               → length a.way ≤ length b.way → length a.way ≤ length y.way
           no_longer m i y j l =
               let g = f b d in
               omega (arith, l, no_later_first (length b.way) (length y.way) _ _ (g.stands m i y j))
 
-          shorter_than : (y : Item Transition Subset) → some a ≡ some y → (length a.way ≤ length b.way → ⊥)
+          shorter_than : (y : Item Transition Subset) → Some a ≡ Some y → (length a.way ≤ length b.way → ⊥)
               → length b.way < length y.way
           shorter_than y j l = omega (arith, ap (λ (z : Item Transition Subset). length z.way) (the j))
 
-  best : (ns : List (Item Transition Subset)) → Sorted (Nearer t) ns → (x : Item Transition Subset) → shortest t ns ≡ some x → Best ns x
+  best : (ns : List (Item Transition Subset)) → Sorted (Nearer t) ns → (x : Item Transition Subset) → shortest t ns ≡ Some x → Best ns x
   unfolding transitions
   best [] s x e = absurd (none-some e)
   best (n ∷ ns) (Sorted.more f s) x e = best_more n ns f (cycle_of t n.at) (shortest t ns) refl refl (best ns s) e
 
   -- Theorem: where no cycle is chosen, no reachable node has a closed run.
-  pub found_none : chosen t ≡ none → (v : Subset) (ss : List Transition) → ClosedRun t v ss → ⊥
+  pub found_none : chosen t ≡ None → (v : Subset) (ss : List Transition) → ClosedRun t v ss → ⊥
   unfolding chosen
   found_none e v ss c =
       let (m, i, q) = nodes-all t c.reachable in
       cycle-none t v (ap (cycle_of t) q ∙ shortest-none (nodes t) e i) ss c.back c.some_step
 
-  module _ {x : Item Transition Subset} (found : chosen t ≡ some x) where
+  module _ {x : Item Transition Subset} (found : chosen t ≡ Some x) where
     chosen_best : Best (nodes t) x
     unfolding chosen
     chosen_best = best (nodes t) (nodes_sorted t) x found
@@ -271,9 +293,9 @@ module _ (t : Table) where
       where
         against : {m : Item Transition Subset} (o : Option (Item Transition Subset)) → cycle_of t m.at ≡ o → Memᴰ m (nodes t)
             → r.node ≡ m.at → NoLater (standing t chosen_best.node.way x.way) (standing t rs ss)
-        against {m} none e i q =
+        against {m} None e i q =
             absurd (cycle-none t m.at e ss (subst (λ (v : Subset). Along t v ss v) q r.counts.back) r.counts.some_step)
-        against {m} (some y) e i q =
+        against {m} (Some y) e i q =
             let k = cycle-first t m.at e in
             no_later_trans (standing t chosen_best.node.way x.way) (standing t m.way y.way) (standing t rs ss)
             (chosen_best.stands m i y e)

@@ -4,7 +4,7 @@
 -- least fixpoint (`none-least` of proofs/EveryCycle.antt), and a place is found where there is one (`least-found`). Assumes nothing.
 use mathlib.Core.Path.{◌≡◌, refl, sym, subst, subst⁻¹, ◌∙◌}
 use mathlib.Core.Bool.{true, false, cond}
-use mathlib.Core.Option.{Option, none, some}
+use Rattle.std.specs.Prelude.{Option, None, Some}
 use mathlib.Core.List.{List, [], ◌∷◌, ◌++◌, append_assoc}
 use Prim.Native.Nat.{ℕ, zero, suc, ◌+◌, ◌<◌}
 use native.Mathlib.Omega.{arith}
@@ -83,16 +83,16 @@ placed-later {o} {t} {rest} front l d r =
     before zero h = d
     before (suc k) h = r.none_before k (omega arith)
 
-first-placed : {t : Table} {xs : List ℕ} → Spells t xs → (p place : ℕ) → first_least p t ≡ some place → Placed xs t p place
+first-placed : {t : Table} {xs : List ℕ} → Spells t xs → (p place : ℕ) → first_least p t ≡ Some place → Placed xs t p place
 first-placed ended p place e = absurd (let z : ◌≡◌ {A = ℕ} 0 1 = cc in omega arith)
 first-placed (goes_on {o} {t} {rest} front l f s) p place e =
     by_test (is_least o)
-    (λ b. cond b (some p) (first_least (p + width o) t) ≡ some place → Placed (front ++ rest) (o ∷ t) p place)
+    (λ b. cond b (Some p) (first_least (p + width o) t) ≡ Some place → Placed (front ++ rest) (o ∷ t) p place)
     (λ h r. here h (f h) r)
     (λ h r. placed-later front l (not_of_T (is_least o) h) (first-placed s (p + width o) place r))
     e
   where
-    here : T (is_least o) → (b : List ℕ) × (front ≡ 9 ∷ b) → some p ≡ some place → Placed (front ++ rest) (o ∷ t) p place
+    here : T (is_least o) → (b : List ℕ) × (front ≡ 9 ∷ b) → Some p ≡ Some place → Placed (front ++ rest) (o ∷ t) p place
     here h (b, q) r =
         let i : p ≡ place = cc in
         record {
@@ -105,7 +105,7 @@ first-placed (goes_on {o} {t} {rest} front l f s) p place e =
 
 -- Theorem: the place of 43 is that of the first least fixpoint's byte.
 pub least-placed : (bytes : List ℕ) (f : Formula) → parse bytes ≡ Reading.accepted f → (place : ℕ)
-    → first_least 0 (table f) ≡ some place → LeastPlace bytes (table f) place
+    → first_least 0 (table f) ≡ Some place → LeastPlace bytes (table f) place
 least-placed bytes f e place q =
     let r = first-placed (read_spells bytes f e) 0 place q in
     let is : place ≡ bytes_before (table f) r.number = omega (arith, r.place_is) in
@@ -123,9 +123,9 @@ pub widths_all : (bytes : List ℕ) (f : Formula) → parse bytes ≡ Reading.ac
 widths_all bytes f e = spells_length (read_spells bytes f e)
 
 -- Theorem: where an operator is a least fixpoint, a place is found.
-pub least-found : (p : ℕ) (t : Table) (e : ℕ) → is_least (operator t e) ≡ true → (place : ℕ) × (first_least p t ≡ some place)
+pub least-found : (p : ℕ) (t : Table) (e : ℕ) → is_least (operator t e) ≡ true → (place : ℕ) × (first_least p t ≡ Some place)
 least-found p t e h = by (first_least p t) refl
   where
-    by : (o : Option ℕ) → first_least p t ≡ o → (place : ℕ) × (o ≡ some place)
-    by none q = absurd (subst T (sym h ∙ none-least p t q e) tt)
-    by (some place) q = (place, refl)
+    by : (o : Option ℕ) → first_least p t ≡ o → (place : ℕ) × (o ≡ Some place)
+    by None q = absurd (subst T (sym h ∙ none-least p t q e) tt)
+    by (Some place) q = (place, refl)

@@ -4,7 +4,7 @@
 -- what a call answers and what it leaves in both areas (`decided-settled`). Assumes nothing.
 use mathlib.Core.Path.{◌≡◌, refl, sym, subst, subst⁻¹, ◌∙◌}
 use mathlib.Core.Logic.{◌↔◌}
-use mathlib.Core.Option.{Option, none, some}
+use Rattle.std.specs.Prelude.{Option, None, Some}
 use mathlib.Core.List.{List}
 use Prim.Native.Nat.{ℕ, ◌*◌, ◌≤◌, ◌<◌}
 use native.Mathlib.Omega.{arith}
@@ -13,11 +13,11 @@ use Rattle.formula.specs.Formula.{Formula}
 use Rattle.formula.specs.Table.{Table, table}
 use Rattle.formula.specs.Reading.{Reading, parse}
 use Rattle.construction.specs.Construction.{node_count}
-use Rattle.safety.specs.declared.Shortage.{Shortage}
-use Rattle.safety.specs.declared.Shortage.TheVariants.{Nodes}
-use Rattle.safety.specs.declared.Verdict as code
+use Rattle.construction.specs.declared.Question.{Question}
+use Rattle.construction.specs.declared.Question.TheVariants.{Nodes}
 use Rattle.safety.specs.Safety.{Verdict, first_least, decide, ask_greatest, after_reading, verdict}
-use Rattle.safety.specs.Contract.{shortage_code, Decided}
+use Rattle.construction.specs.Questions.{question_code}
+use Rattle.safety.specs.Contract.{Answer, Decided}
 use Rattle.safety.specs.Inner.{Lent, concluded}
 use Rattle.safety.proofs.EveryCycle.{Greatest, none-least}
 use Rattle.safety.proofs.VerdictLaws.{Concluded, From11, From14, past_13, questions, asked-all, VerdictCases, verdict-answered}
@@ -27,7 +27,7 @@ use Rattle.safety.proofs.Demands.{IsAnswer, concluded-answer, from_11}
 abbrev pub Past13 : Verdict → Type 0
 Past13 (Verdict.unread why) = ⊥
 Past13 (Verdict.least_at place) = ⊥
-Past13 (Verdict.refused s) = 14 ≤ shortage_code s
+Past13 (Verdict.refused q) = 14 ≤ question_code q
 Past13 (Verdict.satisfiable stem cycle K letters) = Unit {0}
 Past13 (Verdict.unsatisfiable K) = Unit {0}
 
@@ -39,16 +39,16 @@ pub record Granted (N workspace buffer : ℕ) (bytes : List ℕ) (f : Formula) :
   pub lent : Lent N workspace buffer
 
 -- a question before 14 was answered by yes
-yes-before : {Question : Type 0} {s : Shortage} {After : Verdict → Type 0} {o : Verdict} → Asked Question (Verdict.refused s) After o
-    → shortage_code s < 14 → Past13 o → Question × After o
+yes-before : {Asks : Type 0} {q : Question} {After : Verdict → Type 0} {o : Verdict} → Asked Asks (Verdict.refused q) After o
+    → question_code q < 14 → Past13 o → Asks × After o
 yes-before a l p = settled a (λ e. before l (subst Past13 e p))
   where
     before : {code : ℕ} → code < 14 → 14 ≤ code → ⊥
     before l k = omega arith
 
 -- an answer has passed a question
-yes-answered : {Question : Type 0} {s : Shortage} {After : Verdict → Type 0} {o : Verdict} → Asked Question (Verdict.refused s) After o
-    → IsAnswer o → Question × After o
+yes-answered : {Asks : Type 0} {q : Question} {After : Verdict → Type 0} {o : Verdict} → Asked Asks (Verdict.refused q) After o
+    → IsAnswer o → Asks × After o
 yes-answered a h = settled a (λ e. subst IsAnswer e h)
 
 past_14 : {N : ℕ} {t : Table} {o : Verdict} → From14 N t (Concluded t) o → Past13 o
@@ -113,8 +113,8 @@ module _ (N w b N' w' b' : ℕ) (more : N ≤ N') (few : N' ≤ 1024) (bytes-len
 
   more-greatest : (o : Option ℕ) (t : Table) → IsAnswer (ask_greatest o (questions N w b t))
       → ask_greatest o (questions N' w' b' t) ≡ ask_greatest o (questions N w b t)
-  more-greatest none t h = more-asked t h
-  more-greatest (some place) t h = absurd h
+  more-greatest None t h = more-asked t h
+  more-greatest (Some place) t h = absurd h
 
   more_read : (r : Reading Formula) → IsAnswer (after_reading N w b r) → after_reading N' w' b' r ≡ after_reading N w b r
   unfolding table decide
@@ -127,6 +127,6 @@ module _ (N w b N' w' b' : ℕ) (more : N ≤ N') (few : N' ≤ 1024) (bytes-len
   more_room bytes h = more_read (parse bytes) h
 
 -- Theorem: two calls with the same inputs answer the same, and leave the same in both areas.
-pub decided-settled : {bytes : List ℕ} {N : ℕ} {w w₁ w₂ b b₁ b₂ : List ℕ} {r s : code.Verdict} → Decided bytes N w w₁ b b₁ r
+pub decided-settled : {bytes : List ℕ} {N : ℕ} {w w₁ w₂ b b₁ b₂ : List ℕ} {r s : Answer} → Decided bytes N w w₁ b b₁ r
     → Decided bytes N w w₂ b b₂ s → (r ≡ s) × (b₁ ≡ b₂) × (w₁ ≡ w₂)
 decided-settled d e = (d.answered ∙ sym e.answered, d.buffered ∙ sym e.buffered, d.worked ∙ sym e.worked)

@@ -3,7 +3,7 @@
 use mathlib.Core.Path.{◌≡◌, sym, ap, ◌∙◌}
 use mathlib.Core.Bool.{Bool, true, false, cond}
 use mathlib.Core.List.{List}
-use mathlib.Core.Option.{some}
+use Rattle.std.specs.Prelude.{None, Some}
 use Prim.Native.Nat.{ℕ, suc, ◌+◌, ◌-◌, ◌*◌, ◌≤◌, ◌<◌}
 use native.Mathlib.Omega.{arith}
 use Rattle.formula.specs.Table.{Operator, width}
@@ -11,8 +11,6 @@ use Rattle.formula.specs.Rows.{operator_at, operators_of}
 use Rattle.profile.specs.Profiles.{is_least}
 use Rattle.tableau.specs.Inner.{table_of}
 use Rattle.safety.specs.Safety.{first_least}
-use Rattle.safety.specs.Inner.{least}
-use Rattle.safety.specs.declared.Least.TheVariants.{At, Nowhere}
 
 -- the first e operators are no least fixpoints, and have the bytes before a place
 pub record Seeking (rows : List ℕ) (count place e : ℕ) : Type 0 where
@@ -31,29 +29,29 @@ module _ {rows : List ℕ} {count place e : ℕ} (s : Seeking rows count place e
   module _ (h : e < count) {o : Operator} (here : operator_at rows e ≡ o) where
     -- the operator at hand, and those behind it
     apart : first_least 0 (table_of rows count)
-        ≡ cond (is_least o) (some place) (first_least (place + width o) (operators_of rows (e + 1) (count - (e + 1))))
+        ≡ cond (is_least o) (Some place) (first_least (place + width o) (operators_of rows (e + 1) (count - (e + 1))))
     apart =
         s.left
         ∙ ap (λ (n : ℕ). first_least place (operators_of rows e n)) {x = count - e} {y = suc (count - (e + 1))} (omega arith)
-        ∙ ap (λ (x : Operator). cond (is_least x) (some place)
+        ∙ ap (λ (x : Operator). cond (is_least x) (Some place)
         (first_least (place + width x) (operators_of rows (suc e) (count - (e + 1))))) here
-        ∙ ap (λ (i : ℕ). cond (is_least o) (some place) (first_least (place + width o) (operators_of rows i (count - (e + 1)))))
+        ∙ ap (λ (i : ℕ). cond (is_least o) (Some place) (first_least (place + width o) (operators_of rows i (count - (e + 1)))))
         {x = suc e} {y = e + 1} (omega arith)
 
-    pub seek_found : {b : Bool} → b ≡ is_least o → b ≡ true → At place ≡ least (first_least 0 (table_of rows count))
+    pub seek_found : {b : Bool} → b ≡ is_least o → b ≡ true → Some place ≡ first_least 0 (table_of rows count)
     seek_found d q =
-        sym (ap least (apart
-        ∙ ap (λ (b : Bool). cond b (some place) (first_least (place + width o) (operators_of rows (e + 1) (count - (e + 1))))) (sym d ∙ q)))
+        sym (apart
+        ∙ ap (λ (b : Bool). cond b (Some place) (first_least (place + width o) (operators_of rows (e + 1) (count - (e + 1))))) (sym d ∙ q))
 
     pub seek_next : {b : Bool} {n : ℕ} → b ≡ is_least o → b ≡ false → n ≡ width o → n ≤ 2 → Seeking rows count (place + n) (e + 1)
     seek_next {n = n} d q w k = record {
       passed = omega arith;
       low = omega (arith, s.low);
       left = apart
-          ∙ ap (λ (b : Bool). cond b (some place) (first_least (place + width o) (operators_of rows (e + 1) (count - (e + 1))))) (sym d ∙ q)
+          ∙ ap (λ (b : Bool). cond b (Some place) (first_least (place + width o) (operators_of rows (e + 1) (count - (e + 1))))) (sym d ∙ q)
           ∙ ap (λ (i : ℕ). first_least (place + i) (operators_of rows (e + 1) (count - (e + 1)))) (sym w);
     }
 
-  pub seek_end : count ≤ e → Nowhere ≡ least (first_least 0 (table_of rows count))
+  pub seek_end : count ≤ e → None ≡ first_least 0 (table_of rows count)
   seek_end h =
-      sym (ap least (s.left ∙ ap (λ (n : ℕ). first_least place (operators_of rows e n)) {x = count - e} {y = 0} (omega arith)))
+      sym (s.left ∙ ap (λ (n : ℕ). first_least place (operators_of rows e n)) {x = count - e} {y = 0} (omega arith))

@@ -1,9 +1,9 @@
 -- From the questions of the code to the promise: 43, 11 to 13 and 14 are the definition's, in their order, and what is left in both areas
 -- is what MEANING 5.14 says. Assumes nothing.
 use mathlib.Core.Path.{◌≡◌, refl, sym, ap, subst, subst⁻¹, ◌∙◌}
-use mathlib.Core.Bool.{Bool, true, false, not, cond}
+use mathlib.Core.Bool.{Bool, true, false, cond}
 use mathlib.Core.List.{List, ◌++◌, map}
-use mathlib.Core.Option.{Option, none, some}
+use Rattle.std.specs.Prelude.{Option, None, Some, Ok, Err}
 use Prim.Native.Nat.{ℕ, ◌+◌, ◌*◌, ◌/◌, ◌≤◌, ◌<◌}
 use native.Mathlib.Omega.{arith}
 use lib.Dec.{leb}
@@ -31,32 +31,28 @@ use Rattle.construction.proofs.BuildLaws.{range-granted}
 use Rattle.construction.proofs.LayoutLaws.{cleared_front, held-beyond, held-many, held-count}
 use Rattle.safety.specs.Safety.{Verdict, chosen, conclude, decide, ask_room, ask_greatest, first_least, after_reading, verdict}
 use Rattle.safety.specs.Contract as promised
-use Rattle.safety.specs.Contract.{says, leaves, zeroed, Decided}
-use Rattle.safety.specs.Inner.{least, Lent, RoomAsked, concluded, NodesReady, Answers, CameTo, Settled}
-use Rattle.safety.specs.declared.Least.{Least}
-use Rattle.safety.specs.declared.Least.TheVariants.{At, Nowhere}
-use Rattle.safety.specs.declared.Room.TheVariants.{Granted, Short}
-use Rattle.safety.specs.declared.Shortage.{Shortage}
-use Rattle.safety.specs.declared.Shortage.TheVariants.{Capacity, Workspace, Buffer, Nodes}
-use Rattle.safety.specs.declared.Verdict as code
-use Rattle.safety.specs.declared.Verdict.TheVariants.{Refused, LeastAt, Unread}
+use Rattle.safety.specs.Contract.{Answer, says, leaves, zeroed, Decided}
+use Rattle.safety.specs.Inner.{Lent, RoomAsked, concluded, NodesReady, Answers, CameTo, Settled}
+use Rattle.construction.specs.declared.Question.{Question}
+use Rattle.construction.specs.declared.Question.TheVariants.{Capacity, Workspace, Buffer, Nodes}
+use Rattle.safety.specs.declared.Refusal.TheVariants.{LeastAt, No, Unread}
 use Rattle.safety.proofs.NumberWalks.{apart}
 use Rattle.safety.proofs.CourseLaws.{concluded-is, many_is}
 
 -- the questions 11 to 13
 module _ (N workspace buffer : ℕ) where
-  pub short_11 : {b : Bool} → b ≡ between 1 max_nodes N → b ≡ false → RoomAsked N workspace buffer (Short Capacity)
+  pub short_11 : {b : Bool} → b ≡ between 1 max_nodes N → b ≡ false → RoomAsked N workspace buffer (Err Capacity)
   short_11 {b} e h = (λ after. rw (sym e ∙ h) refl, λ w. refl)
 
   module _ {b : Bool} (e : b ≡ between 1 max_nodes N) (h : b ≡ true) where
-    pub short_12 : workspace < nodes_size N → RoomAsked N workspace buffer (Short Workspace)
+    pub short_12 : workspace < nodes_size N → RoomAsked N workspace buffer (Err Workspace)
     short_12 l = (λ after. rw (sym e ∙ h, lt-leb (nodes_size N) workspace l) refl, λ w. refl)
 
-    pub short_13 : nodes_size N ≤ workspace → buffer < N → RoomAsked N workspace buffer (Short Buffer)
+    pub short_13 : nodes_size N ≤ workspace → buffer < N → RoomAsked N workspace buffer (Err Buffer)
     short_13 k l =
         (λ after. rw (sym e ∙ h, le-leb (nodes_size N) workspace k, lt-leb N buffer l) refl, λ w. refl)
 
-    pub granted : nodes_size N ≤ workspace → N ≤ buffer → RoomAsked N workspace buffer Granted
+    pub granted : nodes_size N ≤ workspace → N ≤ buffer → RoomAsked N workspace buffer (Ok tt)
     granted k l =
         let r = range-granted N e h in
         record { some_nodes = r.0; few_nodes = r.1; workspace_fits = k; buffer_fits = l }
@@ -94,13 +90,13 @@ module _ {rows : List ℕ} {count N known : ℕ} {a area : List ℕ} (formed : F
         fits = omega arith;
       }
 
-  pub came_14 : {l : List ℕ} → N < known → CameTo N (decide N (table_of rows count)) a area l l (Refused Nodes)
+  pub came_14 : {l : List ℕ} → N < known → CameTo N (decide N (table_of rows count)) a area l l (Err (No Nodes))
   came_14 {l} h =
       let t = table_of rows count in
-      subst⁻¹ (λ (v : Verdict). CameTo N v a area l l (Refused Nodes)) (many_is t (held-many t held h))
+      subst⁻¹ (λ (v : Verdict). CameTo N v a area l l (Err (No Nodes))) (many_is t (held-many t held h))
       (record { answers = record { answered = refl; buffered = refl }; beyond = held-beyond t held })
 
-  pub came_on : {before after : List ℕ} {r : code.Verdict} → known ≤ N → Answers (concluded (table_of rows count)) before after r
+  pub came_on : {before after : List ℕ} {r : Answer} → known ≤ N → Answers (concluded (table_of rows count)) before after r
       → CameTo N (decide N (table_of rows count)) a area before after r
   came_on {before} {after} {r} fits s =
       let t = table_of rows count in
@@ -126,8 +122,8 @@ after_14 N t w = by (leb (length (nodes t)) N) (chosen t)
   where
     by : (b : Bool) (o : Option (Item Transition Subset))
         → promised.cleared N (cond b (conclude (nodes t) o) (Verdict.refused Nodes)) w ≡ zeroed N w
-    by true none = refl
-    by true (some x) = refl
+    by true None = refl
+    by true (Some x) = refl
     by false o = refl
 
 -- what is settled after reading
@@ -136,36 +132,25 @@ module _ (N : ℕ) (t : Table) (w b : List ℕ) where
   asked = ask_greatest (first_least 0 t) (ask_room N (length w) (length b) (decide N t))
 
   -- 43
-  pub settled_43 : {l : Least} {place : ℕ} → l ≡ least (first_least 0 t) → l ≡ At place → Settled N asked w w b b (LeastAt place)
-  settled_43 {place = place} e q = by (first_least 0 t) (sym q ∙ e)
-    where
-      by : (o : Option ℕ) → At place ≡ least o
-          → Settled N (ask_greatest o (ask_room N (length w) (length b) (decide N t))) w w b b (LeastAt place)
-      by none e = let z : ◌≡◌ {A = ℕ} 0 1 = cc in absurd (omega arith)
-      by (some p) e =
-          let q : place ≡ p = cc in
-          subst (λ (p : ℕ). Settled N (Verdict.least_at p) w w b b (LeastAt place)) q
-          (record { answers = record { answered = refl; buffered = refl }; worked = refl })
+  pub settled_43 : {l : Option ℕ} {place : ℕ} → l ≡ first_least 0 t → l ≡ Some place → Settled N asked w w b b (Err (LeastAt place))
+  settled_43 {place = place} e q =
+      subst (λ (o : Option ℕ). Settled N (ask_greatest o (ask_room N (length w) (length b) (decide N t))) w w b b (Err (LeastAt place)))
+      (sym q ∙ e) (record { answers = record { answered = refl; buffered = refl }; worked = refl })
 
-  -- behind 43
-  greatest : {l : Least} → l ≡ least (first_least 0 t) → l ≡ Nowhere → asked ≡ ask_room N (length w) (length b) (decide N t)
-  greatest e q = by (first_least 0 t) (sym q ∙ e)
-    where
-      by : (o : Option ℕ) → Nowhere ≡ least o
-          → ask_greatest o (ask_room N (length w) (length b) (decide N t)) ≡ ask_room N (length w) (length b) (decide N t)
-      by none e = refl
-      by (some p) e = let z : ◌≡◌ {A = ℕ} 0 1 = cc in absurd (omega arith)
+  module _ {l : Option ℕ} (e : l ≡ first_least 0 t) (q : l ≡ None) where
+    -- behind 43
+    greatest : asked ≡ ask_room N (length w) (length b) (decide N t)
+    greatest = ap (λ (o : Option ℕ). ask_greatest o (ask_room N (length w) (length b) (decide N t))) (sym e ∙ q)
 
-  module _ {l : Least} (e : l ≡ least (first_least 0 t)) (q : l ≡ Nowhere) where
-    pub settled-short : {s : Shortage} → RoomAsked N (length w) (length b) (Short s) → Settled N asked w w b b (Refused s)
-    settled-short {s} r =
-        subst⁻¹ (λ (v : Verdict). Settled N v w w b b (Refused s)) (greatest e q ∙ r.0 (decide N t))
+    pub settled-short : {q : Question} → RoomAsked N (length w) (length b) (Err q) → Settled N asked w w b b (Err (No q))
+    settled-short {q} r =
+        subst⁻¹ (λ (v : Verdict). Settled N v w w b b (Err (No q))) (greatest ∙ r.0 (decide N t))
         (record { answers = record { answered = refl; buffered = refl }; worked = sym (r.1 w) })
 
-    pub settled_on : {w' b' area : List ℕ} {r : code.Verdict} → Lent N (length w) (length b) → CameTo N (decide N t) w area b b' r
+    pub settled_on : {w' b' area : List ℕ} {r : Answer} → Lent N (length w) (length b) → CameTo N (decide N t) w area b b' r
         → w' ≡ cleared 0 (nodes_size N) area → Settled N asked w w' b b' r
     settled_on {w'} {b'} {area} {r} l c z =
-        subst⁻¹ (λ (v : Verdict). Settled N v w w' b b' r) (greatest e q ∙ lent_asked l (decide N t))
+        subst⁻¹ (λ (v : Verdict). Settled N v w w' b b' r) (greatest ∙ lent_asked l (decide N t))
         (record { answers = c.answers; worked = all ∙ sym (after_14 N t w) })
       where
         all : w' ≡ zeroed N w
@@ -174,7 +159,7 @@ module _ (N : ℕ) (t : Table) (w b : List ℕ) where
 -- Over the table of what was read.
 module _ (bytes : List ℕ) (N : ℕ) {w w' b b' : List ℕ} where
   -- Theorem: settled over the table of the formula that was read, it is decided.
-  pub held-decided : {r : code.Verdict} {t : Stored} → HoldsFormula bytes t
+  pub held-decided : {r : Answer} {t : Stored} → HoldsFormula bytes t
       → Settled N (asked N (table_of t.rows t.count) w b) w w' b b' r → Decided bytes N w w' b b' r
   unfolding verdict
   held-decided {r} h s =
@@ -188,7 +173,7 @@ module _ (bytes : List ℕ) (N : ℕ) {w w' b b' : List ℕ} where
       }
 
 pub unread-decided : (bytes : List ℕ) (N : ℕ) {w b : List ℕ} {why : Refusal} → parse bytes ≡ Reading.refused why
-    → Decided bytes N w w b b (Unread why)
+    → Decided bytes N w w b b (Err (Unread why))
 unfolding verdict
 unread-decided bytes N {w} {b} p =
     let e = ap (after_reading N (length w) (length b)) p in

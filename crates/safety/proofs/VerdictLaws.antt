@@ -2,7 +2,7 @@
 -- of the closed runs, or NOT where there is none. `VerdictCases` is the list of questions as a relation, without search and fuel; the
 -- verdict's definition meets it (`verdict-answered`). Assumes nothing.
 use mathlib.Core.Path.{◌≡◌, refl}
-use mathlib.Core.Option.{Option, none, some}
+use Rattle.std.specs.Prelude.{Option, None, Some}
 use mathlib.Core.List.{List, ◌++◌, map}
 use Prim.Native.Nat.{ℕ, ◌+◌, ◌≤◌}
 use lib.ListN.{length}
@@ -21,7 +21,7 @@ use Rattle.tableau.proofs.NodeLaws.{stem}
 use Rattle.construction.specs.Construction.{between, max_nodes, nodes_size, node_count}
 use Rattle.construction.proofs.RangeLaws.{between_of, between_in}
 use Rattle.construction.proofs.BuildLaws.{InRange}
-use Rattle.safety.specs.declared.Shortage.TheVariants.{Capacity, Workspace, Buffer, Nodes}
+use Rattle.construction.specs.declared.Question.TheVariants.{Capacity, Workspace, Buffer, Nodes}
 use Rattle.safety.specs.Safety.{Verdict, first_least, chosen, conclude, decide, ask_room, ask_greatest, after_reading, verdict}
 use Rattle.safety.specs.Closed.{ClosedRun}
 use Rattle.safety.specs.Inner.{Lent, concluded}
@@ -71,16 +71,16 @@ DecidedCases N workspace buffer t = From11 N workspace buffer (From14 N t (Concl
 -- A refusal of reading is passed on; 43 comes before the questions on room.
 pub data VerdictCases (N workspace buffer : ℕ) : Reading Formula → Verdict → Type 0 where
   unread : {why : Refusal} → VerdictCases N workspace buffer (Reading.refused why) (Verdict.unread why)
-  least : {f : Formula} {place : ℕ} → first_least 0 (table f) ≡ some place
+  least : {f : Formula} {place : ℕ} → first_least 0 (table f) ≡ Some place
       → VerdictCases N workspace buffer (Reading.accepted f) (Verdict.least_at place)
-  read : {f : Formula} {o : Verdict} → first_least 0 (table f) ≡ none → DecidedCases N workspace buffer (table f) o
+  read : {f : Formula} {o : Verdict} → first_least 0 (table f) ≡ None → DecidedCases N workspace buffer (table f) o
       → VerdictCases N workspace buffer (Reading.accepted f) o
 
 -- by whether a cycle was chosen
 concludes : (t : Table) (o : Option (Item Transition Subset)) → chosen t ≡ o → Concluded t (conclude (nodes t) o)
 unfolding letter_of
-concludes t none e = unmet (found_none t e)
-concludes t (some x) e =
+concludes t None e = unmet (found_none t e)
+concludes t (Some x) e =
     met (record {
       there = stem t x.at;
       around = x.way;
@@ -116,9 +116,9 @@ asked-all N workspace buffer t a = room-asked N workspace buffer (decide N t) (d
 
 greatest-asked : (N workspace buffer : ℕ) (f : Formula) (o : Option ℕ) → first_least 0 (table f) ≡ o
     → VerdictCases N workspace buffer (Reading.accepted f) (ask_greatest o (questions N workspace buffer (table f)))
-greatest-asked N workspace buffer f none e =
+greatest-asked N workspace buffer f None e =
     read e (asked-all N workspace buffer (table f) (concludes (table f) (chosen (table f)) refl))
-greatest-asked N workspace buffer f (some place) e = least e
+greatest-asked N workspace buffer f (Some place) e = least e
 
 read_answered : (N workspace buffer : ℕ) (r : Reading Formula) → VerdictCases N workspace buffer r (after_reading N workspace buffer r)
 unfolding table decide

@@ -1,11 +1,10 @@
 -- What the functions promise that ask the questions, find a cycle and write it. A reader of the contract need not read it. Assumes nothing.
 use Rattle.std.specs.Prelude.{◌≡◌, ℕ, ◌+◌, ◌*◌, ◌/◌, ◌^◌, ◌≤◌, ◌<◌, length, get_or, drop}
 use mathlib.Core.List.{List, [], map, Memᴰ}
-use Rattle.std.proofs.Math.Option.{Option, none, some}
+use Rattle.std.specs.Prelude.{Option, None, Some, Result, Ok, Err}
 use Rattle.base.specs.Bits.{word}
 use Rattle.base.specs.Order.{NoLater}
 use Rattle.letters.specs.Requirements.{letter_of}
-use Rattle.letters.specs.declared.Requirement.{Requirement}
 use Rattle.formula.specs.Table.{Table}
 use Rattle.tableau.specs.Saturation.{Subset}
 use Rattle.tableau.specs.Transition.{Transition, letter, ors, by_word}
@@ -19,25 +18,14 @@ use Rattle.tableau.specs.Steps.{StepsBefore, StepsNoted}
 use Rattle.tableau.specs.Found.{Finding}
 use Rattle.relation.specs.Relation.{block_words}
 use Rattle.tableau.specs.declared.Target.{Target}
-use Rattle.tableau.specs.declared.Target.TheVariants as target
 use Rattle.construction.specs.Construction.{max_nodes, nodes_size}
 use Rattle.distances.specs.Walks.{Shortest}
 use Rattle.witness.specs.Letters.{stem_letters, written}
 use Rattle.safety.specs.Safety.{Verdict, chosen, conclude, ask_room}
-use Rattle.safety.specs.Contract.{says, leaves, after_shortage, cleared}
-use Rattle.safety.specs.declared.Least.{Least}
-use Rattle.safety.specs.declared.Least.TheVariants.{At, Nowhere}
-use Rattle.safety.specs.declared.Room.{Room}
-use Rattle.safety.specs.declared.Room.TheVariants.{Granted, Short}
-use Rattle.safety.specs.declared.Onward.{Onward}
-use Rattle.safety.specs.declared.Onward.TheVariants.{Leads, Elsewhere}
+use Rattle.safety.specs.Contract.{Answer, says, leaves, after_question, cleared}
+use Rattle.construction.specs.declared.Question.{Question}
 use Rattle.safety.specs.declared.Step.{Step}
-use Rattle.safety.specs.declared.Verdict as code
-
--- what the code says of the first least fixpoint
-abbrev pub least : Option ℕ → Least
-least none = Nowhere
-least (some p) = At p
+use Rattle.safety.specs.declared.Survey.{Survey}
 
 -- what the questions 11 to 13 ask
 pub record Lent (N workspace buffer : ℕ) : Type 0 where
@@ -47,10 +35,10 @@ pub record Lent (N workspace buffer : ℕ) : Type 0 where
   pub buffer_fits : N ≤ buffer
 
 -- The three questions: all are answered by yes, or the first that is not gives the refusal, and leaves the workspace alone.
-abbrev pub RoomAsked : (N workspace buffer : ℕ) → Room → Type 0
-RoomAsked N workspace buffer Granted = Lent N workspace buffer
-RoomAsked N workspace buffer (Short s) =
-    ((after : Verdict) → ask_room N workspace buffer after ≡ Verdict.refused s) × ((w : List ℕ) → after_shortage N s w ≡ w)
+abbrev pub RoomAsked : (N workspace buffer : ℕ) → Result (Unit {0}) Question → Type 0
+RoomAsked N workspace buffer (Ok granted) = Lent N workspace buffer
+RoomAsked N workspace buffer (Err q) =
+    ((after : Verdict) → ask_room N workspace buffer after ≡ Verdict.refused q) × ((w : List ℕ) → after_question N q w ≡ w)
 
 -- There are so many nodes in the area, no two the same, and each is marked.
 pub record NodesThere (known : ℕ) (area slots : List ℕ) : Type 0 where
@@ -66,12 +54,20 @@ pub record FarAt (area steps : List ℕ) (known set far n : ℕ) : Type 0 where
   pub far_is : get_or steps n 1024 ≡ far
 
 -- where a transition leads: to a node that is so far away, or to none
-abbrev pub OnwardOf : (area steps : List ℕ) (known : ℕ) → Target → (far : ℕ) → Onward → Type 0
-OnwardOf area steps known t far (Leads to p) =
-    (set : ℕ) × (required : Requirement) × (t ≡ target.Leads set required) × (p ≡ letter_of required)
-    × FarAt area steps known set far to.0
-OnwardOf area steps known t far Elsewhere =
-    (set : ℕ) (required : Requirement) → t ≡ target.Leads set required → (n : ℕ) → FarAt area steps known set far n → ⊥
+abbrev pub OnwardOf : (area steps : List ℕ) (known : ℕ) → Option Target → (far : ℕ) → Option Step → Type 0
+OnwardOf area steps known t far (Some s) =
+    (x : Target) × (t ≡ Some x) × (s.letter ≡ letter_of x.required) × FarAt area steps known x.to far s.to.0
+OnwardOf area steps known t far None = (x : Target) → t ≡ Some x → (n : ℕ) → FarAt area steps known x.to far n → ⊥
+
+-- ---- of a survey
+-- The nodes are there, and a number of steps is noted for each that there may be.
+pub record Surveyed (s : Survey) : Type 0 where
+  pub there : NodesThere s.known s.area.now s.slots.now
+  pub long : length s.steps.now ≡ 1024
+
+-- where a transition leads
+abbrev pub Onward : Survey → Option Target → (far : ℕ) → Option Step → Type 0
+Onward s t far r = OnwardOf s.area.now s.steps.now s.known t far r
 
 -- The transition of a choice word from the node with that word leads to node n, which is so far away.
 pub record Goes (rows : List ℕ) (count x from : ℕ) (area steps : List ℕ) (known far n p : ℕ) : Type 0 where
@@ -95,6 +91,17 @@ pub record FirstStep (rows : List ℕ) (count from : ℕ) (area steps : List ℕ
   pub goes : Goes rows count choice_word from area steps known far r.to.0 r.letter
   pub first : (y : ℕ) → y < choice_word → Strays rows count y from area steps known far
 
+-- the same of the node of a number in a survey: it has a transition to a node so far away, and this is the first
+abbrev pub HasStep : Survey → (from far : ℕ) → Type 0
+HasStep s from far =
+    let t = s.tableau.now.table in
+    SomeStep t.rows t.count (eight s.area.now (8 * from)) s.area.now s.steps.now s.known far
+
+abbrev pub IsFirstStep : Survey → (from far : ℕ) → Step → Type 0
+IsFirstStep s from far r =
+    let t = s.tableau.now.table in
+    FirstStep t.rows t.count (eight s.area.now (8 * from)) s.area.now s.steps.now s.known far r
+
 -- the node of a number
 abbrev pub node : Table → ℕ → Subset
 node t i = get_or (reachable t) i []
@@ -108,6 +115,12 @@ pub record CycleThere (rows : List ℕ) (count known : ℕ) (area slots steps : 
   pub relation : List ℕ
   pub noted : StepsNoted rows count known area relation
   pub shortest : Shortest relation known v L steps
+
+-- of a survey
+abbrev pub HasCycle : Survey → (v L : ℕ) → Type 0
+HasCycle s v L =
+    let t = s.tableau.now.table in
+    CycleThere t.rows t.count s.known s.area.now s.slots.now s.steps.now v L
 
 -- These L transitions lead from a node back to it, and of all such the choice words of none come before theirs.
 pub record FirstClosed (t : Table) (v : Subset) (L : ℕ) (ss : List Transition) : Type 0 where
@@ -156,16 +169,16 @@ pub record Halfway (rows : List ℕ) (count N known : ℕ) (area slots o rel : L
   pub fits : N ≤ buffer
 
 -- The answer to a verdict, and what it leaves in the witness buffer.
-pub record Answers (v : Verdict) (before after : List ℕ) (r : code.Verdict) : Type 0 where
+pub record Answers (v : Verdict) (before after : List ℕ) (r : Answer) : Type 0 where
   pub answered : r ≡ says v
   pub buffered : after ≡ leaves v before
 
 -- The answer, and of the area only the bytes of N nodes have changed.
-pub record CameTo (N : ℕ) (v : Verdict) (area area' before after : List ℕ) (r : code.Verdict) : Type 0 where
+pub record CameTo (N : ℕ) (v : Verdict) (area area' before after : List ℕ) (r : Answer) : Type 0 where
   pub answers : Answers v before after r
   pub beyond : drop (nodes_size N) area' ≡ drop (nodes_size N) area
 
 -- The answer to all questions after reading, and what it leaves in both areas.
-pub record Settled (N : ℕ) (v : Verdict) (workspace workspace' buffer buffer' : List ℕ) (r : code.Verdict) : Type 0 where
+pub record Settled (N : ℕ) (v : Verdict) (workspace workspace' buffer buffer' : List ℕ) (r : Answer) : Type 0 where
   pub answers : Answers v buffer buffer' r
   pub worked : workspace' ≡ cleared N v workspace

@@ -3,31 +3,22 @@
 // alone.
 #![tactic(auto)]
 
-ghost use Rattle.std.specs.Prelude.{◌≡◌, List, ℕ, ◌+◌, ◌*◌, ◌≤◌, ◌<◌, length};
+ghost use Rattle.std.specs.Prelude.{◌≡◌, List, ℕ, ◌+◌, ◌*◌, ◌≤◌, ◌<◌, length, Ok};
 ghost use Rattle.formula.specs.Access.{decoded};
 ghost use Rattle.profile.specs.Profiles.{is_least};
-ghost use Rattle.tableau.specs.Inner.{table_of, Formed};
-ghost use Rattle.tableau.specs.Area.{eight};
+ghost use Rattle.tableau.specs.Operators.{operators};
 ghost use Rattle.tableau.specs.Found.{Finding};
 ghost use Rattle.witness.specs.Letters.{stem_letters, StemNoted};
 ghost use Rattle.safety.specs.Safety.{first_least, decide, ask_room, ask_greatest};
-ghost use Rattle.safety.specs.Contract.{shortage_code, Decided};
-ghost use Rattle.safety.specs.Inner.{least, Lent, RoomAsked, NodesThere, OnwardOf, SomeStep, FirstStep, CycleThere};
+ghost use Rattle.safety.specs.Contract.{Decided};
+ghost use Rattle.safety.specs.Inner.{Lent, RoomAsked, Surveyed, Onward, HasStep, IsFirstStep, HasCycle};
 ghost use Rattle.safety.specs.Inner.{CycleWritten, CourseWritten, concluded, NodesReady, Halfway, Answers, CameTo, Settled};
+ghost use Rattle.safety.specs.declared.Refusal.TheVariants.{Unread, No};
 
-use distances::Cycle;
-use formula::{Operator, Outcome, Refusal, Subformula, Table};
+use construction::Question;
+use formula::{Operator, Subformula};
 use lasso::Position;
-use tableau::{Lookup, NodeNumber, Target};
-
-// What there is too little of, or what is out of range: the questions 11 to 14.
-#[derive(Clone, Copy)]
-pub enum Shortage {
-    Capacity,
-    Workspace,
-    Buffer,
-    Nodes,
-}
+use tableau::{NodeNumber, Tableau, Target};
 
 #[derive(Clone, Copy)]
 pub enum Verdict {
@@ -37,42 +28,31 @@ pub enum Verdict {
         nodes: usize,
     },
     Unsatisfiable(usize),
-    Refused(Shortage),
-    LeastAt(usize),
-    Unread(Refusal),
 }
 
-// The number of each of these refusals.
-pub fn shortage_code(s: Shortage) -> u8
-    ensures { result ≡ shortage_code s }
-{
-    match s {
-        Shortage::Capacity => 11,
-        Shortage::Workspace => 12,
-        Shortage::Buffer => 13,
-        Shortage::Nodes => 14,
+// Why there is no verdict: reading refuses the bytes; a least fixpoint, 43 with its place; or one of the questions 11 to 14 is answered by
+// no.
+#[derive(Clone, Copy)]
+pub enum Refusal {
+    Unread(formula::Refusal),
+    LeastAt(usize),
+    No(Question),
+}
+
+impl From<formula::Refusal> for Refusal {
+    ghost from_gives = { λ why r. r ≡ Unread why };
+
+    fn from(why: formula::Refusal) -> Refusal {
+        Refusal::Unread(why)
     }
 }
 
-// The place of the first least fixpoint.
-#[derive(Clone, Copy)]
-enum Least {
-    At(usize),
-    Nowhere,
-}
+impl From<Question> for Refusal {
+    ghost from_gives = { λ q r. r ≡ No q };
 
-// What the questions 11 to 13 come to.
-#[derive(Clone, Copy)]
-enum Room {
-    Granted,
-    Short(Shortage),
-}
-
-// What a transition is for the way round the cycle.
-#[derive(Clone, Copy)]
-enum Onward {
-    Leads { to: NodeNumber, letter: u16 },
-    Elsewhere,
+    fn from(q: Question) -> Refusal {
+        Refusal::No(q)
+    }
 }
 
 // A transition by its node and its letter.
@@ -86,202 +66,127 @@ fn is_least(o: Operator) -> bool
     ensures { result ≡ is_least (decoded o) }
 {
     match o {
-        Operator::Fixpoint { greatest, body: _ } => !greatest,
-        Operator::Constant(_) => false,
-        Operator::Signal { .. } => false,
-        Operator::Variable(_) => false,
-        Operator::Pair { .. } => false,
-        Operator::Next(_) => false,
+        Operator::Fixpoint { greatest, .. } => !greatest,
+        _ => false,
     }
 }
 
-fn first_least(rows: &[u8; 144], count: usize) -> Least
-    requires { Formed rows.now count }
-    ensures { result ≡ least (first_least 0 (table_of rows.now count)) }
+// The place of the first least fixpoint.
+fn first_least(t: &Tableau) -> Option<usize>
+    ensures { result ≡ first_least 0 (operators t.now) }
 {
     let mut place = 0;
-    let mut e = 0;
-    while e < count {
-        let o = formula::operator_at(rows, Subformula(e));
+    for e in 0..t.table.count {
+        let o = formula::operator_at(&t.table.rows, Subformula(e));
         if is_least(o) {
-            return Least::At(place);
+            return Some(place);
         }
         place += formula::width(o);
-        e += 1;
     }
-    Least::Nowhere
+    None
 }
 
 // The questions 11 to 13, in their order.
-fn ask_room(node_capacity: usize, workspace: usize, witness: usize) -> Room
+fn ask_room(node_capacity: usize, workspace: usize, witness: usize) -> Result<(), Question>
     ensures { RoomAsked node_capacity workspace witness result }
 {
     if !construction::between(1, construction::MAX_NODES, node_capacity) {
-        return Room::Short(Shortage::Capacity);
+        return Err(Question::Capacity);
     }
     if workspace < construction::NODE_BYTES * node_capacity {
-        return Room::Short(Shortage::Workspace);
+        return Err(Question::Workspace);
     }
     if witness < node_capacity {
-        return Room::Short(Shortage::Buffer);
+        return Err(Question::Buffer);
     }
-    Room::Granted
+    Ok(())
 }
 
-// Whether a transition leads to a node that is so many steps from the cycle's node, and then to which, with its letter.
-fn reached(
-    area: &[u8],
-    slots: &[u16; 2048],
+// The nodes of a tableau in the area, found by their slots, and how many steps each of them is from the node of the cycle.
+#[derive(Clone, Copy)]
+struct Survey<'a> {
+    tableau: &'a Tableau,
+    area: &'a [u8],
+    slots: &'a [u16; 2048],
     known: usize,
-    steps: &[u16; 1024],
-    target: Target,
-    far: usize,
-) -> Onward
-    requires nodes_there { NodesThere known area.now slots.now }
-    requires steps_len { length steps.now ≡ 1024 }
-    ensures { OnwardOf area.now steps.now known target far result }
-{
-    match target {
-        Target::Nothing => Onward::Elsewhere,
-        Target::Leads { to, required } => match tableau::located(area, slots, known, to) {
-            Lookup::Absent => Onward::Elsewhere,
-            Lookup::Number(n) => {
-                let i = n.0;
-                if base::wide16(steps[i]) == far {
-                    return Onward::Leads {
-                        to: n,
-                        letter: letters::letter_of(required),
-                    };
-                }
-                Onward::Elsewhere
-            }
-        },
-    }
+    steps: &'a [u16; 1024],
 }
 
-// The first transition of a node, by its choice word, to a node that is so many steps from the cycle's. There is one, so the loop does not
-// come to its end.
-fn step_on(
-    rows: &[u8; 144],
-    count: usize,
-    area: &[u8],
-    slots: &[u16; 2048],
-    known: usize,
-    steps: &[u16; 1024],
-    from: NodeNumber,
-    far: usize,
-) -> Step
-    requires formed { Formed rows.now count }
-    requires nodes_there { NodesThere known area.now slots.now }
-    requires steps_len { length steps.now ≡ 1024 }
-    requires from_lt_known { from.0 < known }
-    requires some_step { SomeStep rows.now count (eight area.now (8 * from.0)) area.now steps.now known far }
-    ensures { FirstStep rows.now count (eight area.now (8 * from.0)) area.now
-        steps.now known far result }
-{
-    let node = tableau::node(area, from);
-    let core = tableau::core_of(rows, count, node);
-    let unmet = tableau::unmet(rows, count, node);
-    let end = base::power(tableau::ors(rows, count));
-    let mut word = 0u64;
-    while word < end {
-        let target = tableau::by_word(rows, count, &unmet, core, word);
-        match reached(area, slots, known, steps, target, far) {
-            Onward::Leads { to, letter } => {
-                return Step {
-                    to: to,
-                    letter: letter,
-                }
+impl Survey<'_> {
+    // Whether a transition leads to a node that is so many steps from the cycle's node, and then to which, with its letter.
+    fn reached(&self, target: Option<Target>, far: usize) -> Option<Step>
+        requires { Surveyed self.now }
+        ensures { Onward self.now target far result }
+    {
+        let Target { to, required } = target?;
+        let n = tableau::located(self.area, self.slots, self.known, to)?;
+        if usize::from(self.steps[n.0]) != far {
+            return None;
+        }
+        Some(Step {
+            to: n,
+            letter: letters::letter_of(required),
+        })
+    }
+
+    // The first transition of a node, by its choice word, to a node that is so many steps from the cycle's.
+    fn step_on(&self, from: NodeNumber, far: usize) -> Step
+        requires surveyed { Surveyed self.now }
+        requires from_lt_known { from.0 < self.now.known }
+        requires some_step { HasStep self.now from.0 far }
+        ensures { IsFirstStep self.now from.0 far result }
+    {
+        let node = tableau::node(self.area, from);
+        let core = self.tableau.core_of(node);
+        let unmet = self.tableau.unmet(node);
+        let end = base::power(self.tableau.ors());
+        for word in 0..end {
+            let target = self.tableau.by_word(&unmet, core, word);
+            if let Some(step) = self.reached(target, far) {
+                return step;
             }
-            Onward::Elsewhere => word += 1,
+        }
+        unreachable!()
+    }
+
+    // Writes the letters of the first of the shortest cycles of a node from a position on.
+    fn write_cycle(&self, node: NodeNumber, cycle: usize, letters: &mut [u16], from: Position)
+        requires cycle_there { HasCycle self.now node.0 cycle }
+        requires cycle_in_bounds { from.0 + cycle ≤ length letters.old }
+        ensures { CycleWritten (operators self.now.tableau.now) node.0 cycle from.0 letters.old letters.new }
+    {
+        let start = from.0;
+        let mut at = node;
+        for i in 0..cycle {
+            let s = self.step_on(at, cycle - i - 1);
+            letters[start + i] = s.letter;
+            at = s.to;
         }
     }
-    Step {
-        to: from,
-        letter: 0,
-    }
-}
 
-// Writes the letters of the first of the shortest cycles of a node from a position on.
-fn write_cycle(
-    rows: &[u8; 144],
-    count: usize,
-    area: &[u8],
-    slots: &[u16; 2048],
-    known: usize,
-    steps: &[u16; 1024],
-    node: NodeNumber,
-    cycle: usize,
-    letters: &mut [u16],
-    from: Position,
-)
-    requires formed { Formed rows.now count }
-    requires cycle_there { CycleThere rows.now count known area.now slots.now steps.now node.0 cycle }
-    requires cycle_in_bounds { from.0 + cycle ≤ length letters.old }
-    ensures { CycleWritten (table_of rows.now count) node.0 cycle from.0 letters.old
-        letters.new }
-{
-    let start = from.0;
-    let mut at = node.0;
-    let mut i = 0;
-    while i < cycle {
-        let s = step_on(
-            rows,
-            count,
-            area,
-            slots,
-            known,
-            steps,
-            NodeNumber(at),
-            cycle - i - 1,
-        );
-        letters[start + i] = s.letter;
-        at = s.to.0;
-        i += 1;
+    // Writes the stem to a node and behind it the first of its shortest cycles; how long the stem is.
+    fn write_course(
+        &self,
+        origins: &[u16],
+        node: NodeNumber,
+        cycle: usize,
+        letters: &mut [u16],
+    ) -> usize
+        requires cycle_there { HasCycle self.now node.0 cycle }
+        requires stem_noted { StemNoted origins.now node.0 }
+        requires cycle_in_bounds { length (stem_letters origins.now node.0) + cycle ≤ length letters.old }
+        ensures { CourseWritten (operators self.now.tableau.now) origins.now node.0 cycle letters.old letters.new result }
+    {
+        let stem = witness::stem_length(origins, node);
+        witness::write_stem(origins, node, letters, stem);
+        self.write_cycle(node, cycle, letters, Position(stem));
+        stem
     }
-}
-
-// Writes the stem to a node and behind it the first of its shortest cycles; how long the stem is.
-fn write_course(
-    rows: &[u8; 144],
-    count: usize,
-    area: &[u8],
-    slots: &[u16; 2048],
-    origins: &[u16],
-    known: usize,
-    steps: &[u16; 1024],
-    node: NodeNumber,
-    cycle: usize,
-    letters: &mut [u16],
-) -> usize
-    requires formed { Formed rows.now count }
-    requires cycle_there { CycleThere rows.now count known area.now slots.now steps.now node.0 cycle }
-    requires stem_noted { StemNoted origins.now node.0 }
-    requires cycle_in_bounds { length (stem_letters origins.now node.0) + cycle ≤ length letters.old }
-    ensures { CourseWritten (table_of rows.now count) origins.now node.0 cycle letters.old
-        letters.new result }
-{
-    let stem = witness::stem_length(origins, node);
-    witness::write_stem(origins, node, letters, stem);
-    write_cycle(
-        rows,
-        count,
-        area,
-        slots,
-        known,
-        steps,
-        node,
-        cycle,
-        letters,
-        Position(stem),
-    );
-    stem
 }
 
 // From the nodes and their transitions: a shortest cycle, if there is one, and the answer.
 fn from_nodes(
-    rows: &[u8; 144],
-    count: usize,
+    t: &Tableau,
     area: &[u8],
     slots: &[u16; 2048],
     origins: &[u16],
@@ -289,40 +194,38 @@ fn from_nodes(
     nodes: usize,
     letters: &mut [u16],
 ) -> Verdict
-    requires formed { Formed rows.now count }
-    requires nodes_ready { NodesReady rows.now count nodes area.now slots.now origins.now relation.now (length letters.old) }
-    ensures { Answers (concluded (table_of rows.now count)) letters.old letters.new result }
+    requires nodes_ready { NodesReady t.now.table.rows t.now.table.count nodes area.now slots.now origins.now
+        relation.now (length letters.old) }
+    ensures { Answers (concluded (operators t.now)) letters.old letters.new (Ok result) }
 {
     let mut steps = [0u16; 1024];
-    match distances::shortest(relation, nodes, &mut steps) {
-        Cycle::Nowhere => Verdict::Unsatisfiable(nodes),
-        Cycle::Through { vertex, length } => {
-            let stem = write_course(
-                rows,
-                count,
-                area,
-                slots,
-                origins,
-                nodes,
-                &steps,
-                NodeNumber(vertex),
-                length,
-                letters,
-            );
-            Verdict::Satisfiable {
-                stem: stem,
-                cycle: length,
-                nodes: nodes,
-            }
-        }
+    let Some(shortest) = distances::shortest(relation, nodes, &mut steps) else {
+        return Verdict::Unsatisfiable(nodes);
+    };
+    let survey = Survey {
+        tableau: t,
+        area,
+        slots,
+        known: nodes,
+        steps: &steps,
+    };
+    let stem = survey.write_course(
+        origins,
+        NodeNumber(shortest.vertex),
+        shortest.length,
+        letters,
+    );
+    Verdict::Satisfiable {
+        stem,
+        cycle: shortest.length,
+        nodes,
     }
 }
 
 // From more than 64 nodes, where the search has gone on from the first 64: it goes on with room for all transitions, which is made only
 // here. 14 where there is no room for the nodes, and what comes behind.
 fn from_many(
-    rows: &[u8; 144],
-    count: usize,
+    t: &Tableau,
     node_capacity: usize,
     area: &mut [u8],
     slots: &mut [u16; 2048],
@@ -330,18 +233,16 @@ fn from_many(
     first: &[u64],
     known: usize,
     letters: &mut [u16],
-) -> Verdict
-    requires formed { Formed rows.now count }
-    requires halfway { Halfway rows.now count node_capacity known area.old slots.old origins.old first.now (length letters.old) }
-    ensures { (a : List ℕ) → Finding rows.now count node_capacity known 64 a area.old origins.old
-        → CameTo node_capacity (decide node_capacity (table_of rows.now count)) a area.new
+) -> Result<Verdict, Refusal>
+    requires halfway { Halfway t.now.table.rows t.now.table.count node_capacity known area.old slots.old origins.old
+        first.now (length letters.old) }
+    ensures { (a : List ℕ) → Finding t.now.table.rows t.now.table.count node_capacity known 64 a area.old origins.old
+        → CameTo node_capacity (decide node_capacity (operators t.now)) a area.new
         letters.old letters.new result }
 {
     let mut relation = [0u64; relation::WORDS];
     relation::widen(first, &mut relation);
-    let nodes = tableau::go_on(
-        rows,
-        count,
+    let Some(nodes) = t.go_on(
         area,
         slots,
         origins,
@@ -350,49 +251,42 @@ fn from_many(
         node_capacity,
         known,
         node_capacity,
-    );
-    if node_capacity < nodes {
-        return Verdict::Refused(Shortage::Nodes);
-    }
-    from_nodes(rows, count, area, slots, origins, &relation, nodes, letters)
+    ) else {
+        return Err(Refusal::No(Question::Nodes));
+    };
+    Ok(from_nodes(t, area, slots, origins, &relation, nodes, letters))
 }
 
 // From the root: the nodes with their transitions, 14 where there is no room for them, and what comes behind. For up to 64 nodes one block
 // of the relation is enough, and no more is cleared.
 fn from_root(
-    rows: &[u8; 144],
-    count: usize,
+    t: &Tableau,
     node_capacity: usize,
     area: &mut [u8],
     letters: &mut [u16],
-) -> Verdict
-    requires formed { Formed rows.now count }
+) -> Result<Verdict, Refusal>
     requires lent { Lent node_capacity (length area.old) (length letters.old) }
-    ensures { CameTo node_capacity (decide node_capacity (table_of rows.now count)) area.old
+    ensures { CameTo node_capacity (decide node_capacity (operators t.now)) area.old
         area.new letters.old letters.new result }
 {
     let mut slots = [0u16; 2048];
     let mut origins = [0u16; 2048];
     let mut first = [0u64; relation::BLOCK_WORDS];
-    let nodes = tableau::search_from_root(
-        rows,
-        count,
+    let Some(nodes) = t.search_from_root(
         area,
         &mut slots,
         &mut origins,
         &mut first,
         64,
         node_capacity,
-    );
-    if node_capacity < nodes {
-        return Verdict::Refused(Shortage::Nodes);
-    }
+    ) else {
+        return Err(Refusal::No(Question::Nodes));
+    };
     if nodes <= 64 {
-        return from_nodes(rows, count, area, &slots, &origins, &first, nodes, letters);
+        return Ok(from_nodes(t, area, &slots, &origins, &first, nodes, letters));
     }
     from_many(
-        rows,
-        count,
+        t,
         node_capacity,
         area,
         &mut slots,
@@ -404,25 +298,24 @@ fn from_root(
 }
 
 // The questions after reading, in their order.
-fn decided(t: Table, node_capacity: usize, workspace: &mut [u8], witness: &mut [u16]) -> Verdict
-    requires { Formed t.rows t.count }
-    ensures { Settled node_capacity (ask_greatest (first_least 0 (table_of t.rows t.count))
+fn decided(
+    t: &Tableau,
+    node_capacity: usize,
+    workspace: &mut [u8],
+    witness: &mut [u16],
+) -> Result<Verdict, Refusal>
+    ensures { Settled node_capacity (ask_greatest (first_least 0 (operators t.now))
         (ask_room node_capacity (length workspace.old) (length witness.old)
-        (decide node_capacity (table_of t.rows t.count))))
+        (decide node_capacity (operators t.now))))
         workspace.old workspace.new witness.old witness.new result }
 {
-    let rows = t.rows;
-    match first_least(&rows, t.count) {
-        Least::At(place) => Verdict::LeastAt(place),
-        Least::Nowhere => match ask_room(node_capacity, workspace.len(), witness.len()) {
-            Room::Short(s) => Verdict::Refused(s),
-            Room::Granted => {
-                let v = from_root(&rows, t.count, node_capacity, workspace, witness);
-                tableau::clear(workspace, 0, construction::NODE_BYTES * node_capacity);
-                v
-            }
-        },
+    if let Some(place) = first_least(t) {
+        return Err(Refusal::LeastAt(place));
     }
+    ask_room(node_capacity, workspace.len(), witness.len())?;
+    let v = from_root(t, node_capacity, workspace, witness);
+    tableau::clear(workspace, 0, construction::NODE_BYTES * node_capacity);
+    v
 }
 
 // Whether any lasso meets the formula in the bytes, whose fixpoints are to be greatest, with room for so many nodes.
@@ -431,15 +324,10 @@ pub fn decide_safety(
     node_capacity: usize,
     workspace: &mut [u8],
     witness: &mut [u16],
-) -> Verdict
+) -> Result<Verdict, Refusal>
     ensures { Decided bytes.now node_capacity workspace.old workspace.new witness.old
         witness.new result }
 {
-    let r = formula::read(bytes);
-    let outcome = r.outcome;
-    let t = r.table;
-    match outcome {
-        Outcome::Refused(why) => Verdict::Unread(why),
-        Outcome::Accepted => decided(t, node_capacity, workspace, witness),
-    }
+    let t = Tableau::new(formula::read(bytes)?);
+    decided(&t, node_capacity, workspace, witness)
 }

@@ -18,18 +18,19 @@ use Rattle.formula.proofs.RowLaws.{reading-parsed, reading-unread}
 use Rattle.context.specs.Bytes.{replaced}
 use Rattle.substitution.specs.Substitution.{of_spliced, of_number, of_new, of_old, substitution}
 use Rattle.substitution.specs.Contract.{handed}
-use Rattle.substitution.specs.declared.Answer.{Answer}
-use Rattle.substitution.specs.declared.Answer.TheVariants.{Unread, Missing, Substituted}
+use Rattle.substitution.specs.declared.Refusal as answer
+use Rattle.substitution.specs.declared.Refusal.TheVariants.{Unread, Missing}
+use Rattle.std.specs.Prelude.{Result, Ok, Err}
 use Rattle.substitution.specs.declared.Substitution as result
 use Rattle.substitution.proofs.OutcomeLaws.{read_few, entries-size}
 
 abbrev pub Small : Refusal → Type 0
 Small why = (code_of why ≤ 9) × PlacesWithin 97 why
 
-abbrev pub AnswerSmall : Answer → Type 0
-AnswerSmall (Unread source why) = Small why
-AnswerSmall Missing = Unit {0}
-AnswerSmall (Substituted count) = count ≤ 96
+abbrev pub AnswerSmall : Result ℕ answer.Refusal → Type 0
+AnswerSmall (Ok count) = count ≤ 96
+AnswerSmall (Err (Unread source why)) = Small why
+AnswerSmall (Err Missing) = Unit {0}
 
 pub record Bounded (r : result.Substitution) : Type 0 where
   pub answered : AnswerSmall r.answer

@@ -8,6 +8,7 @@ use Rattle.formula.specs.Table.{table}
 use Rattle.formula.specs.Refusal.{at_byte, unguarded}
 use Rattle.formula.specs.Reading.{parse, reading}
 use Rattle.formula.specs.declared.Refusal.{Refusal}
+use Rattle.formula.specs.declared.Fault.TheVariants.{MissingOperator, TooManyOperators, TooManyOfKind, MissingOperand, UnboundVariable}
 use Rattle.substitution.specs.Substitution.{Substitution, substitution}
 
 -- an outcome with the lengths in place of the table
@@ -59,23 +60,23 @@ examples =
     ∷ is sooner_or_later 2 (0x03 ∷ 0x00 ∷ [])
     (Told.edited sooner_or_later (5 ∷ 4 ∷ 1 ∷ 2 ∷ 1 ∷ []))
     ∷ is sooner_or_later 3 (0x08 ∷ 0x05 ∷ 0x00 ∷ [])
-    (Told.of_new (at_byte 7 2))
+    (Told.of_new (at_byte UnboundVariable 2))
     ∷ is sooner_or_later 5 (0x01 ∷ [])
     Told.missing
     ∷ is sooner_or_later 5 (0x03 ∷ [])
-    (Told.of_new (at_byte 5 1))
+    (Told.of_new (at_byte MissingOperand 1))
     ∷ is (0x09 ∷ 0x05 ∷ 0x00 ∷ []) 5 (0x03 ∷ [])
     (Told.of_old (unguarded 0 2))
     ∷ is [] 0 (0x01 ∷ [])
-    (Told.of_old (at_byte 1 0))
+    (Told.of_old (at_byte MissingOperator 0))
     ∷ is (nexts 6) 6 (nexts 6)
     (Told.edited (nexts 12) (13 ∷ 12 ∷ 11 ∷ 10 ∷ 9 ∷ 8 ∷ 7 ∷ 6 ∷ 5 ∷ 4 ∷ 3 ∷ 2 ∷ 1 ∷ []))
     ∷ is (nexts 6) 6 (nexts 7)
-    (Told.of_spliced (at_byte 4 12))
+    (Told.of_spliced (at_byte TooManyOfKind 12))
     ∷ is (ands (0x01 ∷ [])) 46 (0x08 ∷ 0x01 ∷ [])
     (Told.edited (ands (0x08 ∷ 0x01 ∷ [])) (flat_map (λ k. (48 - 2 * k) ∷ 1 ∷ []) (range 0 23) ++ (2 ∷ 1 ∷ [])))
     ∷ is (ands (0x01 ∷ [])) 46 (0x08 ∷ 0x08 ∷ 0x01 ∷ [])
-    (Told.of_spliced (at_byte 3 48))
+    (Told.of_spliced (at_byte TooManyOperators 48))
     ∷ []
 
 pub examples_substituted : map (λ (x : Example). told (substitution x.old x.number x.new)) examples

@@ -13,6 +13,7 @@ use borrow.Author.Tests.{lt-ltb, ltb-true, ltb-false}
 use Rattle.formula.specs.Formula.{Formula, size}
 use Rattle.formula.specs.Table.{Entries, entries}
 use Rattle.formula.specs.Refusal.{at_byte}
+use Rattle.formula.specs.declared.Fault.TheVariants.{UnboundVariable}
 use Rattle.formula.specs.Occurrence.{Closed}
 use Rattle.formula.specs.Reading.{Reading, parse, reading, with_entries}
 use Rattle.formula.proofs.Guarded.{parse-guarded, guarded-closed}
@@ -140,7 +141,7 @@ module _ (old : List ℕ) (c : Context) (a : Formula) (p : parse old ≡ Reading
 
   -- Theorem: where it is not, its bytes alone are refused with 7.
   pub own_refused : (Closed 0 a → ⊥)
-      → (place : ℕ) × (substitution old (number c) own ≡ Substitution.new_unread rows (at_byte 7 place))
+      → (place : ℕ) × (substitution old (number c) own ≡ Substitution.new_unread rows (at_byte UnboundVariable place))
   own_refused free =
       let (place, refused) = own_open old c a p free in
       (place, own_read_as refused)

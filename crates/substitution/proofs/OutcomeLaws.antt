@@ -18,10 +18,8 @@ use Rattle.formula.specs.Rows.{operator_at, entries_of, reading_of}
 use Rattle.formula.specs.Access.{Readable}
 use Rattle.formula.specs.Contract as formula
 use Rattle.formula.specs.Contract.{no_table}
-use Rattle.formula.specs.declared.Refusal.{Refusal}
+use Rattle.formula.specs.declared.Refusal as unread
 use Rattle.formula.specs.declared.Table.{Table}
-use Rattle.formula.specs.declared.Outcome.TheVariants.{Accepted, Refused}
-use Rattle.formula.specs.declared.Reading as code
 use Rattle.formula.proofs.RowLaws.{reading-parsed, outcome-told}
 use Rattle.formula.proofs.FitLaws.{accepted_readable}
 use Rattle.formula.proofs.WellFormed.{table-size}
@@ -37,25 +35,22 @@ use Rattle.substitution.specs.Inner.{ReadAs, spliced_at, Spans, Splices}
 use Rattle.substitution.specs.declared.Span.{Span}
 use Rattle.substitution.specs.declared.Prefix.{Prefix}
 use Rattle.substitution.specs.declared.Substitution as result
-use Rattle.substitution.specs.declared.Answer.{Answer}
-use Rattle.substitution.specs.declared.Answer.TheVariants.{Unread, Missing, Substituted}
+use Rattle.substitution.specs.declared.Refusal.{Refusal}
+use Rattle.substitution.specs.declared.Refusal.TheVariants.{Unread, Missing}
+use Rattle.std.specs.Prelude.{Result, Ok}
 use Rattle.substitution.specs.declared.Source.TheVariants.{New, Spliced}
 
 -- ---- after reading
-module _ (bytes : List ℕ) (r : code.Reading) (is : reading_of r ≡ reading bytes) (determined : r ≡ formula.stored (reading bytes)) where
-  table-told : {x : Reading Entries} → reading bytes ≡ x → r.table ≡ (formula.stored x).table
-  table-told e = ap (λ (q : code.Reading). q.table) (determined ∙ ap formula.stored e)
-
-  pub accepted_as : r.outcome ≡ Accepted → ReadAs bytes r.table
-  accepted_as a =
-      let e = outcome-told bytes r is a in
-      record { is = e; stored = table-told e }
-
-  pub refused-table : {why : Refusal} → r.outcome ≡ Refused why → r.table ≡ no_table
-  refused-table a = table-told (outcome-told bytes r is a)
+pub accepted_as : (bytes : List ℕ) (r : Result Table unread.Refusal) {t : Table} → reading_of r ≡ reading bytes
+    → r ≡ formula.stored (reading bytes) → r ≡ Ok t → ReadAs bytes t
+accepted_as bytes r {t} is determined a =
+    let e = outcome-told bytes r is a in
+    let told : ◌≡◌ {A = Result Table unread.Refusal} (Ok t) (Ok (table_of (entries_of t))) =
+    sym a ∙ determined ∙ ap formula.stored e in
+    record { is = e; stored = cc }
 
 pub as_readable : {bytes : List ℕ} {t : Table} → ReadAs bytes t → Readable t
-as_readable {bytes} {t} h = accepted_readable bytes (record { outcome = Accepted; table = t }) (sym h.is) refl
+as_readable {bytes} {t} h = accepted_readable bytes (Ok t) (sym h.is) refl
 
 pub read_few : (bytes : List ℕ) {x : Entries} → reading bytes ≡ Reading.accepted x → length bytes ≤ 96
 read_few bytes e = (accepted-length bytes (reading-parsed bytes e).1).1
@@ -84,13 +79,13 @@ module _ {bytes : List ℕ} {p : Prefix} (h : Splices bytes p) where
 
   -- all of them, where reading accepts them
   seen_all : {x : Entries} {t : Table} → reading bytes ≡ Reading.accepted x → t ≡ table_of x
-      → ◌≡◌ {A = result.Substitution} (record { answer = Substituted p.count; table = t; bytes = p.bytes })
+      → ◌≡◌ {A = result.Substitution} (record { answer = Ok p.count; table = t; bytes = p.bytes })
       (handed (Substitution.substituted x bytes))
   seen_all e f =
       let whole = take_all 97 bytes (omega (arith, read_few bytes e)) in
       let count : p.count ≡ length bytes = h.count ∙ ap length whole in
       let all : p.bytes ≡ padded bytes = h.is ∙ ap padded whole in
-      λ i. record { answer = Substituted (count i); table = f i; bytes = all i }
+      λ i. record { answer = Ok (count i); table = f i; bytes = all i }
 
 -- ---- where a subformula's bytes are
 pub entries-size : (f : Formula) → length (entries f).operators ≡ size f
@@ -109,9 +104,9 @@ span-inside old f e q l =
 
 -- ---- the questions
 -- a refusal with the old table
-with_table : {old : List ℕ} {t : Table} → ReadAs old t → (answer : Answer)
-    → turned_away answer t ≡ turned_away answer (table_of (entries_of t))
-with_table h answer = ap (turned_away answer) h.stored
+with_table : {old : List ℕ} {t : Table} → ReadAs old t → (why : Refusal)
+    → turned_away why t ≡ turned_away why (table_of (entries_of t))
+with_table h why = ap (turned_away why) h.stored
 
 module _ (old : List ℕ) (t : Table) (h : ReadAs old t) (e : ℕ) (new : List ℕ) where
   abbrev x : Entries
@@ -145,12 +140,12 @@ module _ (old : List ℕ) (t : Table) (h : ReadAs old t) (e : ℕ) (new : List �
           ∙ sym (ap (λ (r : Reading Entries). handed (of_spliced x (replaced old x e new) r))
           (ap reading (sym spliced-is) ∙ sym (seen-reading b) ∙ q))
 
-      pub prefix_refused : {why : Refusal} → reading (take p.count p.bytes) ≡ Reading.refused why
+      pub prefix_refused : {why : unread.Refusal} → reading (take p.count p.bytes) ≡ Reading.refused why
           → turned_away (Unread Spliced why) t ≡ handed (of_number old x e new true)
       prefix_refused q = with_table h (Unread Spliced _) ∙ prefix_told q
 
       pub prefix_accepted : {u : Table} → ReadAs (take p.count p.bytes) u
-          → record { answer = Substituted p.count; table = u; bytes = p.bytes } ≡ handed (of_number old x e new true)
+          → record { answer = Ok p.count; table = u; bytes = p.bytes } ≡ handed (of_number old x e new true)
       prefix_accepted a = seen_all b (sym (seen-reading b) ∙ a.is) a.stored ∙ prefix_told a.is
 
   -- question 37
@@ -168,7 +163,7 @@ module _ (old : List ℕ) (t : Table) (h : ReadAs old t) (e : ℕ) (new : List �
   pub new_told : {r : Reading Entries} → reading new ≡ r → handed (of_new old x e new r) ≡ handed (of_new old x e new (reading new))
   new_told q = sym (ap (λ (r : Reading Entries). handed (of_new old x e new r)) q)
 
-  pub new_refused : {why : Refusal} → reading new ≡ Reading.refused why
+  pub new_refused : {why : unread.Refusal} → reading new ≡ Reading.refused why
       → turned_away (Unread New why) t ≡ handed (of_new old x e new (reading new))
   new_refused q = with_table h (Unread New _) ∙ new_told q
 

@@ -1,85 +1,41 @@
--- The spliced bytes one by one: before the span they are the old ones, then the new ones, then the old ones from behind the span. And as
--- many of them as reading looks at, written over zeros from the first on. Assumes nothing.
-use mathlib.Core.Path.{◌≡◌, sym, ap, ◌∙◌}
-use mathlib.Core.List.{List, ◌++◌}
-use Prim.Native.Nat.{ℕ, suc, ◌+◌, ◌-◌, ◌≤◌, ◌<◌}
-use native.Mathlib.Omega.{arith}
-use lib.ListN.{length, get_or, take, drop, set, replicate, length-append, length-drop, length-take, take-append-drop, get_or-append}
-use lib.Seq.{length-take-le, take_all, take_at, take-suc, append_snoc, set_at, get_or-append-add, get_or-take, get_or-drop}
+-- The spliced bytes as the code goes through them: the old bytes before the span, the new ones, the old ones from behind the span, and no
+-- more than reading looks at. They are written over zeros from the first on. Assumes nothing.
+use Rattle.std.proofs.Common.{◌≡◌, sym, ap, ◌∙◌, ℕ, suc, ◌+◌, ◌-◌, ◌<◌, ◌≤◌, arith}
+use Rattle.std.proofs.Common.{List, [], ◌∷◌, ◌++◌, length, get_or, take, set, replicate, length-take}
+use Rattle.std.proofs.lemmas.Iterator.{YieldsList}
+use Rattle.std.proofs.lemmas.Fn.{fronts}
+use Rattle.std.proofs.lemmas.List.{take_more}
+use Rattle.std.proofs.Math.Seq.{length-take-le, set_at, append_snoc, take_all}
+use Rattle.std.specs.Iterator.Adapters.{take_steps, chain_steps}
 use Rattle.substitution.specs.Contract.{padded}
-use Rattle.substitution.specs.Inner.{spliced_at, Spans}
-use Rattle.substitution.specs.declared.Span.{Span}
-
-module _ (s : Span) (old new : List ℕ) (h : Spans s old new) where
-  before-long : length (take s.from old) ≡ s.from
-  before-long = length-take-le s.from old (omega (arith, h.order, h.inside))
-
-  pub spliced-length : length (spliced_at s old new) ≡ s.from + length new + (length old - s.to)
-  spliced-length =
-      omega (
-        arith,
-        length-append (take s.from old) (new ++ drop s.to old),
-        length-append new (drop s.to old),
-        length-drop s.to old,
-        before-long,
-      )
-
-  pub byte-before : (i : ℕ) → i < s.from → get_or old i 0 ≡ get_or (spliced_at s old new) i 0
-  byte-before i l =
-      sym (get_or-append (take s.from old) (new ++ drop s.to old) 0 i (omega (arith, before-long))
-      ∙ get_or-take s.from old i 0 l)
-
-  -- from the span on
-  byte_from : (i : ℕ) → s.from ≤ i → get_or (spliced_at s old new) i 0 ≡ get_or (new ++ drop s.to old) (i - s.from) 0
-  byte_from i l =
-      ap (λ (k : ℕ). get_or (spliced_at s old new) k 0) {x = i} {y = length (take s.from old) + (i - s.from)} (omega (arith, before-long))
-      ∙ get_or-append-add (take s.from old) (new ++ drop s.to old) (i - s.from) 0
-
-  pub byte_new : (i : ℕ) → s.from ≤ i → i - s.from < length new → get_or new (i - s.from) 0 ≡ get_or (spliced_at s old new) i 0
-  byte_new i l k = sym (byte_from i l ∙ get_or-append new (drop s.to old) 0 (i - s.from) k)
-
-  pub behind-inside : (i : ℕ) → i < length (spliced_at s old new) → s.from ≤ i → length new ≤ i - s.from
-      → s.to + (i - s.from - length new) < length old
-  behind-inside i l k n = omega (arith, spliced-length, h.order, h.inside)
-
-  pub byte-behind : (i : ℕ) → s.from ≤ i → length new ≤ i - s.from
-      → get_or old (s.to + (i - s.from - length new)) 0 ≡ get_or (spliced_at s old new) i 0
-  byte-behind i l k =
-      let j = i - s.from - length new in
-      sym (byte_from i l
-      ∙ ap (λ (n : ℕ). get_or (new ++ drop s.to old) n 0) {x = i - s.from} {y = length new + j} (omega arith)
-      ∙ get_or-append-add new (drop s.to old) j 0
-      ∙ get_or-drop s.to old j 0)
-
--- how many of some bytes reading looks at
-module _ (bytes : List ℕ) where
-  pub all_seen : {n : ℕ} → n ≡ length bytes → n < 97 → n ≡ length (take 97 bytes)
-  all_seen e l = e ∙ ap length (sym (take_all 97 bytes (omega arith)))
-
-  pub most-seen : 97 ≤ length bytes → 97 ≡ length (take 97 bytes)
-  most-seen l = sym (length-take-le 97 bytes l)
-
-  pub seen-length : (length (take 97 bytes) ≤ 97) × (length (take 97 bytes) ≤ length bytes)
-  seen-length = (omega (arith, length-take 97 bytes), omega (arith, length-take 97 bytes))
 
 -- zeros, the first i of which are now those of the list
-abbrev pub written : List ℕ → ℕ → List ℕ
-written bytes i = take i bytes ++ replicate {A = ℕ} (97 - i) 0
+abbrev written : List ℕ → ℕ → List ℕ
+written seen i = take i seen ++ replicate {A = ℕ} (97 - i) 0
 
-module _ (bytes : List ℕ) where
-  pub written-more : (i : ℕ) → i < 97 → i < length bytes → set (written bytes i) i (get_or bytes i 0) ≡ written bytes (i + 1)
-  written-more i l k =
-      let rest = replicate {A = ℕ} (96 - i) 0 in
-      let b = get_or bytes i 0 in
-      ap (λ (n : ℕ). set (take i bytes ++ replicate {A = ℕ} n 0) i b) {x = 97 - i} {y = suc (96 - i)} (omega arith)
-      ∙ set_at (take i bytes) 0 rest b i (length-take-le i bytes (omega arith))
-      ∙ sym (append_snoc (take i bytes) b rest)
-      ∙ ap (λ (p : List ℕ). p ++ rest) (sym (take-suc bytes i 0 k))
-      ∙ ap (λ (n : ℕ). take (suc i) bytes ++ replicate {A = ℕ} n 0) {x = 96 - i} {y = 97 - suc i} (omega arith)
-      ∙ ap (written bytes) {x = suc i} {y = i + 1} (omega arith)
+-- So many of the bytes that reading looks at are written, and the iterator s gives them all.
+pub record Writing (s : _) (spliced : List ℕ) (count : ℕ) (bytes : List ℕ) (i : ℕ) : Type 0 where
+  pub counts : count ≡ i
+  pub is : bytes ≡ written (take 97 spliced) i
+  pub road : YieldsList (take_steps (chain_steps fronts (chain_steps fronts fronts))) (λ b. b.now) s (take 97 spliced)
 
-  pub written_all : (n : ℕ) → n ≡ length (take 97 bytes) → written bytes n ≡ padded (take 97 bytes)
-  written_all n e =
-      ap (λ (l : List ℕ). take n l ++ replicate {A = ℕ} (97 - n) 0) (sym (take-append-drop 97 bytes))
-      ∙ ap (λ (l : List ℕ). l ++ replicate {A = ℕ} (97 - n) 0) (take_at (take 97 bytes) (drop 97 bytes) n (sym e))
-      ∙ ap (λ (k : ℕ). take 97 bytes ++ replicate {A = ℕ} (97 - k) 0) e
+pub seen-length : (spliced : List ℕ) → length (take 97 spliced) ≤ 97
+seen-length spliced = omega (arith, length-take 97 spliced)
+
+pub written-more : (spliced : List ℕ) {i b : ℕ} → (i < length (take 97 spliced)) × (b ≡ get_or (take 97 spliced) i b)
+    → set (written (take 97 spliced) i) i b ≡ written (take 97 spliced) (i + 1)
+written-more spliced {i} {b} h =
+    let seen = take 97 spliced in
+    let rest = replicate {A = ℕ} (96 - i) 0 in
+    let few = seen-length spliced in
+    ap (λ (n : ℕ). set (take i seen ++ replicate {A = ℕ} n 0) i b) {x = 97 - i} {y = suc (96 - i)} (omega arith)
+    ∙ set_at (take i seen) 0 rest b i (length-take-le i seen (omega arith))
+    ∙ sym (append_snoc (take i seen) b rest)
+    ∙ ap (λ (p : List ℕ). p ++ rest) (ap (λ (d : ℕ). take i seen ++ d ∷ []) h.1 ∙ sym (take_more seen i b h.0))
+    ∙ ap (λ (n : ℕ). take (i + 1) seen ++ replicate {A = ℕ} n 0) {x = 96 - i} {y = 97 - (i + 1)} (omega arith)
+
+pub written_all : (spliced : List ℕ) {i : ℕ} → i ≡ length (take 97 spliced)
+    → written (take 97 spliced) i ≡ padded (take 97 spliced)
+written_all spliced {i} e =
+    let seen = take 97 spliced in
+    ap (written seen) e ∙ ap (λ (l : List ℕ). l ++ replicate {A = ℕ} (97 - length seen) 0) (take_all (length seen) seen (omega arith))

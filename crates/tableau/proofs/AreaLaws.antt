@@ -1,26 +1,21 @@
--- Words in a byte area: what is put is what is read (`eight-stored`, `words-stored`), one word more (`put-store`), and the loop that looks
--- for a word (`Looking`), with what its answer tells (`found-member`, `absent_member`). A number below 2^64 is the sum of its eight bytes;
+-- Words in a byte area: what is put is what is read (`eight-stored`, `words-stored`), one word more (`put-store`), and where a word
+-- is found by looking at one after the other (`found_from`), with what it tells that none is (`absent_member`). A number below 2^64 is the sum of its eight bytes;
 -- past eight bytes, the rest of an area is an area. Assumes nothing.
-use mathlib.Core.Path.{◌≡◌, refl, sym, ap, ◌∙◌}
-use mathlib.Core.Bool.{Bool, true, false, cond}
-use mathlib.Core.List.{List, [], ◌∷◌, ◌++◌, append_assoc, Memᴰ}
-use Prim.Native.Nat.{ℕ, zero, suc, ◌+◌, ◌-◌, ◌*◌, ◌^◌, ◌≤◌, ◌<◌}
-use native.Mathlib.Omega.{arith}
-use native.Mathlib.Nat.{sub-zero}
-use native.Mathlib.Numerals.{add-one}
-use lib.Dec.{eqb, ltb}
-use lib.ListN.{length, get_or, set, take, drop, length-append, length-take, length-replicate, take-append-drop, replicate-append-replicate}
-use lib.Seq.{take_at, drop-drop, drop-append-add, set_at, drop-cons}
-use borrow.Author.Tests.{lt-ltb, le-ltb, eq-eqb, ne_eqb}
+use Rattle.std.proofs.Common.{Option, Some, None, ◌≡◌, refl, sym, ap, ◌∙◌, Bool, true, false, cond, List, [], ◌∷◌, ◌++◌, map}
+use Rattle.std.proofs.Common.{append_assoc, ℕ, zero, suc, ◌+◌, ◌*◌, ◌^◌, ◌<◌, arith, add-one, eqb, ltb, length, get_or, drop}
+use Rattle.std.proofs.Common.{length-append, take_at, drop-drop, lt-ltb}
+use Rattle.std.proofs.Math.Seq.{drop-append-add}
+use mathlib.Core.List.{Memᴰ}
+use Rattle.std.specs.List.{find, range_with_len}
+use Prim.Native.Nat.compare
 use Rattle.base.specs.Lists.{member, flat_map, index}
 use Rattle.base.specs.Bytes.{with_number}
 use Rattle.base.proofs.AppendLaws.{flat_map_append}
 use Rattle.base.proofs.BytesLaws.{number-bytes, number_behind}
+use Rattle.base.proofs.TestLaws.{eqb_flip}
 use Rattle.base.proofs.IndexLaws.{index-any}
-use Rattle.tableau.specs.Area.{bytes8, eight, store, words_at, lookup, zeros, cleared}
 use Rattle.tableau.specs.declared.NodeNumber.{NodeNumber}
-use Rattle.tableau.specs.declared.Lookup.{Lookup}
-use Rattle.tableau.specs.declared.Lookup.TheVariants.{Number, Absent}
+use Rattle.tableau.specs.Area.{bytes8, eight, store, words_at, lookup}
 
 abbrev pub WordsFit : List ℕ → Type 0
 WordsFit ws = (x : ℕ) → Memᴰ x ws → x < 2 ^ 64
@@ -69,45 +64,27 @@ put-store ws a x =
     ∙ sym (append_assoc (flat_map bytes8 ws) (bytes8 x) (drop (8 * length (ws ++ (x ∷ []))) a))
     ∙ ap (λ (l : List ℕ). l ++ drop (8 * length (ws ++ (x ∷ []))) a) (sym (flat_map_append bytes8 ws (x ∷ [])))
 
--- looking for a word, node by node
-module _ (a : List ℕ) (known i x : ℕ) where
-  words_turn : i < known → words_at a i (known - i) ≡ eight a (8 * i) ∷ words_at a (i + 1) (known - (i + 1))
-  words_turn h =
-      ap (words_at a i) {x = known - i} {y = suc (known - (i + 1))} (omega arith)
-      ∙ ap (λ (j : ℕ). eight a (8 * i) ∷ words_at a j (known - (i + 1))) (sym (add-one i))
+-- the number r among known ones
+abbrev pub number_if : (r known i : ℕ) → Option NodeNumber
+number_if r known i = cond (ltb r known) (Some (record { 0 = i })) None
 
-  find_here : i < known → eight a (8 * i) ≡ x → index (eqb x) (words_at a i (known - i)) ≡ 0
-  find_here h e = ap (index (eqb x)) (words_turn h) ∙ rw (eq-eqb x (eight a (8 * i)) (sym e))
+-- looking for a word, node by node, among the n nodes from node i on
+abbrev pub among : (a : List ℕ) (x i n : ℕ) → Option NodeNumber
+among a x i n = find (λ (m : NodeNumber). eqb (eight a (8 * m.0)) x) (map (λ (k : ℕ). record { 0 = k }) (range_with_len i n))
 
-  find_past : i < known → (eight a (8 * i) ≡ x → ⊥)
-      → index (eqb x) (words_at a i (known - i)) ≡ suc (index (eqb x) (words_at a (i + 1) (known - (i + 1))))
-  find_past h e = ap (index (eqb x)) (words_turn h) ∙ rw (ne_eqb x (eight a (8 * i)) (λ q. e (sym q)))
-
--- after i turns: the word's number is i and its number among the words from i on
-pub record Looking (a : List ℕ) (known x i : ℕ) : Type 0 where
-  pub low : i ≤ known
-  pub sum : index (eqb x) (words_at a 0 known) ≡ i + index (eqb x) (words_at a i (known - i))
-
-pub look_start : (a : List ℕ) (known x : ℕ) → Looking a known x 0
-look_start a known x = record {
-  low = omega arith;
-  sum = omega (arith, ap (λ (n : ℕ). index (eqb x) (words_at a 0 n)) (sub-zero known));
-}
-
-module _ {a : List ℕ} {known x i : ℕ} (l : Looking a known x i) where
-  pub look_next : i < known → (eight a (8 * i) ≡ x → ⊥) → Looking a known x (i + 1)
-  look_next h e = record { low = omega arith; sum = omega (arith, l.sum, find_past a known i x h e) }
-
-  pub look_found : i < known → eight a (8 * i) ≡ x → Number (record { 0 = i }) ≡ lookup known (index (eqb x) (words_at a 0 known))
-  look_found h e =
-      let here : i ≡ index (eqb x) (words_at a 0 known) = omega (arith, l.sum, find_here a known i x h e) in
-      sym (ap (λ (b : Bool). cond b (Number (record { 0 = i })) Absent) (lt-ltb i known h)) ∙ ap (lookup known) here
-
-  pub look_absent : known ≤ i → Absent ≡ lookup known (index (eqb x) (words_at a 0 known))
-  look_absent h =
-      let past : known ≤ index (eqb x) (words_at a 0 known) = omega (arith, l.sum, l.low) in
-      let n = index (eqb x) (words_at a 0 known) in
-      sym (ap (λ (b : Bool). cond b (Number (record { 0 = n })) Absent) (le-ltb n known past))
+pub found_from : (a : List ℕ) (x i n : ℕ)
+    → among a x i n ≡ number_if (index (eqb x) (words_at a i n)) n (i + index (eqb x) (words_at a i n))
+found_from a x i zero = refl
+found_from a x i (suc n) =
+    ap (λ (b : Bool). cond b (Some (record { 0 = i })) (among a x (i + 1) n)) (eqb_flip (eight a (8 * i)) x)
+    ∙ by (eqb x (eight a (8 * i))) _ (ap (λ (k : ℕ). among a x k n) (add-one i) ∙ found_from a x (suc i) n)
+  where
+    by : (b : Bool) {o : Option NodeNumber} (r : ℕ) → o ≡ number_if r n (suc i + r)
+        → cond b (Some (record { 0 = i })) o ≡ number_if (cond b 0 (suc r)) (suc n) (i + cond b 0 (suc r))
+    by true r e =
+        ap (number_if 0 1) {x = i} {y = i + 0} (omega arith)
+        ∙ ap (λ (b : Bool). cond {A = Option NodeNumber} b (Some (record { 0 = i + 0 })) None) (sym (lt-ltb 0 (suc n) (omega arith)))
+    by false r e = rw compare.suc-suc (e ∙ ap (λ (k : ℕ). number_if r n k) {x = suc i + r} {y = i + suc r} (omega arith))
 
 pub words-length : (a : List ℕ) (i n : ℕ) → length (words_at a i n) ≡ n
 words-length a i zero = refl
@@ -115,53 +92,16 @@ words-length a i (suc n) = ap suc (words-length a (suc i) n)
 
 -- whether a word is among those known, by where it was found
 module _ (a : List ℕ) (known x : ℕ) where
-  abbrev place : ℕ
+  abbrev pub place : ℕ
   place = index (eqb x) (words_at a 0 known)
 
   by_index : ltb place known ≡ member x (words_at a 0 known)
   by_index = ap (ltb place) (sym (words-length a 0 known)) ∙ index-any (eqb x) (words_at a 0 known)
 
-  pub found-member : {r : Lookup} (n : NodeNumber) → r ≡ lookup known place → r ≡ Number n
-      → true ≡ member x (words_at a 0 known)
-  found-member n e q = by (ltb place known) (sym e ∙ q) ∙ by_index
-    where
-      by : (b : Bool) → cond b (Number (record { 0 = place })) Absent ≡ Number n → true ≡ b
-      by true e = refl
-      by false e = let z : ◌≡◌ {A = ℕ} 0 1 = cc in absurd (omega arith)
-
-  pub absent_member : {r : Lookup} → r ≡ lookup known place → r ≡ Absent
+  pub absent_member : {r : Option NodeNumber} → r ≡ lookup known place → r ≡ None
       → false ≡ member x (words_at a 0 known)
   absent_member e q = by (ltb place known) (sym e ∙ q) ∙ by_index
     where
-      by : (b : Bool) → cond b (Number (record { 0 = place })) Absent ≡ Absent → false ≡ b
+      by : (b : Bool) → cond {A = Option NodeNumber} b (Some (record { 0 = place })) None ≡ None → false ≡ b
       by true e = let z : ◌≡◌ {A = ℕ} 0 1 = cc in absurd (omega arith)
       by false e = refl
-
--- zeros, one more
-zeros-more : (n : ℕ) → zeros n ++ (0 ∷ []) ≡ zeros (n + 1)
-zeros-more n = replicate-append-replicate {A = ℕ} n 1 0
-
--- zeros from a byte on, one more
-module _ (a : List ℕ) (from : ℕ) where
-  pub clear_none : a ≡ cleared from from a
-  clear_none =
-      sym (take-append-drop from a) ∙ ap (λ (n : ℕ). take from a ++ (zeros n ++ drop from a)) {x = 0} {y = from - from} (omega arith)
-
-  pub clear_more : (b : List ℕ) (i : ℕ) → b ≡ cleared from i a → from ≤ i → i < length a → set b i 0 ≡ cleared from (i + 1) a
-  clear_more b i e low high =
-      ap (λ (l : List ℕ). set l i 0) (e ∙ ap (λ (l : List ℕ). take from a ++ (zeros k ++ l)) (drop-cons a i 0 high) ∙ parted _)
-      ∙ set_at (take from a ++ zeros k) (get_or a i 0) (drop (suc i) a) 0 i front_length
-      ∙ sym (parted _)
-      ∙ ap (λ (l : List ℕ). take from a ++ l) (sym (append_assoc (zeros k) (0 ∷ []) (drop (suc i) a)))
-      ∙ ap (λ (l : List ℕ). take from a ++ (l ++ drop (suc i) a)) (zeros-more k)
-      ∙ ap (λ (n : ℕ). take from a ++ (zeros n ++ drop (suc i) a)) {x = k + 1} {y = (i + 1) - from} (omega arith)
-      ∙ ap (λ (n : ℕ). take from a ++ (zeros ((i + 1) - from) ++ drop n a)) (sym (add-one i))
-    where
-      k : ℕ
-      k = i - from
-
-      parted : (l : List ℕ) → take from a ++ (zeros k ++ l) ≡ (take from a ++ zeros k) ++ l
-      parted l = sym (append_assoc (take from a) (zeros k) l)
-
-      front_length : length (take from a ++ zeros k) ≡ i
-      front_length = omega (arith, length-append (take from a) (zeros k), length-take from a, length-replicate {A = ℕ} k 0)

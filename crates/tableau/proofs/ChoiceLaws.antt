@@ -2,14 +2,11 @@
 -- (`chosen`), its saturated set is inside every set around the node that no picked move leaves, and so its transition exists if a letter
 -- is allowed by such a set. And two transitions with the same picks at the or operators that are met are one (`transition_unique`): the
 -- saturated set depends only on these picks, and a choice has no others. Assumes nothing.
-use mathlib.Core.Path.{◌≡◌, refl, sym, ap, subst, subst⁻¹, ◌∙◌}
-use mathlib.Core.Bool.{Bool, true, false, cond, ◌&&◌}
+use Rattle.std.proofs.Common.{◌≡◌, refl, sym, ap, subst, ◌∙◌, Bool, true, false, cond, ◌&&◌, List, [], ◌∷◌, ℕ, zero, suc, ◌+◌, ◌*◌, ◌/◌}
+use Rattle.std.proofs.Common.{◌%◌, ◌^◌, ◌<◌, arith, T, eqb, length}
+use Rattle.std.proofs.Math.Path.{subst⁻¹}
+use mathlib.Core.List.{Memᴰ}
 use mathlib.Core.List.Memᴰ
-use mathlib.Core.List.{List, [], ◌∷◌, Memᴰ}
-use Prim.Native.Nat.{ℕ, zero, suc, ◌+◌, ◌*◌, ◌/◌, ◌%◌, ◌^◌, ◌<◌}
-use native.Mathlib.Omega.{arith}
-use lib.Dec.{T, eqb}
-use lib.ListN.{length}
 use Rattle.base.specs.Bits.{word}
 use Rattle.base.specs.Lists.{range}
 use Rattle.base.specs.Sets.{Inside}

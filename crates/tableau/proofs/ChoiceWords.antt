@@ -2,16 +2,12 @@
 -- read as (`word_read`), so the transitions of a node stand by rising choice word (`transitions-rising`). Hence a node and a choice word
 -- have at most one transition (`transition_one`), and a run is settled by its first node and its choice words (`along_one`).
 -- Assumes nothing.
-use mathlib.Core.Path.{◌≡◌, refl, sym, ap, subst, subst⁻¹, ◌∙◌}
-use mathlib.Core.Logic.{inl, inr}
-use mathlib.Core.Bool.{Bool, true, false, cond}
+use Rattle.std.proofs.Common.{◌≡◌, refl, sym, ap, subst, ◌∙◌, inl, inr, Bool, true, false, cond, List, [], ◌∷◌, ◌++◌, ℕ, zero, suc, ◌+◌}
+use Rattle.std.proofs.Common.{◌/◌, ◌%◌, ◌^◌, ◌≤◌, ◌<◌, arith, T, eqb, length, length-append, get_or, take, pow-add, pow_mono}
+use Rattle.std.proofs.Math.ListN.{length-map}
+use Rattle.std.proofs.Math.Path.{subst⁻¹}
+use mathlib.Core.List.{map-append, Memᴰ}
 use mathlib.Core.List.Memᴰ
-use mathlib.Core.List.{List, [], ◌∷◌, ◌++◌, map-append, Memᴰ}
-use Prim.Native.Nat.{ℕ, zero, suc, ◌+◌, ◌/◌, ◌%◌, ◌^◌, ◌≤◌, ◌<◌}
-use native.Mathlib.Omega.{arith}
-use lib.Dec.{T, eqb}
-use lib.ListN.{length, length-append, length-map, get_or, take}
-use lib.Pow.{pow-add, pow_mono}
 use Rattle.base.specs.Bits.{bit}
 use Rattle.base.specs.Lists.{range}
 use Rattle.base.proofs.BoolLaws.{by_test}

@@ -2,16 +2,10 @@
 -- other operator, which no choice settles (`closing_turn`). At the end only ors wait (`closing_rest`), and from there a saturation can go
 -- on under any choice. What it gathers is what the core gathers and what the rest does (`gathered_on`); if the core's set cannot be, no
 -- saturation can (`core_dead`). Assumes nothing.
-use mathlib.Core.Path.{◌≡◌, refl, sym, ap, subst, subst⁻¹, ◌∙◌}
-use mathlib.Core.Bool.{Bool, true, false, cond, ◌&&◌, ◌||◌}
-use mathlib.Core.List.{List, []}
-use Prim.Native.Nat.{ℕ, ◌+◌, ◌-◌, ◌*◌, ◌%◌, ◌^◌, ◌≤◌, ◌<◌}
-use native.Mathlib.Omega.{arith}
-use lib.Bits.{bit_or, bit_xor, or_zero_r, or_zero_l}
-use lib.Pow.{pow_pos}
-use lib.Dec.{T, eqb}
-use lib.ListN.{length}
-use borrow.Author.Tests.{eqb-true}
+use Rattle.std.proofs.Common.{◌≡◌, refl, sym, ap, subst, ◌∙◌, Bool, true, false, cond, ◌&&◌, ◌||◌, List, [], ℕ, ◌+◌, ◌-◌, ◌*◌, ◌%◌, ◌^◌}
+use Rattle.std.proofs.Common.{◌≤◌, ◌<◌, arith, bit_or, bit_xor, pow_pos, T, eqb, length, eqb-true}
+use Rattle.std.proofs.Math.Path.{subst⁻¹}
+use lib.Bits.{or_zero_r, or_zero_l}
 use Rattle.base.specs.Bits.{bit, word, Lowest, Without}
 use Rattle.base.specs.Sets.{Inside}
 use Rattle.base.proofs.BoolLaws.{to_T}
@@ -32,7 +26,7 @@ use Rattle.tableau.proofs.SaturationLaws.{saturate-length}
 use Rattle.tableau.proofs.TransitionLaws.{transition_by}
 use Rattle.tableau.proofs.FringeLaws.{Turn, falls, spread-start, spread_with, moves_at-below, closing_inside}
 use Rattle.tableau.proofs.PartLaws.{apart, apart-length, apart-word, required_parts, hopeless}
-use Rattle.tableau.proofs.TargetLaws.{gathered_words, RequiredOf}
+use Rattle.tableau.proofs.TargetLaws.{RequiredOf}
 
 -- no choice settles the moves of an operator that is no or
 moves-settled : (o : Operator) → is_or o ≡ false → (p q : Bool) → moves o p ≡ moves o q
@@ -242,7 +236,7 @@ module _ {rows : List ℕ} {count : ℕ} {node set fringe : ℕ} (s : (choice : 
           j
 
   -- Theorem: if the core holds false or clashes, the node has no transition.
-  pub core_dead : (g.falsum || clash (gathered_words g)) ≡ true → (x : ℕ) → LeadsNowhere rows count node x
+  pub core_dead : (g.falsum || clash g.required) ≡ true → (x : ℕ) → LeadsNowhere rows count node x
   core_dead e x = record { is = go }
     where
       w : Subset
@@ -252,7 +246,7 @@ module _ {rows : List ℕ} {count : ℕ} {node set fringe : ℕ} (s : (choice : 
       go v l n =
           let r = core-requires w v l n in
           let dead = hopeless t (inside w v l n)
-          (sym (λ i. r.falsum_is i || clash (record { present = r.present_is i; absent = r.absent_is i })) ∙ e) in
+          (sym (λ i. r.falsum_is i || clash (r.required_is i)) ∙ e) in
           transition_by t w (saturate t w v) false (last (within w (saturate t w v)) dead)
         where
           last : (b : Bool) {c : Bool} → c ≡ false → (b && c) ≡ false

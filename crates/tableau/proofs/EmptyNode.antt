@@ -1,13 +1,8 @@
 -- MEANING 3.6. Nothing is saturated to nothing, so each transition of the empty node requires nothing and leads back to it with the flag of
 -- the previous scale alone (`empty_transition`), and there is one, with no pick (`empty-transitions`). Assumes nothing.
-use mathlib.Core.Path.{◌≡◌, refl, ap, subst, ◌∙◌}
-use mathlib.Core.Bool.{Bool, true, false, cond}
+use Rattle.std.proofs.Common.{◌≡◌, refl, ap, subst, ◌∙◌, Bool, true, false, cond, [], ◌∷◌, ◌/◌, ◌%◌, ◌^◌, arith, T, eqb, pow_pos}
+use mathlib.Core.List.{Memᴰ}
 use mathlib.Core.List.Memᴰ
-use mathlib.Core.List.{[], ◌∷◌, Memᴰ}
-use Prim.Native.Nat.{◌/◌, ◌%◌, ◌^◌}
-use native.Mathlib.Omega.{arith}
-use lib.Dec.{T, eqb}
-use lib.Pow.{pow_pos}
 use Rattle.base.proofs.MemberLaws.{range_in}
 use Rattle.base.proofs.Inside.{inside_refl}
 use Rattle.letters.specs.Requirements.{letter_of}

@@ -1,11 +1,9 @@
 -- The first of the runs in the shape of a lasso. It is the one whose standing no other comes before (`foremost_of`, `foremost-standing`),
 -- and there is only one (`one-foremost`): two of them have the same choice words from the root on. Assumes nothing.
-use mathlib.Core.Path.{◌≡◌, sym, ap, subst⁻¹, ◌∙◌}
-use mathlib.Core.Logic.{inl, inr}
-use mathlib.Core.List.{List, ◌∷◌, ◌++◌, map-append}
-use Prim.Native.Nat.{ℕ, ◌≤◌}
-use native.Mathlib.Omega.{arith}
-use lib.ListN.{length, length-map}
+use Rattle.std.proofs.Common.{◌≡◌, sym, ap, ◌∙◌, inl, inr, List, ◌∷◌, ◌++◌, ℕ, ◌≤◌, arith, length}
+use Rattle.std.proofs.Math.ListN.{length-map}
+use Rattle.std.proofs.Math.Path.{subst⁻¹}
+use mathlib.Core.List.{map-append}
 use Rattle.base.specs.Order.{Before, NoLater}
 use Rattle.base.proofs.OrderLaws.{before_front, before-behind, no_later_both, no_later_first, no_later_rest, no_later_by}
 use Rattle.base.proofs.AppendLaws.{append_cancel}

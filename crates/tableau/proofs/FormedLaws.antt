@@ -1,10 +1,5 @@
 -- The rows of an accepted formula are what the code asks for: reading's laws on operators and on limits say so. Assumes nothing.
-use mathlib.Core.Path.{◌≡◌, refl, ap}
-use mathlib.Core.Bool.{Bool, true, false, cond}
-use mathlib.Core.List.{List, [], ◌∷◌}
-use Prim.Native.Nat.{ℕ, ◌+◌}
-use native.Mathlib.Omega.{arith}
-use lib.ListN.{length}
+use Rattle.std.proofs.Common.{◌≡◌, refl, ap, Bool, true, false, cond, List, [], ◌∷◌, ℕ, ◌+◌, arith, length}
 use Rattle.base.specs.Lists.{filter}
 use Rattle.formula.specs.Table.{Table as Operators, is_or}
 use Rattle.formula.specs.declared.Table.{Table}

@@ -1,18 +1,21 @@
 -- What a part of the search for the nodes leaves. Where no node is left to go on from: the definition's nodes (`gone_held`), where each was
 -- found from (`gone-origins`), and all their transitions, where the relation has room for them (`gone-noted`). Else, what the next part
 -- begins with (`gone-found`, `gone_steps`). Assumes nothing.
-use mathlib.Core.Path.{subst}
-use mathlib.Core.List.{List}
-use Prim.Native.Nat.{ℕ, ◌≤◌, min}
-use native.Mathlib.Omega.{arith}
-use native.Mathlib.Decide.{dec_lt}
+use Rattle.std.proofs.Common.{Option, Some, None, IfSome, subst, List, ℕ, ◌≤◌, min, arith}
+use Rattle.std.proofs.Math.Decide.{dec_lt}
 use Rattle.tableau.specs.Origins.{Origins}
 use Rattle.tableau.specs.Inner.{table_of}
-use Rattle.tableau.specs.Area.{NodesHeld, reachable}
+use Rattle.tableau.specs.Area.{counted, NodesHeld, reachable}
 use Rattle.tableau.specs.Steps.{StepsBefore, StepsNoted}
 use Rattle.tableau.specs.Found.{Finding, HasBlocks, GoneOn, Searched}
 use Rattle.tableau.proofs.NodeLoop.{find_end, find_origins}
 use Rattle.tableau.proofs.StepLaws.{steps_end}
+
+-- what holds of the number as it is counted, where there is room, holds of it where the code gives it
+pub some_counted : (P : ℕ → Type 0) (capacity : ℕ) (r : Option ℕ) → IfSome r (λ n. n ≤ capacity)
+    → (counted capacity r ≤ capacity → P (counted capacity r)) → IfSome r P
+some_counted P capacity None h f = tt
+some_counted P capacity (Some n) h f = f h
 
 -- the first part
 pub searched : {rows : List ℕ} {count to capacity r : ℕ} {a area o rel area' slots' o' rel' : List ℕ}

@@ -1,20 +1,16 @@
 -- The least set around a node that no move leaves, by a fringe, the subformulas of the set whose moves are still to be followed. The set
 -- lies inside every set around the node that no move leaves, and follows the moves itself but for the fringe (`MovesClosing`). A turn
 -- takes a subformula out of the fringe and puts in what its moves add to the set (`spread_turn`). What enters the fringe enters the set
--- once and for all, which is why the turns end (`spread-less`). With no fringe left the set follows the moves, so it is the least
+-- once and for all, which is why the turns end (`turn_less`). With no fringe left the set follows the moves, so it is the least
 -- (`spread-rest`); where these are the moves of one choice, it is the saturation (`saturated_rest`). Assumes nothing.
-use mathlib.Core.Path.{◌≡◌, refl, sym, ap, subst, subst⁻¹, ◌∙◌}
-use mathlib.Core.Logic.{◌⊎◌, inl, inr}
-use mathlib.Core.Bool.{Bool, true, false, cond, not, ◌||◌}
-use mathlib.Core.List.{List, Memᴰ}
-use Prim.Native.Nat.{ℕ, ◌+◌, ◌-◌, ◌*◌, ◌%◌, ◌^◌, ◌≤◌, ◌<◌}
-use native.Mathlib.Omega.{arith}
-use native.Mathlib.Nat.{zero-add, mod-eq_of_lt}
-use lib.Bits.{bit_or, bit_xor, or_add_and}
-use lib.Dec.{T, eqb, not_T}
-use lib.ListN.{length}
-use lib.Pow.{pow_pos}
-use borrow.Author.Tests.{eqb-true, eqb-false, ne_eqb}
+use Rattle.std.proofs.Common.{◌≡◌, refl, sym, ap, subst, ◌∙◌, ◌⊎◌, inl, inr, Bool, true, false, cond, not, ◌||◌, List, ℕ, ◌+◌, ◌-◌, ◌*◌}
+use Rattle.std.proofs.Common.{◌%◌, ◌^◌, ◌≤◌, ◌<◌, arith, zero-add, mod-eq_of_lt, bit_or, bit_xor, T, eqb, length, pow_pos, eqb-true}
+use Rattle.std.proofs.Common.{ne_eqb}
+use Rattle.std.proofs.Math.Dec.{not_T}
+use Rattle.std.proofs.Math.Path.{subst⁻¹}
+use Rattle.std.proofs.lemmas.Bool.{eqb-false}
+use lib.Bits.{or_add_and}
+use mathlib.Core.List.{Memᴰ}
 use Rattle.base.specs.Lists.{member}
 use Rattle.base.specs.Bits.{bit, word, Lowest, Without}
 use Rattle.base.specs.Sets.{Inside}
@@ -153,10 +149,24 @@ spread-start go {count} {fringe} node q = record {
       };
 }
 
-module _ {go : ℕ → List ℕ} {count node set fringe : ℕ} (s : Spread go count node set fringe) where
-  pub spread-below : {e : ℕ} → Lowest fringe e → e < count
-  spread-below {e} l = s.few e (to_T (bit fringe e) l.there)
+-- the lowest subformula of a fringe is one of those that there are
+pub lowest_few : {count fringe e : ℕ} → ((k : ℕ) → T (bit fringe k) → k < count) → Lowest fringe e → e < count
+lowest_few {fringe = fringe} {e} f l = f e (to_T (bit fringe e) l.there)
 
+-- a turn with the lowest one
+module _ (go : ℕ → List ℕ) (set : ℕ) {fringe e rest grown : ℕ} (l : Lowest fringe e) (o : Without fringe e rest)
+    (g : grown ≡ with_bits (go e) set) where
+  pub turn : Turn (go e) fringe e rest set grown
+  turn = record { there = to_T (bit fringe e) l.there; left = o; gains = g }
+
+  pub turn_less : (room : ℕ) → grown ≤ room → 2 * (room - grown) + bit_or rest (bit_xor grown set) < 2 * (room - set) + fringe
+  turn_less = falls turn
+
+  pub turn_few : {count : ℕ} → ((k : ℕ) → T (bit fringe k) → k < count) → ((i m : ℕ) → i < count → Memᴰ m (go i) → m < count)
+      → (k : ℕ) → T (bit (bit_or rest (bit_xor grown set)) k) → k < count
+  turn_few f below k h = elim (came turn k h) [ inl p ↦ f k p | inr r ↦ below e k (lowest_few f l) r ]
+
+module _ {go : ℕ → List ℕ} {count node set fringe : ℕ} (s : Spread go count node set fringe) where
   -- a turn with any subformula of the fringe
   pub spread_with : {e rest grown : ℕ} → Turn (go e) fringe e rest set grown → ((i : ℕ) → i < count → AllBelow count (go i))
       → Spread go count node grown (bit_or rest (bit_xor grown set))
@@ -168,15 +178,9 @@ module _ {go : ℕ → List ℕ} {count node set fringe : ℕ} (s : Spread go co
       }
 
   -- with the lowest one
-  module _ {e rest grown : ℕ} (l : Lowest fringe e) (o : Without fringe e rest) (g : grown ≡ with_bits (go e) set) where
-    turn : Turn (go e) fringe e rest set grown
-    turn = record { there = to_T (bit fringe e) l.there; left = o; gains = g }
-
-    pub spread_turn : ((i : ℕ) → i < count → AllBelow count (go i)) → Spread go count node grown (bit_or rest (bit_xor grown set))
-    spread_turn f = spread_with turn f
-
-    pub spread-less : (room : ℕ) → grown ≤ room → 2 * (room - grown) + bit_or rest (bit_xor grown set) < 2 * (room - set) + fringe
-    spread-less = falls turn
+  pub spread_turn : {e rest grown : ℕ} → Lowest fringe e → Without fringe e rest → grown ≡ with_bits (go e) set
+      → ((i m : ℕ) → i < count → Memᴰ m (go i) → m < count) → Spread go count node grown (bit_or rest (bit_xor grown set))
+  spread_turn l o g f = spread_with (turn go set l o g) (λ i h m r. f i m h r)
 
   pub spread-rest : fringe ≡ 0 → (v : Subset) (l : length v ≡ count) (n : node ≡ word v) → FollowsMoves go (s.is v l n).now
   spread-rest z v l n e m h = (s.is v l n).follows e m h (λ t. subst T (ap (λ (x : ℕ). bit x e) z ∙ no-bit e) t)

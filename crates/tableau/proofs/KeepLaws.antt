@@ -2,16 +2,14 @@
 -- the node of an arrival comes to the end unless its word is there (`add-known`, `add_new`, `add-full`); and once the capacity is reached,
 -- nodes that come later change nothing (`keeps-longer`). Equal nodes have equal words, so the same is so for sets (`keeps-one`,
 -- `keeps-more`). Assumes nothing.
-use mathlib.Core.Path.{◌≡◌, refl, sym, ap, subst, subst⁻¹, ◌∙◌}
-use mathlib.Core.Logic.{inl, inr}
-use mathlib.Core.Bool.{Bool, true, false, cond, ◌||◌}
+use Rattle.std.proofs.Common.{◌≡◌, refl, sym, ap, subst, ◌∙◌, inl, inr, Bool, true, false, cond, ◌||◌, List, [], ◌∷◌, ◌++◌, map, ℕ, ◌+◌}
+use Rattle.std.proofs.Common.{◌-◌, ◌*◌, ◌^◌, ◌≤◌, ◌<◌, min, arith, eqb, length, set, take, drop, length-append, length-set, take_all}
+use Rattle.std.proofs.Common.{get_or-set_same, get_or-set_other}
+use Rattle.std.proofs.Math.ListN.{length-map}
+use Rattle.std.proofs.Math.Path.{subst⁻¹}
+use Rattle.std.proofs.Math.Seq.{take-append-le}
+use mathlib.Core.List.{map-append, map-map, Memᴰ}
 use mathlib.Core.List.Memᴰ
-use mathlib.Core.List.{List, [], ◌∷◌, ◌++◌, map, map-append, map-map, Memᴰ}
-use Prim.Native.Nat.{ℕ, ◌+◌, ◌-◌, ◌*◌, ◌^◌, ◌≤◌, ◌<◌, min}
-use native.Mathlib.Omega.{arith}
-use lib.Dec.{eqb}
-use lib.ListN.{length, set, take, drop, length-append, length-map, length-set}
-use lib.Seq.{take_all, take-append-le, get_or-set_same, get_or-set_other}
 use Rattle.base.specs.Lists.{member, At}
 use Rattle.base.specs.Bits.{word}
 use Rattle.base.specs.Bytes.{with_number}

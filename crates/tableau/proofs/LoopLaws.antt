@@ -3,21 +3,16 @@
 -- definitions go along with that (`choice-append`, `operators_in-more`). A loop over the bits of a set does the same, for
 -- a row whose bit is clear requires nothing (`put_upto`); and the bits put in are the definition's words, since every signal is one of
 -- the sixteen (`put-required`). Assumes nothing.
-use mathlib.Core.Path.{◌≡◌, refl, sym, ap, subst, subst⁻¹, ◌∙◌}
-use mathlib.Core.Bool.{Bool, true, false, cond, ◌||◌, or-false}
-use mathlib.Core.Logic.{inl, inr}
+use Rattle.std.proofs.Common.{◌≡◌, refl, sym, ap, subst, ◌∙◌, Bool, true, false, cond, ◌||◌, inl, inr, List, [], ◌∷◌, ◌++◌, append-nil, ℕ}
+use Rattle.std.proofs.Common.{zero, suc, ◌+◌, ◌*◌, ◌/◌, ◌%◌, ◌^◌, ◌≤◌, ◌<◌, add-zero, zero-add, add-one, arith, bit_or, T, eqb, shl_exact}
+use Rattle.std.proofs.Common.{shr-shr, length, ne_eqb}
+use Rattle.std.proofs.Math.Bool.{or-false}
+use Rattle.std.proofs.Math.Decide.{dec_lt, le_ind}
+use Rattle.std.proofs.Math.Path.{subst⁻¹}
+use Rattle.std.proofs.lemmas.Bool.{eqb-false}
+use lib.Bits.{or_zero_r}
+use mathlib.Core.List.{Memᴰ}
 use mathlib.Core.List.Memᴰ
-use mathlib.Core.List.{List, [], ◌∷◌, ◌++◌, append-nil, Memᴰ}
-use Prim.Native.Nat.{ℕ, zero, suc, ◌+◌, ◌*◌, ◌/◌, ◌%◌, ◌^◌, ◌≤◌, ◌<◌}
-use native.Mathlib.Nat.{add-zero, zero-add}
-use native.Mathlib.Numerals.{add-one}
-use native.Mathlib.Decide.{dec_lt, le_ind}
-use native.Mathlib.Omega.{arith}
-use lib.Bits.{bit_or, or_zero_r}
-use lib.Dec.{T, eqb}
-use lib.Pow.{shl_exact, shr-shr}
-use lib.ListN.{length}
-use borrow.Author.Tests.{eqb-false, ne_eqb}
 use Rattle.base.specs.Lists.{flat_map, any, range}
 use Rattle.base.specs.Bits.{bit, word, Lowest, Without}
 use Rattle.base.proofs.BoolLaws.{to_T}
@@ -87,9 +82,6 @@ pub record ChoiceSoFar (rows : List ℕ) (e x choice left : ℕ) : Type 0 where
   pub choice-is : choice ≡ word (choice_of (table_of rows e) x)
   pub left_is : left ≡ x / 2 ^ ors (table_of rows e)
 
-pub chosen_none : (rows : List ℕ) (x : ℕ) → ChoiceSoFar rows 0 x 0 x
-chosen_none rows x = record { choice-is = refl; left_is = omega arith }
-
 module _ {rows : List ℕ} {e x choice left : ℕ} (c : ChoiceSoFar rows e x choice left) where
   abbrev before : Table
   before = table_of rows e
@@ -129,9 +121,6 @@ module _ {rows : List ℕ} {e x choice left : ℕ} (c : ChoiceSoFar rows e x cho
     left_is = c.left_is ∙ ap (λ (n : ℕ). x / 2 ^ n) (sym (ors-same rows e h));
   }
 
-  pub chosen-all : {count : ℕ} → e ≤ count → count ≤ e → choice ≡ word (choice_of (table_of rows count) x)
-  chosen-all h k = c.choice-is ∙ at_end (λ (n : ℕ). word (choice_of (table_of rows e) x) ≡ word (choice_of (table_of rows n) x)) h k refl
-
 -- what is required
 operators_in-more : (t : Table) (o : Operator) (s : Subset) → operators_in (t ++ (o ∷ [])) s ≡ operators_in t s ++ cond
     (has s (length t)) (o ∷ []) []
@@ -151,15 +140,15 @@ flat_mapped g os o x y p q =
 
 -- The words have the bits that the operators require put in one after another.
 pub record BitsPut (os : List Operator) (r : Gathered) : Type 0 where
-  pub present_is : r.present ≡ with_bits (flat_map (requires true) os) 0
-  pub absent_is : r.absent ≡ with_bits (flat_map (requires false) os) 0
+  pub present_is : r.required.present ≡ with_bits (flat_map (requires true) os) 0
+  pub absent_is : r.required.absent ≡ with_bits (flat_map (requires false) os) 0
   pub falsum_is : r.falsum ≡ any is_false os
   pub to_is : r.to ≡ with_bits (flat_map next_of os) 0
 
 put_one : (os : List Operator) (o : Operator) (q r : Gathered) → BitsPut os q → RequiresMore o q r → BitsPut (os ++ (o ∷ [])) r
 put_one os o q r k m = record {
-  present_is = flat_mapped (requires true) os o q.present r.present k.present_is m.present_is;
-  absent_is = flat_mapped (requires false) os o q.absent r.absent k.absent_is m.absent_is;
+  present_is = flat_mapped (requires true) os o q.required.present r.required.present k.present_is m.present_is;
+  absent_is = flat_mapped (requires false) os o q.required.absent r.required.absent k.absent_is m.absent_is;
   falsum_is = m.falsum_is ∙ ap (λ (b : Bool). b || is_false o) k.falsum_is
       ∙ sym (any_append is_false os (o ∷ []) ∙ ap (λ (b : Bool). any is_false os || b) (or-false (is_false o)));
   to_is = flat_mapped next_of os o q.to r.to k.to_is m.to_is;
@@ -170,7 +159,7 @@ pub record PutBy (rows : List ℕ) (count e set : ℕ) (r : Gathered) : Type 0 w
   pub is : (s : Subset) → length s ≡ count → set ≡ word s → BitsPut (operators_in (table_of rows e) s) r
 
 put-none : (rows : List ℕ) (count set : ℕ)
-    → PutBy rows count 0 set (record { present = 0; absent = 0; falsum = false; to = 0 })
+    → PutBy rows count 0 set (record { required = record { present = 0; absent = 0 }; falsum = false; to = 0 })
 put-none rows count set = record { is = λ s l e. record { present_is = refl; absent_is = refl; falsum_is = refl; to_is = refl } }
 
 module _ {rows : List ℕ} {count e set : ℕ} {q : Gathered} (k : PutBy rows count e set q) where
@@ -231,8 +220,7 @@ module _ {rows : List ℕ} {count : ℕ} (f : Formed rows count) (s : Subset) wh
 
   put-required : {r : Gathered} → BitsPut os r → Required os r
   put-required b = record {
-    present_is = b.present_is ∙ required-put true;
-    absent_is = b.absent_is ∙ required-put false;
+    required_is = λ i. record { present = (b.present_is ∙ required-put true) i; absent = (b.absent_is ∙ required-put false) i };
     falsum_is = b.falsum_is;
     to_is = b.to_is;
   }
@@ -246,7 +234,7 @@ pub record BitsPassed (rows : List ℕ) (count set rest : ℕ) (q : Gathered) : 
   pub same : (k : ℕ) → upto ≤ k → k < count → bit set k ≡ bit rest k
 
 pub passed_none : (rows : List ℕ) {count rest : ℕ} (set : ℕ) → rest ≡ set % 2 ^ count
-    → BitsPassed rows count set rest (record { present = 0; absent = 0; falsum = false; to = 0 })
+    → BitsPassed rows count set rest (record { required = record { present = 0; absent = 0 }; falsum = false; to = 0 })
 passed_none rows {count} {rest} set q = record {
   upto = 0;
   few = omega arith;

@@ -4,15 +4,12 @@
 -- K is at most 1 + 2^n for n next operators (`nodes-few`, and `nodes_few_next` for those of the formula): every node but the root is a part
 -- of their operands, and so is every node that a search from another node finds (`found-few`). That bound is below the search's fuel, so
 -- the laws of the search apply. Assumes nothing.
-use mathlib.Core.Path.{◌≡◌, refl, sym, ap, subst, subst⁻¹, ◌∙◌}
-use mathlib.Core.Logic.{inl, inr}
-use mathlib.Core.Bool.{cond}
+use Rattle.std.proofs.Common.{◌≡◌, refl, sym, ap, subst, ◌∙◌, inl, inr, cond, List, [], ◌∷◌, ◌++◌, map, ℕ, suc, ◌+◌, ◌^◌, ◌≤◌, ◌<◌, arith}
+use Rattle.std.proofs.Common.{T, length}
+use Rattle.std.proofs.Math.ListN.{length-map}
+use Rattle.std.proofs.Math.Path.{subst⁻¹}
+use mathlib.Core.List.{map-append, Memᴰ}
 use mathlib.Core.List.Memᴰ
-use mathlib.Core.List.{List, [], ◌∷◌, ◌++◌, map, map-append, Memᴰ}
-use Prim.Native.Nat.{ℕ, suc, ◌+◌, ◌^◌, ◌≤◌, ◌<◌}
-use native.Mathlib.Omega.{arith}
-use lib.Dec.{T}
-use lib.ListN.{length, length-map}
 use Rattle.base.specs.Lists.{tail}
 use Rattle.base.specs.Order.{Before, NoLater}
 use Rattle.base.specs.Search.{Edge, Item, onward, search_from}

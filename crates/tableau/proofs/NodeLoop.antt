@@ -1,17 +1,13 @@
--- The loops over choice words and over nodes. One choice word adds the node that its transition leads to, or none (`follow-some`,
--- `follow-nowhere`); all choice words add what the transitions of a node lead to (`Expanding`); and node after node the search over one
--- list goes on (`Finding`), which ends with the definition's nodes and their origins (`find_end`, `find_origins`). Past the capacity a loop
+-- The loops over choice words and over nodes. One choice word adds the node that its transition leads to, if there is one
+-- (`follow-some`); all choice words add what the transitions of a node lead to (`Expanding`); and node after node the search over one list
+-- goes on (`Finding`), which ends with the definition's nodes and their origins (`find_end`, `find_origins`). Past the capacity a loop
 -- may stop (`find_full`). Assumes nothing.
-use mathlib.Core.Path.{◌≡◌, refl, sym, ap, subst, subst⁻¹, ◌∙◌}
-use mathlib.Core.Logic.{◌⊎◌, inl, inr}
-use mathlib.Core.Bool.{false}
-use mathlib.Core.List.{List, [], ◌∷◌, ◌++◌, map, append-nil, Memᴰ}
+use Rattle.std.proofs.Common.{Option, Some, ◌≡◌, refl, sym, ap, subst, ◌∙◌, ◌⊎◌, inl, inr, false, List, [], ◌∷◌, ◌++◌, map, append-nil, ℕ}
+use Rattle.std.proofs.Common.{◌+◌, ◌-◌, ◌*◌, ◌^◌, ◌≤◌, ◌<◌, arith, bit_or, length, take_all}
+use Rattle.std.proofs.Math.ListN.{length-map}
+use Rattle.std.proofs.Math.Path.{subst⁻¹}
+use mathlib.Core.List.{Memᴰ}
 use mathlib.Core.List.Memᴰ
-use Prim.Native.Nat.{ℕ, ◌+◌, ◌-◌, ◌*◌, ◌^◌, ◌≤◌, ◌<◌}
-use native.Mathlib.Omega.{arith}
-use lib.Bits.{bit_or}
-use lib.ListN.{length, length-map}
-use lib.Seq.{take_all}
 use Rattle.base.specs.Lists.{range, flat_map, At}
 use Rattle.base.specs.Bits.{word}
 use Rattle.base.specs.Spread.{adds, spread}
@@ -21,10 +17,9 @@ use Rattle.base.proofs.At.{at_lt, at_in, in_at, at_some, at_map}
 use Rattle.base.proofs.SpreadLaws.{adds-append, adds-at, AfterTurns, turns_next, turns-done, turns_begin}
 use Rattle.base.proofs.WordLaws.{word_set, word_none}
 use Rattle.letters.specs.Requirements.{letter_of}
-use Rattle.letters.specs.declared.Requirement.{Requirement}
 use Rattle.formula.specs.Table.{Operator, Table}
 use Rattle.tableau.specs.Saturation.{Subset, same_subset, nothing, saturate}
-use Rattle.tableau.specs.Transition.{ors, choice_of, Transition, by_word, transitions}
+use Rattle.tableau.specs.Transition.{ors, choice_of, by_word, transitions}
 use Rattle.tableau.specs.Nodes.{root, nodes}
 use Rattle.tableau.specs.Origins.{Origins}
 use Rattle.tableau.specs.Inner.{table_of, Formed, TargetBy}
@@ -33,11 +28,10 @@ use Rattle.tableau.specs.Area.{reached_by, leads, outs, ReachedSized, Arrives, N
 use Rattle.tableau.specs.Found.{onward_from, Finding, Begun}
 use Rattle.tableau.specs.declared.NodeNumber.{NodeNumber}
 use Rattle.tableau.specs.declared.Target.{Target}
-use Rattle.tableau.specs.declared.Target.TheVariants.{Leads, Nothing}
 use Rattle.tableau.proofs.TransitionLaws.{transition_with, to-length, transitions-by_word}
 use Rattle.tableau.proofs.NodeLaws.{root-length}
 use Rattle.tableau.proofs.LoopLaws.{table-length}
-use Rattle.tableau.proofs.TargetLaws.{StepFound, a_target, target-nowhere}
+use Rattle.tableau.proofs.TargetLaws.{StepFound, a_target}
 use Rattle.tableau.proofs.SizeLaws.{leads-sized}
 use Rattle.tableau.proofs.KeepLaws.{keeps-more, keeps-all, keeps-holds, known-all, node-word, keeps-one}
 use Rattle.tableau.proofs.NodeMatch.{Matched, nodes_match, matched_sets, notes-origins}
@@ -92,36 +86,29 @@ of_table : (rows : List ℕ) (count : ℕ) {l : List ReachedNode} → ReachedSiz
 of_table rows count s u m = s u m ∙ table-length rows count
 
 -- a choice word followed: to nothing where it has no transition
-pub follow-nowhere : {target : Target} {known capacity : ℕ} {area o : List ℕ} (i : ℕ) → target ≡ Nothing
-    → Followed i target known capacity area o area o known
-follow-nowhere {known = known} {capacity} {area} {o} i n = record {
-  is = λ rows count from x f st l v a k sz e len.
-      subst⁻¹ (λ (xs : List Transition). NodesNoted capacity known a area o (map worded (adds same_subset l (map (reached_by i) xs))))
-      ((target-nowhere st n).is v len e) k;
-}
 
 -- what an arrival says of the node that a transition leads to
-arrives : (i : ℕ) {to p : ℕ} {required : Requirement} (t : Table) (w s : Subset) → StepFound t w s to required
-    → p ≡ letter_of required → (number : NodeNumber) → number.0 ≡ i
-    → Arrives (record { set = to; from = number; letter = p }) (worded (reached_by i (transition_with t w s)))
+arrives : (i : ℕ) {p : ℕ} {x : Target} (t : Table) (w s : Subset) → StepFound t w s x
+    → p ≡ letter_of x.required → (number : NodeNumber) → number.0 ≡ i
+    → Arrives (record { set = x.to; from = number; letter = p }) (worded (reached_by i (transition_with t w s)))
 arrives i t w s f l number e = record {
   set_is = sym f.to_is;
   from_is = omega (arith, e);
   letter_is = sym (l ∙ ap letter_of f.required-is);
 }
 
-pub follow-some : {target : Target} {known capacity to p r : ℕ} {required : Requirement} {area o area' o' : List ℕ} (number : NodeNumber)
-    → target ≡ Leads to required → p ≡ letter_of required
-    → known ≤ capacity → NodeAdded known capacity (record { set = to; from = number; letter = p }) area o area' o' r
+pub follow-some : {target : Option Target} {s : Target} {known capacity p r : ℕ} {area o area' o' : List ℕ} (number : NodeNumber)
+    → target ≡ Some s → p ≡ letter_of s.required
+    → known ≤ capacity → NodeAdded known capacity (record { set = s.to; from = number; letter = p }) area o area' o' r
     → Followed number.0 target known capacity area o area' o' r
-follow-some {target} {known} {capacity} {to} {p} {r} {required} {area} {o} {area'} {o'} number q c h ad = record {
+follow-some {target} {s} {known} {capacity} {p} {r} {area} {o} {area'} {o'} number q c h ad = record {
   is = λ rows count from x f st. go rows count from x f (subst (TargetBy rows count x from) q st);
 }
   where
     i : ℕ
     i = number.0
 
-    go : (rows : List ℕ) (count from x : ℕ) → Formed rows count → TargetBy rows count x from (Leads to required)
+    go : (rows : List ℕ) (count from x : ℕ) → Formed rows count → TargetBy rows count x from (Some s)
         → (l : List ReachedNode) (v : Subset) (a : List ℕ) → NodesNoted capacity known a area o (map worded l) → ReachedSized count l
         → from ≡ word v → length v ≡ count
         → NodesNoted capacity r a area' o' (map worded (adds same_subset l (leads (table_of rows count) i v x)))
@@ -141,13 +128,9 @@ pub record Expanding (rows : List ℕ) (count i from known capacity : ℕ) (area
       → from ≡ word v → length v ≡ count
       → NodesNoted capacity all a area o (map worded (led (table_of rows count) i v l x))
 
-pub expand_start : (rows : List ℕ) (count i from known capacity : ℕ) (area o : List ℕ)
-    → Expanding rows count i from known capacity area o known 0 area o
-expand_start rows count i from known capacity area o = record { is = λ l v a k s e n. k }
-
 module _ {rows : List ℕ} {count i from known capacity all x : ℕ} {area₀ o₀ area o : List ℕ}
     (ex : Expanding rows count i from known capacity area₀ o₀ all x area o) where
-  pub expand_turn : {target : Target} {r : ℕ} {area' o' : List ℕ} → Formed rows count → TargetBy rows count x from target
+  pub expand_turn : {target : Option Target} {r : ℕ} {area' o' : List ℕ} → Formed rows count → TargetBy rows count x from target
       → Followed i target all capacity area o area' o' r
       → Expanding rows count i from known capacity area₀ o₀ r (x + 1) area' o'
   expand_turn {target} {r} {area'} {o'} f st fo = record {

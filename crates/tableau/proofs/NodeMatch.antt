@@ -1,13 +1,10 @@
 -- The nodes by the search over one list, each with the node that it was reached from and the letter between, are the definition's, in the
 -- same order (`nodes_match`): a set stands for itself, and going on from a node is going on by its transitions. So the notes of where the
 -- search came from tell the letters of its ways (`notes-origins`). Assumes nothing.
-use mathlib.Core.Path.{◌≡◌, refl, sym, ap, subst⁻¹, ◌∙◌}
-use mathlib.Core.Bool.{Bool, cond}
-use mathlib.Core.List.{List, [], ◌∷◌, ◌++◌, map, map-append, map-map}
-use Prim.Native.Nat.{ℕ, ◌+◌, ◌^◌, ◌≤◌, ◌<◌}
-use native.Mathlib.Omega.{arith}
-use lib.Dec.{eqb, eqb-suc-zero}
-use lib.ListN.{length}
+use Rattle.std.proofs.Common.{◌≡◌, refl, sym, ap, ◌∙◌, Bool, cond, List, [], ◌∷◌, ◌++◌, map, ℕ, ◌+◌, ◌^◌, ◌≤◌, ◌<◌, arith, eqb, length}
+use Rattle.std.proofs.Math.Dec.{eqb-suc-zero}
+use Rattle.std.proofs.Math.Path.{subst⁻¹}
+use mathlib.Core.List.{map-append, map-map}
 use Rattle.base.specs.Lists.{At}
 use Rattle.base.specs.Search.{Item, onward}
 use Rattle.base.specs.Spread.{spread, edge_label}

@@ -1,14 +1,11 @@
 -- What a caller reads of the nodes in the area, once all of them have found room: the words at the area's beginning are the nodes' words in
 -- order (`nodes-kept`), so node i is read as its word (`kept_at`). Words stay where only later bytes are changed (`words_same`). Assumes
 -- nothing.
-use mathlib.Core.Path.{◌≡◌, refl, sym, ap, ◌∙◌}
+use Rattle.std.proofs.Common.{◌≡◌, refl, sym, ap, ◌∙◌, List, [], map, ℕ, zero, suc, ◌+◌, ◌*◌, ◌≤◌, ◌<◌, zero-add, arith, length, get_or}
+use Rattle.std.proofs.Common.{drop, take_all}
+use Rattle.std.proofs.Math.ListN.{length-map, get_or-map}
+use mathlib.Core.List.{Memᴰ}
 use mathlib.Core.List.Memᴰ
-use mathlib.Core.List.{List, [], map, Memᴰ}
-use Prim.Native.Nat.{ℕ, zero, suc, ◌+◌, ◌*◌, ◌≤◌, ◌<◌}
-use native.Mathlib.Nat.{zero-add}
-use native.Mathlib.Omega.{arith}
-use lib.ListN.{length, get_or, drop, length-map, get_or-map}
-use lib.Seq.{take_all}
 use Rattle.base.specs.Bits.{word}
 use Rattle.base.specs.Search.{Item}
 use Rattle.base.proofs.At.{at_lt, at_get, in_at}

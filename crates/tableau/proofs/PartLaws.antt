@@ -1,16 +1,11 @@
 -- A set in two parts, one inside it and the rest: whatever is asked of its operators is asked of those of the one or of the other
 -- (`any_parts`). So what is gathered of both together is what is gathered of the set (`required_parts`), and a set around one that can
 -- give no transition can give none (`hopeless`). Assumes nothing.
-use mathlib.Core.Path.{◌≡◌, refl, sym, ap, subst, subst⁻¹, ◌∙◌}
-use mathlib.Core.Bool.{Bool, true, false, cond, not, ◌&&◌, ◌||◌, or-true}
-use mathlib.Core.Logic.{inl, inr}
-use mathlib.Core.List.{List, [], ◌∷◌}
-use Prim.Native.Nat.{ℕ, zero, suc, ◌<◌}
-use native.Mathlib.Decide.{dec_lt}
-use native.Mathlib.Omega.{arith}
-use lib.Bits.{bit_or, bit_xor}
-use lib.Dec.{T, eqb}
-use lib.ListN.{length}
+use Rattle.std.proofs.Common.{◌≡◌, refl, sym, ap, subst, ◌∙◌, Bool, true, false, cond, not, ◌&&◌, ◌||◌, inl, inr, List, [], ◌∷◌, ℕ, zero}
+use Rattle.std.proofs.Common.{suc, ◌<◌, arith, bit_or, bit_xor, T, eqb, length}
+use Rattle.std.proofs.Math.Bool.{or-true}
+use Rattle.std.proofs.Math.Decide.{dec_lt}
+use Rattle.std.proofs.Math.Path.{subst⁻¹}
 use Rattle.base.specs.Lists.{flat_map, any, member}
 use Rattle.base.specs.Bits.{bit, word}
 use Rattle.base.specs.Sets.{Below, Inside}
@@ -122,8 +117,11 @@ module _ (t : Table) {c s : Subset} (i : Inside c s) where
   pub required_parts : {g h r : Gathered} → Required some g → Required others h → Joined g h r → Required all r
   required_parts g h j =
       record {
-        present_is = j.present_is ∙ (λ n. bit_or (g.present_is n) (h.present_is n)) ∙ sym (word_parts true);
-        absent_is = j.absent_is ∙ (λ n. bit_or (g.absent_is n) (h.absent_is n)) ∙ sym (word_parts false);
+        required_is = λ k.
+            record {
+              present = (j.present_is ∙ (λ n. bit_or (g.required_is n).present (h.required_is n).present) ∙ sym (word_parts true)) k;
+              absent = (j.absent_is ∙ (λ n. bit_or (g.required_is n).absent (h.required_is n).absent) ∙ sym (word_parts false)) k;
+            };
         falsum_is = j.falsum_is ∙ (λ n. g.falsum_is n || h.falsum_is n) ∙ sym (any_parts is_false t i);
         to_is = j.to_is ∙ (λ n. bit_or (g.to_is n) (h.to_is n)) ∙ sym to_parts;
       }

@@ -2,14 +2,11 @@
 -- (`required_of`, `required_in`), and no bit from 16 on is (`required-small`). So a letter satisfies both if each signal allows it
 -- (`satisfied_by`). With the sixteen signals that there are the words clash exactly if the lists of signals do, by a number that is in both
 -- or by both scale flags in one (`clash_lists`, `possible_lists`). Assumes nothing.
-use mathlib.Core.Path.{◌≡◌, refl, sym, ap, subst, subst⁻¹}
-use mathlib.Core.Bool.{Bool, true, false, not, ◌&&◌, ◌||◌}
+use Rattle.std.proofs.Common.{◌≡◌, refl, sym, ap, subst, Bool, true, false, not, ◌&&◌, ◌||◌, List, [], ℕ, ◌≤◌, ◌<◌, arith, T}
+use Rattle.std.proofs.Math.Decide.{dec_lt}
+use Rattle.std.proofs.Math.Path.{subst⁻¹}
+use mathlib.Core.List.{Memᴰ}
 use mathlib.Core.List.Memᴰ
-use mathlib.Core.List.{List, [], Memᴰ}
-use Prim.Native.Nat.{ℕ, ◌≤◌, ◌<◌}
-use native.Mathlib.Omega.{arith}
-use native.Mathlib.Decide.{dec_lt}
-use lib.Dec.{T}
 use Rattle.base.specs.Lists.{flat_map, any, member, range}
 use Rattle.base.specs.Bits.{bit}
 use Rattle.base.proofs.BoolLaws.{and_left, and_right, and_both}

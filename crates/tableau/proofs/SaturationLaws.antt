@@ -2,16 +2,11 @@
 -- (`saturate-holds`), is closed under the moves of the choice (`saturate-closed`), and is inside every set that does both
 -- (`saturate-least`). A pass only adds what a move leads to, so it stays inside every closed set; passes that only add come to rest
 -- once there have been as many as subformulas; and where a pass adds nothing, every move stays in the set. Assumes nothing.
-use mathlib.Core.Path.{◌≡◌, refl, sym, ap, subst, subst⁻¹, ◌∙◌}
-use mathlib.Core.Logic.{◌⊎◌, inl, inr}
-use mathlib.Core.Bool.{Bool, true, false, cond}
+use Rattle.std.proofs.Common.{◌≡◌, refl, sym, ap, subst, ◌∙◌, ◌⊎◌, inl, inr, Bool, true, false, cond, List, [], ◌∷◌, ℕ, zero, suc, ◌+◌}
+use Rattle.std.proofs.Common.{◌<◌, arith, add-zero, zero-add, suc-add, add-suc, T, length, set}
+use Rattle.std.proofs.Math.Path.{subst⁻¹}
+use mathlib.Core.List.{Memᴰ}
 use mathlib.Core.List.Memᴰ
-use mathlib.Core.List.{List, [], ◌∷◌, Memᴰ}
-use Prim.Native.Nat.{ℕ, zero, suc, ◌+◌, ◌<◌}
-use native.Mathlib.Omega.{arith}
-use native.Mathlib.Nat.{add-zero, zero-add, suc-add, add-suc}
-use lib.Dec.{T}
-use lib.ListN.{length, set}
 use Rattle.base.specs.Lists.{same_bit}
 use Rattle.base.specs.Sets.{Below, Inside}
 use Rattle.base.proofs.BoolLaws.{by_test, of_T, to_T, same_bit-sound, same_bit_refl}

@@ -1,13 +1,8 @@
 -- Sizes: what a choice word leads to has as many subformulas as the table, and a set of at most 48 subformulas is a word of 64
 -- bits. Assumes nothing.
-use mathlib.Core.Path.{◌≡◌, sym, ap, subst, ◌∙◌}
-use mathlib.Core.Logic.{inl, inr}
+use Rattle.std.proofs.Common.{◌≡◌, sym, ap, subst, ◌∙◌, inl, inr, List, [], map, ℕ, ◌^◌, ◌≤◌, ◌<◌, arith, pow_mono, length, get_or}
+use mathlib.Core.List.{Memᴰ}
 use mathlib.Core.List.Memᴰ
-use mathlib.Core.List.{List, [], map, Memᴰ}
-use Prim.Native.Nat.{ℕ, ◌^◌, ◌≤◌, ◌<◌}
-use native.Mathlib.Omega.{arith}
-use lib.Pow.{pow_mono}
-use lib.ListN.{length, get_or}
 use Rattle.base.specs.Bits.{word}
 use Rattle.base.proofs.At.{at_in, at_of}
 use Rattle.base.proofs.WordLaws.{word_lt}

@@ -1,36 +1,29 @@
 -- The transitions between the nodes of an area, noted in a relation. A set is looked up (`found_at`). Whether it was known or comes in, it
 -- stands where its answer says, and those before it stay (`located-number`, `came_last`). A step that leads to a node is noted once this
--- has its number (`step-nowhere`, `step-there`). Over the choice words of a node: what the first x of them lead to is noted (`Noting`).
+-- has its number. Over the choice words of a node: what the first x of them lead to is noted (`Noting`).
 -- Over the nodes: the transitions of the first i of them are noted (`steps_turn`). Assumes nothing.
-use mathlib.Core.Path.{◌≡◌, refl, sym, ap, subst, subst⁻¹, ◌∙◌}
-use mathlib.Core.Logic.{◌⊎◌, inl, inr}
-use mathlib.Core.Bool.{Bool, true, false, cond, ◌&&◌}
+use Rattle.std.proofs.Common.{Option, Some, None, IfSome, ◌≡◌, refl, sym, ap, subst, ◌∙◌, ◌⊎◌, inl, inr, Bool, true, false, cond, ◌&&◌}
+use Rattle.std.proofs.Common.{List, [], ◌∷◌, ℕ, zero, suc, ◌+◌, ◌*◌, ◌^◌, ◌≤◌, ◌<◌, arith, T, eqb, ltb, length, eq-eqb, ltb-true}
+use Rattle.std.proofs.Common.{eqb-true}
+use Rattle.std.proofs.Math.Decide.{dec_lt}
+use Rattle.std.proofs.Math.Path.{subst⁻¹}
+use mathlib.Core.List.{Memᴰ}
 use mathlib.Core.List.Memᴰ
-use mathlib.Core.List.{List, [], ◌∷◌, Memᴰ}
-use Prim.Native.Nat.{ℕ, zero, suc, ◌+◌, ◌*◌, ◌^◌, ◌≤◌, ◌<◌}
-use native.Mathlib.Omega.{arith}
-use native.Mathlib.Decide.{dec_lt}
-use lib.Dec.{T, eqb, ltb}
-use lib.ListN.{length}
-use borrow.Author.Tests.{eq-eqb, ltb-true, eqb-true}
 use Rattle.base.specs.Lists.{index, member}
 use Rattle.base.specs.Bits.{word}
 use Rattle.base.specs.Bytes.{with_number}
 use Rattle.base.proofs.BoolLaws.{by_test, of_T, to_T, and_left, and_right, and_both, or_cases, or_left, or_right}
 use Rattle.base.proofs.BytesLaws.{number_same, number-written, before-written}
 use Rattle.formula.specs.Table.{Table}
-use Rattle.letters.specs.declared.Requirement.{Requirement}
-use Rattle.relation.specs.Relation.{linked, Related, Unrelated, Widened}
+use Rattle.relation.specs.Relation.{linked, Unrelated, Widened}
 use Rattle.tableau.specs.Saturation.{Subset, saturate}
 use Rattle.tableau.specs.Transition.{ors, choice_of, Transition, by_word}
 use Rattle.tableau.specs.Inner.{table_of, TargetBy}
-use Rattle.tableau.specs.Area.{eight, words_at, lookup}
-use Rattle.tableau.specs.Steps.{Located, Stay, Noted, StepNoted, LeadsTo, StepsOf, StepsBefore, StepsNoted}
+use Rattle.tableau.specs.Area.{eight, words_at, lookup, SlotsMarked}
+use Rattle.tableau.specs.Steps.{Located, known_then, CameIn, Stay, Noted, StepNoted, LeadsTo, StepsOf, StepsBefore, StepsNoted}
+use Rattle.tableau.specs.declared.Added.{Added}
 use Rattle.tableau.specs.declared.NodeNumber.{NodeNumber}
-use Rattle.tableau.specs.declared.Lookup.{Lookup}
-use Rattle.tableau.specs.declared.Lookup.TheVariants.{Number, Absent}
 use Rattle.tableau.specs.declared.Target.{Target}
-use Rattle.tableau.specs.declared.Target.TheVariants.{Leads, Nothing}
 use Rattle.tableau.proofs.TransitionLaws.{word_of, word_in, transition_with}
 use Rattle.tableau.proofs.TargetLaws.{a_target, target-nowhere}
 use Rattle.tableau.proofs.AreaLaws.{absent_member}
@@ -49,7 +42,7 @@ index_word a x i (suc n) h =
     ∙ index_word a x (suc i) n (omega arith))
     h
 
-pub found_at : (a : List ℕ) (known x : ℕ) {r : Lookup} → r ≡ lookup known (index (eqb x) (words_at a 0 known)) → Located known a x r
+pub found_at : (a : List ℕ) (known x : ℕ) {r : Option NodeNumber} → r ≡ lookup known (index (eqb x) (words_at a 0 known)) → Located known a x r
 found_at a known x e =
     subst⁻¹ (Located known a x) e
     (by (ltb place known) refl)
@@ -57,20 +50,20 @@ found_at a known x e =
     place : ℕ
     place = index (eqb x) (words_at a 0 known)
 
-    by : (b : Bool) → ltb place known ≡ b → Located known a x (cond b (Number (record { 0 = place })) Absent)
+    by : (b : Bool) → ltb place known ≡ b → Located known a x (cond b (Some (record { 0 = place })) None)
     by true q =
         let h = ltb-true place known q in
         (h, ap (λ (k : ℕ). eight a (8 * k)) {x = place} {y = 0 + place} (omega arith) ∙ index_word a x 0 known h)
     by false q =
-        sym (absent_member a known x {r = Absent}
-        (ap (λ (b : Bool). cond b (Number (record { 0 = place })) Absent) (sym q)) refl)
+        sym (absent_member a known x {r = None}
+        (ap (λ (b : Bool). cond b (Some (record { 0 = place })) None) (sym q)) refl)
 
 -- what a lookup says, by its answer
-pub located_absent : (known : ℕ) (area : List ℕ) (x : ℕ) {r : Lookup} → Located known area x r → r ≡ Absent
+pub located_absent : (known : ℕ) (area : List ℕ) (x : ℕ) {r : Option NodeNumber} → Located known area x r → r ≡ None
     → member x (words_at area 0 known) ≡ false
 located_absent known area x l e = subst (Located known area x) e l
 
-pub located-number : (known : ℕ) (area : List ℕ) (x : ℕ) {r : Lookup} {n : NodeNumber} → Located known area x r → r ≡ Number n
+pub located-number : (known : ℕ) (area : List ℕ) (x : ℕ) {r : Option NodeNumber} {n : NodeNumber} → Located known area x r → r ≡ Some n
     → (n.0 < known) × (eight area (8 * n.0) ≡ x)
 located-number known area x l e = subst (Located known area x) e l
 
@@ -88,20 +81,13 @@ came_last known x {area} room small e = (
 )
 
 -- a step that leads nowhere leaves all as it is
-pub step-nowhere : {target : Target} {known : ℕ} {area rel : List ℕ} (i : ℕ) → target ≡ Nothing
-    → StepNoted i target known area area rel rel known
-step-nowhere {known = known} {area} {rel} i n = record {
-  stay = record { is = λ j h. refl };
-  noted = subst⁻¹ (λ (x : Target). Noted i x area rel rel known) n refl;
-}
 
-pub step-there : {target : Target} {known to u r : ℕ} {required : Requirement} {area area' rel rel' : List ℕ} (i : ℕ)
-    → target ≡ Leads to required → u < r → eight area' (8 * u) ≡ to → Stay known area area' → Related u i rel rel'
-    → StepNoted i target known area area' rel rel' r
-step-there {u = u} {r} {area' = area'} {rel} {rel'} i e l w s q = record {
-  stay = s;
-  noted = subst⁻¹ (λ (x : Target). Noted i x area' rel rel' r) e (u, l, w, q);
-}
+-- where it came in, all that are known are marked
+pub came_marked : (known x : ℕ) (area : List ℕ) {capacity : ℕ} {area' slots : List ℕ} (r : Option Added)
+    → IfSome r (CameIn known capacity x area area' slots)
+    → known_then capacity r ≤ capacity → SlotsMarked (known_then capacity r) area' slots
+came_marked known x area None m h = absurd (omega arith)
+came_marked known x area (Some r) m h = m.marked
 
 -- The loop over the choice words of node i, whose word is `from`: what the first x of them lead to is noted, and nothing else is.
 pub record Noting (rows : List ℕ) (count i from known : ℕ) (area₀ rel₀ : List ℕ) (all x : ℕ) (area rel : List ℕ) : Type 0 where
@@ -112,15 +98,6 @@ pub record Noting (rows : List ℕ) (count i from known : ℕ) (area₀ rel₀ :
   pub words : (y : ℕ) → y < x → (v : Subset) → length v ≡ count → from ≡ word v → (s : Transition)
       → Memᴰ s (by_word (table_of rows count) y v)
       → (u : ℕ) × (u < all) × (eight area (8 * u) ≡ word s.to) × T (linked rel u i)
-
-pub noting_start : (rows : List ℕ) (count i from known : ℕ) (area rel : List ℕ)
-    → Noting rows count i from known area rel known 0 area rel
-noting_start rows count i from known area rel = record {
-  stay = record { is = λ j h. refl };
-  keeps = λ u a t. t;
-  only = λ u a t. inl t;
-  words = λ y h. absurd (omega arith);
-}
 
 module _ {rows : List ℕ} {count i from known all x r : ℕ} {area₀ rel₀ area rel area' : List ℕ}
     (n : Noting rows count i from known area₀ rel₀ all x area rel) (low : known ≤ all) (grows : all ≤ r)
@@ -145,9 +122,9 @@ module _ {rows : List ℕ} {count i from known all x r : ℕ} {area₀ rel₀ ar
       (u, omega arith, still.is u l ∙ w, k u i b)
 
   -- a choice word more, by where it leads
-  turned : {rel' : List ℕ} (target : Target) → x < 2 ^ ors t → TargetBy rows count x from target → Noted i target area' rel rel' r
+  turned : {rel' : List ℕ} (target : Option Target) → x < 2 ^ ors t → TargetBy rows count x from target → Noted i target area' rel rel' r
       → Noting rows count i from known area₀ rel₀ r (x + 1) area' rel'
-  turned {rel'} Nothing h st q = record {
+  turned {rel'} None h st q = record {
     stay = record { is = λ j l. still.is j (omega arith) ∙ n.stay.is j l };
     keeps = λ u a b. same u a (n.keeps u a b);
     only = λ u a b. kept-only u a (subst (λ (z : List ℕ). T (linked z u a)) q b);
@@ -163,7 +140,7 @@ module _ {rows : List ℕ} {count i from known all x r : ℕ} {area₀ rel₀ ar
     where
       same : (u a : ℕ) → T (linked rel u a) → T (linked rel' u a)
       same u a b = subst⁻¹ (λ (z : List ℕ). T (linked z u a)) q b
-  turned {rel'} (Leads to required) h st (p, l, w, q) = record {
+  turned {rel'} (Some y) h st (p, l, w, q) = record {
     stay = record { is = λ j l. still.is j (omega arith) ∙ n.stay.is j l };
     keeps = λ u a b. more u a (n.keeps u a b);
     only = λ u a b.
@@ -199,14 +176,14 @@ module _ {rows : List ℕ} {count i from known all x r : ℕ} {area₀ rel₀ ar
           (or_right (linked rel p i) (eqb p p && eqb i i)
           (and_both (eqb p p) (eqb i i) (to_T (eqb p p) (eq-eqb p p refl)) (to_T (eqb i i) (eq-eqb i i refl))))
 
-      leads : LeadsTo rows count from to
+      leads : LeadsTo rows count from y.to
       leads v len e =
           let w = choice_of t x in
           let z = a_target t w (saturate t w v) (st.is v len e) in
           let s = transition_with t w (saturate t w v) in
           (s, word_in t v x h (subst⁻¹ (Memᴰ s) z.exists (Memᴰ.head refl)), sym z.to_is)
 
-pub noting_turn : {rows : List ℕ} {count i from known all x r : ℕ} {area₀ rel₀ area rel area' rel' : List ℕ} {target : Target}
+pub noting_turn : {rows : List ℕ} {count i from known all x r : ℕ} {area₀ rel₀ area rel area' rel' : List ℕ} {target : Option Target}
     → Noting rows count i from known area₀ rel₀ all x area rel → known ≤ all → all ≤ r → x < 2 ^ ors (table_of rows count)
     → TargetBy rows count x from target → StepNoted i target all area area' rel rel' r
     → Noting rows count i from known area₀ rel₀ r (x + 1) area' rel'

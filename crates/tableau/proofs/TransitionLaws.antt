@@ -5,17 +5,14 @@
 -- allowed by each subformula of the saturated set, the transition exists. A choice word has one transition or none (`one_or_none`), all
 -- choice words make the transitions of a node (`transitions-by_word`, `word_of`, `word_in`), and a letter has sixteen bits
 -- (`letter_bound`). Assumes nothing.
-use mathlib.Core.Path.{◌≡◌, refl, sym, ap, subst, subst⁻¹, ◌∙◌}
-use mathlib.Core.Logic.{◌⊎◌, inl, inr}
-use mathlib.Core.Bool.{Bool, true, false, not, cond, ◌&&◌}
+use Rattle.std.proofs.Common.{◌≡◌, refl, sym, ap, subst, ◌∙◌, ◌⊎◌, inl, inr, Bool, true, false, not, cond, ◌&&◌, List, [], ◌∷◌, ℕ, zero}
+use Rattle.std.proofs.Common.{suc, ◌^◌, ◌<◌, arith, T, T_not, length}
+use Rattle.std.proofs.Math.Dec.{not_T}
+use Rattle.std.proofs.Math.ListN.{length-map}
+use Rattle.std.proofs.Math.Path.{subst⁻¹}
+use mathlib.Core.List.{Memᴰ, Sublistᴰ}
 use mathlib.Core.List.Memᴰ
-use mathlib.Core.List.{List, [], ◌∷◌, Memᴰ}
 use mathlib.Core.List.Sublistᴰ
-use mathlib.Core.List.{Sublistᴰ}
-use Prim.Native.Nat.{ℕ, zero, suc, ◌^◌, ◌<◌}
-use native.Mathlib.Omega.{arith}
-use lib.Dec.{T, T_not, not_T}
-use lib.ListN.{length, length-map}
 use Rattle.base.specs.Lists.{flat_map, any, range}
 use Rattle.base.specs.Bits.{bit}
 use Rattle.base.proofs.BoolLaws.{of_T, and_left, and_right, and_both}

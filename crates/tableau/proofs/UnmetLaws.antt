@@ -4,25 +4,20 @@
 -- (`outside_or`, `outside_other`). A word's pick at or j says between which two it is, so that the bits for each or and pick are right
 -- (`unmet-start`, `unmet_turn`), and a word that has one of them by its own pick has no transition (`unmet-nowhere`).
 -- Assumes nothing.
-use mathlib.Core.Path.{◌≡◌, refl, sym, ap, subst, subst⁻¹, ◌∙◌}
-use mathlib.Core.Bool.{Bool, true, false, not, cond, ◌&&◌}
-use mathlib.Core.List.{List, ◌∷◌, ◌++◌}
-use Prim.Native.Nat.{ℕ, zero, suc, ◌+◌, ◌-◌, ◌*◌, ◌/◌, ◌%◌, ◌^◌, ◌≤◌, ◌<◌}
-use native.Mathlib.Nat.{zero-add, pow-succ'}
-use native.Mathlib.Omega.{arith}
-use lib.Bits.{bit_and}
-use lib.Pow.{pow_pos}
-use lib.Dec.{T, T_not, not_T, eqb, eqb→eq}
-use lib.ListN.{length, get_or, set, replicate, length-replicate, get_or-replicate, length-set}
-use lib.Seq.{get_or_at, get_or-set_same, get_or-set_other}
-use borrow.Author.Tests.{eqb-true, eq-eqb}
+use Rattle.std.proofs.Common.{◌≡◌, refl, sym, ap, subst, ◌∙◌, Bool, true, false, not, cond, ◌&&◌, List, ◌∷◌, ◌++◌, ℕ, zero, suc, ◌+◌, ◌-◌}
+use Rattle.std.proofs.Common.{◌*◌, ◌/◌, ◌%◌, ◌^◌, ◌≤◌, ◌<◌, zero-add, arith, bit_and, pow_pos, T, T_not, eqb, eqb→eq, length, get_or, set}
+use Rattle.std.proofs.Common.{replicate, length-set, get_or-set_same, get_or-set_other, eqb-true, eq-eqb}
+use Rattle.std.proofs.Math.ListN.{length-replicate, get_or-replicate}
+use Rattle.std.proofs.Math.Nat.{pow-succ'}
+use Rattle.std.proofs.Math.Path.{subst⁻¹}
+use Rattle.std.proofs.Math.Seq.{get_or_at}
 use Rattle.base.specs.Bits.{bit, word}
 use Rattle.base.specs.Lists.{range}
-use Rattle.base.proofs.BoolLaws.{by_test, of_T, to_T, and_left, and_right}
+use Rattle.base.proofs.BoolLaws.{by_test, to_T, and_left, and_right}
 use Rattle.base.proofs.TestLaws.{not_of_T}
 use Rattle.base.proofs.BitLaws.{bit-and, bit_other}
 use Rattle.base.proofs.AppendLaws.{range_of}
-use Rattle.base.proofs.MemberLaws.{any_of, any_in, range_in}
+use Rattle.base.proofs.MemberLaws.{any_of}
 use Rattle.base.proofs.NumberLaws.{values_add}
 use Rattle.base.proofs.WordLaws.{same_bits, no-bit, bit_zero, bit_suc}
 use Rattle.formula.specs.Table.{Table, is_or}
@@ -78,9 +73,6 @@ later o = record { at = o.at; early = omega (arith, o.early); an_or = o.an_or; n
 pub record Outside (rows : List ℕ) (e set bits n : ℕ) : Type 0 where
   pub counted : n ≡ ors (table_of rows e)
   pub each : (j : ℕ) → T (bit bits j) → OrOutside rows e set j
-
-pub outside-none : (rows : List ℕ) (set : ℕ) → Outside rows 0 set 0 0
-outside-none rows set = record { counted = refl; each = λ j h. absurd (subst T (no-bit j) h) }
 
 module _ {rows : List ℕ} {e set bits n : ℕ} (o : Outside rows e set bits n) where
   pub outside_or : is_or (operator_at rows e) ≡ true → {b : Bool} → b ≡ bit set e → (r : ℕ)
@@ -232,18 +224,8 @@ module _ (rows : List ℕ) (count : ℕ) {n all : ℕ} (o : n ≡ ors (table_of 
 
 -- the test of a word
 module _ (r : List ℕ) (x : ℕ) where
-  abbrev hit : ℕ → Bool
+  abbrev pub hit : ℕ → Bool
   hit j = not (eqb (bit_and x (unmet_at r x j)) 0)
-
-  pub none_more : {j : ℕ} → ((i : ℕ) → i < j → bit_and x (unmet_at r x i) ≡ 0) → bit_and x (unmet_at r x j) ≡ 0
-      → (i : ℕ) → i < j + 1 → bit_and x (unmet_at r x i) ≡ 0
-  none_more {j} f e i h = same_or_not i j (λ q. ap (λ (k : ℕ). bit_and x (unmet_at r x k)) q ∙ e) (λ q. f i (omega arith))
-
-  pub some-unmet : {j : ℕ} → j < 12 → (bit_and x (unmet_at r x j) ≡ 0 → ⊥) → true ≡ is_unmet r x
-  some-unmet {j} h k =
-      sym (of_T (is_unmet r x)
-      (any_in hit (range_in 0 12 j (omega arith) (omega arith))
-      (not_T (eqb (bit_and x (unmet_at r x j)) 0) (λ z. k (eqb→eq (bit_and x (unmet_at r x j)) 0 z)))))
 
   unmet-some : T (is_unmet r x) → (j : ℕ) × (j < 12) × (bit_and x (unmet_at r x j) ≡ 0 → ⊥)
   unmet-some h =
@@ -253,9 +235,6 @@ module _ (r : List ℕ) (x : ℕ) where
         λ z. T_not (eqb (bit_and x (unmet_at r x j)) 0) k
             (to_T (eqb (bit_and x (unmet_at r x j)) 0) (eq-eqb (bit_and x (unmet_at r x j)) 0 z)),
       )
-
-  pub none-unmet : ((j : ℕ) → j < 12 → bit_and x (unmet_at r x j) ≡ 0) → false ≡ is_unmet r x
-  none-unmet f = sym (not_of_T (is_unmet r x) (λ h. let (j, l, k) = unmet-some h in k (f j l)))
 
 -- Theorem: a word that the test tells has no transition.
 pub unmet-nowhere : {rows : List ℕ} {count node : ℕ} {r : List ℕ} → UnmetOrs rows count node r → (x : ℕ) → is_unmet r x ≡ true

@@ -2,17 +2,12 @@
 -- follows the moves under the lower choice and those under the upper one. The choice of a word between is between theirs
 -- (`choice-inside`), so it picks at each or as one of the two (`between-moves`), and by `saturate-least` the set holds its saturation.
 -- Assumes nothing.
-use mathlib.Core.Path.{◌≡◌, sym, ap, subst, subst⁻¹, ◌∙◌}
-use mathlib.Core.Logic.{inl, inr}
-use mathlib.Core.Bool.{Bool, true, false, cond}
+use Rattle.std.proofs.Common.{◌≡◌, sym, ap, subst, ◌∙◌, inl, inr, Bool, true, false, cond, List, [], ◌∷◌, ◌++◌, ℕ, suc, ◌+◌, ◌/◌, ◌%◌}
+use Rattle.std.proofs.Common.{◌<◌, arith, T, eqb, length}
+use Rattle.std.proofs.Math.Path.{subst⁻¹}
+use mathlib.Core.List.{Memᴰ}
 use mathlib.Core.List.Memᴰ
-use mathlib.Core.List.{List, [], ◌∷◌, ◌++◌, Memᴰ}
-use Prim.Native.Nat.{ℕ, suc, ◌+◌, ◌-◌, ◌*◌, ◌/◌, ◌%◌, ◌≤◌, ◌<◌}
-use native.Mathlib.Omega.{arith}
-use lib.Bits.{bit_or, bit_xor}
-use lib.Dec.{T, eqb}
-use lib.ListN.{length}
-use Rattle.base.specs.Bits.{bit, word, Lowest, Without}
+use Rattle.base.specs.Bits.{bit, word}
 use Rattle.base.specs.Sets.{Inside}
 use Rattle.base.proofs.BoolLaws.{by_test, of_T, to_T}
 use Rattle.base.proofs.TestLaws.{not_of_T}
@@ -21,11 +16,11 @@ use Rattle.base.proofs.Inside.{below_of, below-least, inside_length}
 use Rattle.formula.specs.Table.{Operator, Table, operator, is_or}
 use Rattle.tableau.specs.Saturation.{Subset, has, moves, saturate}
 use Rattle.tableau.specs.Transition.{ors, choice_of}
-use Rattle.tableau.specs.Inner.{table_of, Formed, with_bits, ChoiceBetween, Widest}
-use Rattle.tableau.specs.Fringe.{Spread, moves_at}
+use Rattle.tableau.specs.Inner.{table_of, Formed, ChoiceBetween, Widest}
+use Rattle.tableau.specs.Fringe.{Spread, moves_at, moves_both}
 use Rattle.tableau.proofs.SaturationLaws.{inside-has, has_lt, saturate-least}
-use Rattle.tableau.proofs.WordSets.{AllBelow, with_bits-append}
-use Rattle.tableau.proofs.FringeLaws.{spread_turn, spread-less, spread-rest, moves_at-below, moves-same}
+use Rattle.tableau.proofs.WordSets.{AllBelow}
+use Rattle.tableau.proofs.FringeLaws.{spread-rest, moves_at-below, moves-same}
 
 -- a choice word with more bits picks right at more ors
 choice-inside : (t : Table) (x y : ℕ) → ((i : ℕ) → i < ors t → T (bit x i) → T (bit y i)) → Inside (choice_of t x) (choice_of t y)
@@ -51,28 +46,11 @@ between-moves o {p} {w} {q} e {m} lower upper =
     (λ y r. Memᴰ.append_right (moves o (has p e)) (rw (of_T (has q e) (inside-has upper e y)) r))
     (λ n r. Memᴰ.append_left {s = moves o (has p e)} (moves o (has q e)) (rw (not_of_T (has p e) (λ y. n (inside-has lower e y))) r))
 
--- the moves of a subformula under the choices of two words
-abbrev pub moves_both : List ℕ → (lower upper e : ℕ) → List ℕ
-moves_both rows lower upper e = moves_at rows lower e ++ moves_at rows upper e
-
-moves_both_below : {rows : List ℕ} {count : ℕ} → Formed rows count → (lower upper e : ℕ) → e < count
+pub moves_both_below : {rows : List ℕ} {count : ℕ} → Formed rows count → (lower upper e : ℕ) → e < count
     → AllBelow count (moves_both rows lower upper e)
 moves_both_below {rows} f lower upper e h m r =
     elim (Memᴰ.append_cases (moves_at rows lower e) r)
     [ inl p ↦ moves_at-below f lower e h m p | inr p ↦ moves_at-below f upper e h m p ]
-
--- a turn of the loop: the moves under the lower choice, then those under the upper one
-module _ (rows : List ℕ) (lower upper : ℕ) {count node set fringe : ℕ} (s : Spread (moves_both rows lower upper) count node set fringe)
-    {e rest half wider : ℕ} (l : Lowest fringe e) (o : Without fringe e rest) (p : half ≡ with_bits (moves_at rows lower e) set)
-    (q : wider ≡ with_bits (moves_at rows upper e) half) where
-  moved_both : wider ≡ with_bits (moves_both rows lower upper e) set
-  moved_both = q ∙ ap (with_bits (moves_at rows upper e)) p ∙ sym (with_bits-append (moves_at rows lower e) (moves_at rows upper e) set)
-
-  pub widest_turn : Formed rows count → Spread (moves_both rows lower upper) count node wider (bit_or rest (bit_xor wider set))
-  widest_turn f = spread_turn s l o moved_both (moves_both_below f lower upper)
-
-  pub widest_less : (room : ℕ) → wider ≤ room → 2 * (room - wider) + bit_or rest (bit_xor wider set) < 2 * (room - set) + fringe
-  widest_less = spread-less s l o moved_both
 
 pub widest_rest : {rows : List ℕ} {count low high lower upper node set fringe : ℕ} → lower ≡ word (choice_of (table_of rows count) low)
     → upper ≡ word (choice_of (table_of rows count) high) → Spread (moves_both rows lower upper) count node set fringe → fringe ≡ 0

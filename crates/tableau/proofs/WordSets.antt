@@ -1,18 +1,13 @@
 -- Sets of subformulas as words: to add members is to put bits in (`word-add`), and the tests of the definitions are tests of words
 -- (`within_word`, `same_word`). Each is shown bit by bit, for bit k of a set's word is whether k is in the set. Assumes
 -- nothing.
-use mathlib.Core.Path.{◌≡◌, refl, sym, ap, subst, ◌∙◌}
-use mathlib.Core.Bool.{Bool, true, false, cond, ◌||◌, ◌&&◌, or-true, or-false}
+use Rattle.std.proofs.Common.{◌≡◌, refl, sym, ap, subst, ◌∙◌, Bool, true, false, cond, ◌||◌, ◌&&◌, List, [], ◌∷◌, ◌++◌, map, inl, inr, ℕ}
+use Rattle.std.proofs.Common.{zero, suc, ◌^◌, ◌<◌, arith, T, eqb, eqb→eq, bit_and, bit_or, length, get_or, set, length-set, eq-eqb}
+use Rattle.std.proofs.Math.Bool.{or-true, or-false}
+use Rattle.std.proofs.Math.Dec.{eqb-zero-suc, eqb-suc-zero, eqb-suc-suc}
+use Rattle.std.proofs.Math.Decide.{dec_lt}
+use mathlib.Core.List.{Memᴰ}
 use mathlib.Core.List.Memᴰ
-use mathlib.Core.List.{List, [], ◌∷◌, ◌++◌, map, Memᴰ}
-use mathlib.Core.Logic.{inl, inr}
-use Prim.Native.Nat.{ℕ, zero, suc, ◌^◌, ◌<◌}
-use native.Mathlib.Omega.{arith}
-use native.Mathlib.Decide.{dec_lt}
-use lib.Dec.{T, eqb, eqb-zero-suc, eqb-suc-zero, eqb-suc-suc, eqb→eq}
-use lib.Bits.{bit_and, bit_or}
-use lib.ListN.{length, get_or, set, length-set}
-use borrow.Author.Tests.{eq-eqb}
 use Rattle.base.specs.Lists.{range, member}
 use Rattle.base.specs.Bits.{bit, word}
 use Rattle.base.proofs.BoolLaws.{of_T, to_T}

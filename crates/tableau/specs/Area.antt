@@ -1,6 +1,6 @@
 -- Nodes in a byte area, as the code keeps them: eight bytes for each word, the lowest first, from the first byte on. A reader of the
 -- decision's contract need not read it. Assumes nothing.
-use Rattle.std.specs.Prelude.{◌≡◌, cond, ℕ, zero, suc, ◌+◌, ◌-◌, ◌*◌, ◌%◌, ◌^◌, ◌≤◌, ◌<◌, min, eqb, ltb, length, get_or, take, drop, set, replicate}
+use Rattle.std.specs.Prelude.{◌≡◌, cond, Option, Some, None, ℕ, zero, suc, ◌+◌, ◌-◌, ◌*◌, ◌%◌, ◌^◌, ◌≤◌, ◌<◌, min, eqb, ltb, length, get_or, take, drop, set, replicate}
 use mathlib.Core.List.{List, [], ◌∷◌, ◌++◌, map, Memᴰ}
 use Rattle.base.specs.Lists.{flat_map, At}
 use Rattle.base.specs.Bits.{word}
@@ -14,9 +14,8 @@ use Rattle.tableau.specs.Nodes.{root, nodes}
 use Rattle.tableau.specs.Origins.{parent_at, letter_at}
 use Rattle.tableau.specs.Inner.{table_of, Formed, TargetBy}
 use Rattle.tableau.specs.declared.Arrival.{Arrival}
-use Rattle.tableau.specs.declared.Lookup.{Lookup}
+use Rattle.tableau.specs.declared.NodeNumber.{NodeNumber}
 use Rattle.tableau.specs.declared.Target.{Target}
-use Rattle.tableau.specs.declared.Lookup.TheVariants.{Number, Absent}
 
 -- the eight bytes of a number
 abbrev pub bytes8 : ℕ → List ℕ
@@ -36,8 +35,8 @@ words_at a i zero = []
 words_at a i (suc n) = eight a (8 * i) ∷ words_at a (suc i) n
 
 -- what the code answers for a number among the first known: that number, or that there is none
-abbrev pub lookup : (known i : ℕ) → Lookup
-lookup known i = cond (ltb i known) (Number (record { 0 = i })) Absent
+abbrev pub lookup : (known i : ℕ) → Option NodeNumber
+lookup known i = cond (ltb i known) (Some (record { 0 = i })) None
 
 -- that many bytes 0
 abbrev pub zeros : ℕ → List ℕ
@@ -46,6 +45,11 @@ zeros n = replicate n 0
 -- an area with zeros from one byte up to another
 abbrev pub cleared : (from to : ℕ) → List ℕ → List ℕ
 cleared from to a = take from a ++ (zeros (to - from) ++ drop to a)
+
+-- How many nodes there are, as the definitions count them: one more than there is room for where the code has no room for all.
+abbrev pub counted : (capacity : ℕ) → Option ℕ → ℕ
+counted capacity None = capacity + 1
+counted capacity (Some n) = n
 
 -- An area of that many bytes has room for capacity nodes, at most 1,024, and known of them have room.
 pub record NodeRoom (known capacity bytes : ℕ) : Type 0 where
@@ -143,7 +147,7 @@ pub record NodeAdded (known capacity : ℕ) (s : Arrival) (area o area' o' : Lis
       → NodesNoted capacity r a area' o' (add eqb ws x)
 
 -- The nodes l of the area become those with where a target leads from node i, the set v, where it is that of a choice word x.
-pub record Followed (i : ℕ) (target : Target) (known capacity : ℕ) (area o area' o' : List ℕ) (r : ℕ) : Type 0 where
+pub record Followed (i : ℕ) (target : Option Target) (known capacity : ℕ) (area o area' o' : List ℕ) (r : ℕ) : Type 0 where
   pub is : (rows : List ℕ) (count from x : ℕ) → Formed rows count → TargetBy rows count x from target
       → (l : List ReachedNode) (v : Subset) (a : List ℕ) → NodesNoted capacity known a area o (map worded l) → ReachedSized count l
       → from ≡ word v → length v ≡ count

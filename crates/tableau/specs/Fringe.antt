@@ -1,12 +1,13 @@
 -- Sets of subformulas that grow by their moves, with a fringe of those whose moves are still to be followed; and what every saturation of a
 -- node has in common. What inner functions promise each other; a reader of the decision's contract need not read it. Assumes nothing.
 use Rattle.std.specs.Prelude.{◌≡◌, true, false, ◌||◌, ℕ, ◌^◌, ◌<◌, T, length}
-use mathlib.Core.List.{List, Memᴰ}
+use mathlib.Core.List.{List, ◌++◌, Memᴰ}
 use Rattle.std.specs.Int.Bits.{bit_or, bit_xor}
 use Rattle.base.specs.Bits.{bit, word, Without}
 use Rattle.base.specs.Sets.{Inside}
 use Rattle.formula.specs.Table.{Operator, is_or}
 use Rattle.formula.specs.Rows.{operator_at}
+use Rattle.formula.specs.declared.Subformula.{Subformula}
 use Rattle.tableau.specs.Saturation.{Subset, has, moves}
 use Rattle.tableau.specs.Inner.{with_bits, LeadsNowhere, RequiredBy}
 use Rattle.tableau.specs.declared.Closing.{Closing}
@@ -31,9 +32,19 @@ pub record Spread (go : ℕ → List ℕ) (count node set fringe : ℕ) : Type 0
   pub few : (k : ℕ) → T (bit fringe k) → k < count
   pub is : (v : Subset) → length v ≡ count → node ≡ word v → MovesClosing go v set fringe
 
+-- A step, with what it asks and what it answers, puts into a set where the moves `go` of a subformula lead, and these are below count.
+pub record Follows (pre : Subformula → ℕ → Type 0) (post : Subformula → ℕ → ℕ → Type 0) (count : ℕ) (go : ℕ → List ℕ) : Type 0 where
+  pub asks : (s : Subformula) (set : ℕ) → s.0 < count → pre s set
+  pub answers : (s : Subformula) (set r : ℕ) → s.0 < count → post s set r → r ≡ with_bits (go s.0) set
+  pub below : (e m : ℕ) → e < count → Memᴰ m (go e) → m < count
+
 -- the moves of a subformula under the choice of a word
 abbrev pub moves_at : List ℕ → (choice e : ℕ) → List ℕ
 moves_at rows choice e = moves (operator_at rows e) (bit choice e)
+
+-- the moves of a subformula under the choices of two words
+abbrev pub moves_both : List ℕ → (lower upper e : ℕ) → List ℕ
+moves_both rows lower upper e = moves_at rows lower e ++ moves_at rows upper e
 
 -- A turn with an or: it leaves the fringe and waits.
 pub record WaitsMore (e : ℕ) (had r : Closing) : Type 0 where
@@ -61,8 +72,8 @@ pub record ClosingOf (rows : List ℕ) (count node : ℕ) (c : Closing) : Type 0
 
 -- What is gathered of two sets together.
 pub record Joined (a b r : Gathered) : Type 0 where
-  pub present_is : r.present ≡ bit_or a.present b.present
-  pub absent_is : r.absent ≡ bit_or a.absent b.absent
+  pub present_is : r.required.present ≡ bit_or a.required.present b.required.present
+  pub absent_is : r.required.absent ≡ bit_or a.required.absent b.required.absent
   pub falsum_is : r.falsum ≡ (a.falsum || b.falsum)
   pub to_is : r.to ≡ bit_or a.to b.to
 

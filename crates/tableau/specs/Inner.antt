@@ -1,7 +1,7 @@
 -- What the functions of the tableau ask of the rows and promise of their results, in terms of the definitions. Sets of subformulas are
 -- words in the code and lists of Bools in the definitions: a promise speaks of any list whose word is the code's. A reader of the
 -- decision's contract need not read it. Assumes nothing.
-use Rattle.std.specs.Prelude.{◌≡◌, Bool, not, ◌||◌, List, [], ◌∷◌, ℕ, ◌+◌, ◌*◌, ◌/◌, ◌%◌, ◌^◌, ◌≤◌, ◌<◌, T, eqb, length, get_or}
+use Rattle.std.specs.Prelude.{◌≡◌, Bool, not, ◌||◌, Option, Some, None, List, [], ◌∷◌, ℕ, ◌+◌, ◌*◌, ◌/◌, ◌%◌, ◌^◌, ◌≤◌, ◌<◌, T, eqb, length, get_or}
 use Rattle.std.specs.Int.Bits.{bit_and, bit_or}
 use Rattle.base.specs.Lists.{flat_map, any, range}
 use Rattle.base.specs.Bits.{bit, word}
@@ -9,11 +9,10 @@ use Rattle.formula.specs.Table.{Operator, Table}
 use Rattle.formula.specs.Rows.{operator_at, operators_of}
 use Rattle.formula.specs.Access.{Fits}
 use Rattle.tableau.specs.Saturation.{Subset, has, saturate}
-use Rattle.tableau.specs.Transition.{operators_in, requires, is_false, required_word, next_of, ors, choice_of, Transition}
+use Rattle.tableau.specs.Transition.{operators_in, requires, is_false, requirement, next_of, ors, choice_of, Transition}
 use Rattle.tableau.specs.Transition.{transition_of, by_word}
 use Rattle.tableau.specs.declared.Gathered.{Gathered}
 use Rattle.tableau.specs.declared.Target.{Target}
-use Rattle.tableau.specs.declared.Target.TheVariants.{Leads, Nothing}
 
 -- the table of the first count rows
 abbrev pub table_of : List ℕ → ℕ → Table
@@ -67,16 +66,15 @@ pub record UnmetOrs (rows : List ℕ) (count node : ℕ) (r : List ℕ) : Type 0
 
 -- What is gathered is r: what was gathered before, q, with what the operator o requires.
 pub record RequiresMore (o : Operator) (q r : Gathered) : Type 0 where
-  pub present_is : r.present ≡ with_bits (requires Bool.true o) q.present
-  pub absent_is : r.absent ≡ with_bits (requires Bool.false o) q.absent
+  pub present_is : r.required.present ≡ with_bits (requires Bool.true o) q.required.present
+  pub absent_is : r.required.absent ≡ with_bits (requires Bool.false o) q.required.absent
   pub falsum_is : r.falsum ≡ (q.falsum || is_false o)
   pub to_is : r.to ≡ with_bits (next_of o) q.to
 
--- What is gathered of the operators is r: the two words of what they require, all 16 bits of each, whether one is false, and the
--- operands of the nexts.
+-- What is gathered of the operators is r: what they require, all 16 bits of both words, whether one is false, and the operands of the
+-- nexts.
 pub record Required (os : List Operator) (r : Gathered) : Type 0 where
-  pub present_is : r.present ≡ required_word Bool.true os
-  pub absent_is : r.absent ≡ required_word Bool.false os
+  pub required_is : r.required ≡ requirement os
   pub falsum_is : r.falsum ≡ any is_false os
   pub to_is : r.to ≡ with_bits (flat_map next_of os) 0
 
@@ -85,15 +83,15 @@ pub record RequiredBy (rows : List ℕ) (count set : ℕ) (r : Gathered) : Type 
   pub is : (s : Subset) → length s ≡ count → set ≡ word s → Required (operators_in (table_of rows count) s) r
 
 -- the code's answer for the definition's transition, if it exists
-abbrev pub target : List Transition → Target
-target [] = Nothing
-target (x ∷ xs) = Leads (word x.to) x.required
+abbrev pub target : List Transition → Option Target
+target [] = None
+target (x ∷ xs) = Some (record { to = word x.to; required = x.required })
 
 -- The step r of a node under a choice is the definition's.
-pub record TargetIs (rows : List ℕ) (count choice node : ℕ) (r : Target) : Type 0 where
+pub record TargetIs (rows : List ℕ) (count choice node : ℕ) (r : Option Target) : Type 0 where
   pub is : (w v : Subset) → length v ≡ count → choice ≡ word w → node ≡ word v
       → r ≡ target (transition_of (table_of rows count) w (saturate (table_of rows count) w v))
 
 -- The step r of a node under a choice word is the definition's.
-pub record TargetBy (rows : List ℕ) (count x node : ℕ) (r : Target) : Type 0 where
+pub record TargetBy (rows : List ℕ) (count x node : ℕ) (r : Option Target) : Type 0 where
   pub is : (v : Subset) → length v ≡ count → node ≡ word v → r ≡ target (by_word (table_of rows count) x v)

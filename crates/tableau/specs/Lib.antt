@@ -9,3 +9,5 @@ pub mod Area
 pub mod Steps
 pub mod Found
 pub mod Origins
+pub mod FormedFact
+pub mod Operators

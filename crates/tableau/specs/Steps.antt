@@ -1,6 +1,6 @@
 -- The transitions between the nodes in an area, noted by their numbers in a relation: what the functions that look nodes up, add them and
 -- note transitions promise. They speak of the words in the area. A reader of the decision's contract need not read it. Assumes nothing.
-use Rattle.std.specs.Prelude.{◌≡◌, ◌⊎◌, false, ℕ, ◌+◌, ◌*◌, ◌≤◌, ◌<◌, T, length}
+use Rattle.std.specs.Prelude.{◌≡◌, ◌⊎◌, false, Option, Some, None, ℕ, ◌+◌, ◌*◌, ◌≤◌, ◌<◌, T, length}
 use mathlib.Core.List.{List, Memᴰ}
 use Rattle.base.specs.Lists.{member}
 use Rattle.base.specs.Bits.{word}
@@ -10,37 +10,39 @@ use Rattle.tableau.specs.Transition.{Transition, transitions}
 use Rattle.tableau.specs.Inner.{table_of}
 use Rattle.tableau.specs.Area.{eight, words_at, SlotsMarked}
 use Rattle.tableau.specs.declared.Added.{Added}
-use Rattle.tableau.specs.declared.Lookup.{Lookup}
-use Rattle.tableau.specs.declared.Lookup.TheVariants.{Number, Absent}
+use Rattle.tableau.specs.declared.NodeNumber.{NodeNumber}
 use Rattle.tableau.specs.declared.Target.{Target}
-use Rattle.tableau.specs.declared.Target.TheVariants.{Leads, Nothing}
 
 -- The set x stands at this number among the first `known` of the area, or it is none of them.
-abbrev pub Located : (known : ℕ) (area : List ℕ) (x : ℕ) → Lookup → Type 0
-Located known area x (Number n) = (n.0 < known) × (eight area (8 * n.0) ≡ x)
-Located known area x Absent = member x (words_at area 0 known) ≡ false
+abbrev pub Located : (known : ℕ) (area : List ℕ) (x : ℕ) → Option NodeNumber → Type 0
+Located known area x (Some n) = (n.0 < known) × (eight area (8 * n.0) ≡ x)
+Located known area x None = member x (words_at area 0 known) ≡ false
 
 -- The first nodes of an area are what they were.
 pub record Stay (known : ℕ) (area area' : List ℕ) : Type 0 where
   pub is : (j : ℕ) → j < known → eight area' (8 * j) ≡ eight area (8 * j)
 
--- Where there is room, the set x stands at the number among those known that the answer says; those that were known stay, and all are
--- marked.
+-- how many nodes are known once a node was to come in, one more than there is room for where it did not
+abbrev pub known_then : (capacity : ℕ) → Option Added → ℕ
+known_then capacity None = capacity + 1
+known_then capacity (Some r) = r.known
+
+-- The set x stands at the number among those known that the answer says; those that were known stay, and all are marked.
 pub record CameIn (known capacity x : ℕ) (area area' slots : List ℕ) (r : Added) : Type 0 where
   pub more : known ≤ r.known
-  pub most : r.known ≤ capacity + 1
+  pub most : r.known ≤ capacity
   pub below : r.at.0 < r.known
-  pub stands : r.known ≤ capacity → eight area' (8 * r.at.0) ≡ x
-  pub stay : r.known ≤ capacity → Stay known area area'
-  pub marked : r.known ≤ capacity → SlotsMarked r.known area' slots
+  pub stands : eight area' (8 * r.at.0) ≡ x
+  pub stay : Stay known area area'
+  pub marked : SlotsMarked r.known area' slots
 
 -- what is noted of a step of node i: nothing, if it leads nowhere, and else that it leads to the number of its node
-abbrev pub Noted : (i : ℕ) → Target → (area' rel rel' : List ℕ) → (known : ℕ) → Type 0
-Noted i Nothing area' rel rel' known = rel' ≡ rel
-Noted i (Leads to required) area' rel rel' known = (u : ℕ) × (u < known) × (eight area' (8 * u) ≡ to) × Related u i rel rel'
+abbrev pub Noted : (i : ℕ) → Option Target → (area' rel rel' : List ℕ) → (known : ℕ) → Type 0
+Noted i None area' rel rel' known = rel' ≡ rel
+Noted i (Some s) area' rel rel' known = (u : ℕ) × (u < known) × (eight area' (8 * u) ≡ s.to) × Related u i rel rel'
 
 -- The step of node i is noted, and the nodes that were known stay.
-pub record StepNoted (i : ℕ) (target : Target) (known : ℕ) (area area' rel rel' : List ℕ) (r : ℕ) : Type 0 where
+pub record StepNoted (i : ℕ) (target : Option Target) (known : ℕ) (area area' rel rel' : List ℕ) (r : ℕ) : Type 0 where
   pub stay : Stay known area area'
   pub noted : Noted i target area' rel rel' r
 

@@ -1,10 +1,7 @@
 -- The laws of a text that is written member by member: one more member, and all of them. Assumes nothing.
-use mathlib.Core.Path.{◌≡◌, sym, ap, subst, ◌∙◌}
-use mathlib.Core.List.{List, [], ◌∷◌, ◌++◌, append-nil, append_assoc}
-use Prim.Native.Nat.{ℕ, ◌+◌, ◌≤◌, ◌<◌}
-use native.Mathlib.Numerals.{add-one}
-use lib.ListN.{length, take, get_or}
-use lib.Seq.{take-suc, take_all}
+use Rattle.std.proofs.Common.{◌≡◌, sym, ap, subst, ◌∙◌, List, [], ◌∷◌, ◌++◌, append-nil, append_assoc}
+use Rattle.std.proofs.Common.{ℕ, ◌+◌, ◌≤◌, ◌<◌, length, take, get_or, take_all}
+use Rattle.std.proofs.lemmas.List.{take_more}
 use Rattle.text.proofs.Writing.{then}
 use Rattle.text.specs.Text.{Buffer, Wrote, each}
 
@@ -17,7 +14,7 @@ module _ {s t : Buffer} (text : ℕ → List ℕ) (xs : List ℕ) (i : ℕ) wher
   pub one_member_more : {u : Buffer} → i < length xs → Wrote s (each text (take i xs)) t → Wrote t (text (get_or xs i 0)) u
       → Wrote s (each text (take (i + 1) xs)) u
   one_member_more {u} h p q =
-      rw (add-one, take-suc xs i 0)
+      rw (take_more xs i 0)
       (subst (λ (l : List ℕ). Wrote s l u) (sym (each_last text (take i xs) (get_or xs i 0))) (then p q))
 
   pub all_members : length xs ≤ i → Wrote s (each text (take i xs)) t → Wrote s (each text xs) t

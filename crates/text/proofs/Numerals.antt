@@ -1,14 +1,9 @@
 -- The laws of numerals: the last digit stands behind the numeral of the quotient, which is smaller; so one is written, and so a number
 -- below base ^ d has at most d digits. Assumes nothing.
-use mathlib.Core.Path.{◌≡◌, refl, sym, ap, subst, ◌∙◌}
-use mathlib.Core.Bool.{Bool, true, false, true≢false, cond, ◌&&◌}
-use mathlib.Core.List.{List, [], ◌∷◌, ◌++◌}
-use Prim.Native.Nat.{ℕ, zero, suc, ◌+◌, ◌-◌, ◌*◌, ◌/◌, ◌%◌, ◌^◌, ◌≤◌, ◌<◌}
-use native.Mathlib.Nat.{div-lt_self, div-le_self, div-lt_iff_lt-mul, mod-lt, pow-suc, pow-zero, one-mul}
-use native.Mathlib.Omega.{arith}
-use lib.Dec.{ltb, leb}
-use lib.ListN.{length, length-append}
-use borrow.Author.Tests.{lt-ltb, ltb-false, le-leb, leb-false}
+use Rattle.std.proofs.Common.{◌≡◌, refl, sym, ap, subst, ◌∙◌, Bool, true, false, true≢false, cond, ◌&&◌, List, [], ◌∷◌, ◌++◌}
+use Rattle.std.proofs.Common.{ℕ, zero, suc, ◌+◌, ◌-◌, ◌*◌, ◌/◌, ◌%◌, ◌^◌, ◌≤◌, ◌<◌, arith, ltb, leb, length, length-append}
+use Rattle.std.proofs.Common.{div-le_self, div-lt_iff_lt-mul, mod-lt, pow-suc, one-mul, lt-ltb, ltb-false, le-leb, leb-false}
+use Rattle.std.proofs.Math.Nat.{div-lt_self, pow-zero}
 use Rattle.text.specs.Text.{Buffer, Wrote, Radix, glyph, is_last, numeral_by, numeral}
 use Rattle.text.proofs.Writing.{then}
 

@@ -1,16 +1,12 @@
 -- The laws of writing into a buffer. A text may be written in parts; the buffer keeps its length, and the place stays within it; and a
 -- text that has room stands at the place whole, with the rest of the buffer as it was. Assumes nothing.
-use mathlib.Core.Path.{◌≡◌, refl, sym, ap, subst, ◌∙◌}
-use mathlib.Core.Bool.{Bool, true, false, cond}
-use mathlib.Core.List.{List, [], ◌∷◌, ◌++◌}
-use Prim.Native.Nat.{ℕ, suc, ◌+◌, ◌≤◌, ◌<◌}
-use native.Mathlib.Numerals.{add-one}
-use native.Mathlib.Omega.{arith}
-use lib.Dec.{ltb}
-use lib.ListN.{length, take, drop, set, length-set, get_or}
-use lib.Seq.{sets, sets-eq, take-suc, take_all, take-append_seam}
-use borrow.Author.Tests.{lt-ltb, ltb-true, le-leb, lt-leb}
-use Rattle.text.specs.Text.{Buffer, buffer, put, written, Wrote, within, ended}
+use Rattle.std.proofs.Common.{◌≡◌, refl, sym, ap, ◌∙◌, Bool, true, false, cond, List, [], ◌∷◌, ◌++◌}
+use Rattle.std.proofs.Common.{ℕ, suc, ◌+◌, ◌≤◌, ◌<◌, add-one, arith, ltb, length, take, drop, set, length-set, get_or}
+use Rattle.std.proofs.Common.{lt-ltb, ltb-true}
+use Rattle.std.proofs.lemmas.List.{take_more}
+use Rattle.std.proofs.Math.Seq.{sets, take-append_seam}
+use Rattle.std.proofs.lemmas.List.Edits.{sets-eq}
+use Rattle.text.specs.Text.{Buffer, buffer, put, written, Wrote}
 
 pub written-append : (s : Buffer) (a b : List ℕ) → written s (a ++ b) ≡ written (written s a) b
 written-append s [] b = refl
@@ -26,22 +22,7 @@ then {s} {t} {u} {a} {b} p q = record { is = q.is ∙ ap (λ (t : Buffer). writt
 -- one more byte of a text that is written byte by byte
 pub one_byte_more : {s t u : Buffer} (text : List ℕ) (i : ℕ) → i < length text → Wrote s (take i text) t → Wrote t (get_or text i 0 ∷ []) u
     → Wrote s (take (i + 1) text) u
-one_byte_more text i h p q = rw (add-one, take-suc text i 0) (then p q)
-
-pub all : {s t : Buffer} (text : List ℕ) (i : ℕ) → length text ≤ i → Wrote s (take i text) t → Wrote s text t
-all text i h p = rw take_all at p
-
--- the line's end, with its place within the buffer or not
-module _ {s : Buffer} {bytes : List ℕ} {at : ℕ} (p : Wrote s (10 ∷ []) (buffer bytes at)) where
-  pub ends : at ≤ length bytes → buffer bytes at ≡ ended s
-  ends h =
-      let e : within (buffer bytes at) ≡ buffer bytes at = simp (le-leb at (length bytes) h) in
-      sym e ∙ ap within p.is
-
-  pub starts : length bytes < at → buffer bytes 0 ≡ ended s
-  starts h =
-      let e : within (buffer bytes at) ≡ buffer bytes 0 = simp (lt-leb at (length bytes) h) in
-      sym e ∙ ap within p.is
+one_byte_more text i h p q = rw (take_more text i 0) (then p q)
 
 -- What stays: the buffer's length, and that the place is within.
 pub record BufferKept (s t : Buffer) : Type 0 where
@@ -63,28 +44,6 @@ written-kept s (b ∷ text) =
     let one = put-kept s b in
     let rest = written-kept (put s b) text in
     record { long = rest.long ∙ one.long; within = λ w. rest.within (one.within w) }
-
-pub keeps-length : {s t : Buffer} {text : List ℕ} → Wrote s text t → length t.bytes ≡ length s.bytes
-keeps-length {s} {t} {text} p = ap (λ (u : Buffer). length u.bytes) p.is ∙ (written-kept s text).long
-
--- A loop that writes a text for each of some members has passed i of them: what it has written so far.
-pub record MembersPassed (members i : ℕ) (text : List ℕ) (s t : Buffer) : Type 0 where
-  pub inside : i ≤ members
-  pub same_length : length t.bytes ≡ length s.bytes
-  pub wrote : Wrote s text t
-
-pub none_passed : {members : ℕ} {s : Buffer} → MembersPassed members 0 [] s s
-none_passed = record { inside = omega arith; same_length = refl; wrote = nothing }
-
-pub one-passed : {members i : ℕ} {text more : List ℕ} {s t u : Buffer} → i < members → MembersPassed members i text s t
-    → length u.bytes ≡ length t.bytes → Wrote s more u → MembersPassed members (i + 1) more s u
-one-passed h p e w = record { inside = omega arith; same_length = e ∙ p.same_length; wrote = w }
-
--- the place behind a text
-pub place-within : {s t : Buffer} {text : List ℕ} → Wrote s text t → s.at ≤ length s.bytes → t.at ≤ length t.bytes
-place-within {s} {t} {text} p h =
-    let kept : BufferKept s t = subst (BufferKept s) (sym p.is) (written-kept s text) in
-    kept.within h
 
 written-sets : (text out : List ℕ) (at : ℕ) → at + length text ≤ length out → written (buffer out at) text ≡ buffer (sets out at text)
     (at + length text)

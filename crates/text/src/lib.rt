@@ -1,93 +1,116 @@
-// Text into a buffer. Each function writes from a place on, as far as there is room, and answers the place behind what it wrote.
+// Text, written from a buffer's start on. What has no room in it is left out.
 #![tactic(auto)]
 
-ghost use Rattle.std.specs.Prelude.{◌≡◌, [], ◌∷◌, ◌-◌, ◌<◌, take, drop};
-ghost use Rattle.io.specs.Counts.{IsPrefixLen};
-ghost use Rattle.text.specs.Text.{buffer, Wrote, Radix, each, letter_text, number_text, is_last};
+ghost use Rattle.std.specs.Prelude.{◌≡◌, [], ◌∷◌, ◌<◌, ◌≤◌, take, drop};
+ghost use Rattle.text.specs.Text.{blank, Wrote, Radix, each, letter_text, number_text, is_last};
 ghost use Rattle.text.specs.Text.{glyph as Text·glyph, decimal as Text·decimal, hex as Text·hex, numeral as Text·numeral};
-ghost use Rattle.text.specs.Text.{ended as Text·ended};
 
-pub fn put(out: &mut [u8], at: usize, b: u8) -> usize
-    ensures { Wrote (buffer out.old at) (b ∷ []) (buffer out.new result) }
-{
-    if at < out.len() {
-        out[at] = b;
-        return at + 1;
+// How many bytes there is room for.
+pub const ROOM: usize = 4096;
+
+// A buffer, and the place behind what was written into it.
+#[derive(Clone, Copy)]
+pub struct Text {
+    pub bytes: [u8; ROOM],
+    pub at: usize,
+    ghost within: { at ≤ 4096 },
+}
+
+impl Text {
+    ghost use Rattle.text.specs.State.{state};
+
+    pub fn new() -> Text
+        ensures { state result ≡ blank 4096 }
+    {
+        Text {
+            bytes: [0; ROOM],
+            at: 0,
+        }
     }
-    at
-}
 
-pub fn put_all(out: &mut [u8], at: usize, text: &[u8]) -> usize
-    ensures { Wrote (buffer out.old at) text.now (buffer out.new result) }
-{
-    let mut next = at;
-    let mut i = 0;
-    while i < text.len() {
-        next = put(out, next, text[i]);
-        i += 1;
+    // What was written.
+    pub fn written(&self) -> &[u8]
+        ensures { result.now ≡ take self.now.at self.now.bytes }
+    {
+        &self.bytes[..self.at]
     }
-    next
-}
 
-// The line's end. The place behind it is within the buffer: one that was beyond it becomes the start.
-pub fn ended(out: &mut [u8], at: usize) -> usize
-    ensures prefix_len { IsPrefixLen result out.new }
-    ensures result_after { buffer out.new result ≡ Text·ended (buffer out.old at) }
-{
-    let end = put(out, at, 10);
-    if end <= out.len() {
-        return end;
+    pub fn put(&mut self, b: u8)
+        ensures { Wrote (state self.old) (b ∷ []) (state self.new) }
+    {
+        let at = self.at;
+        if at < ROOM {
+            self.bytes[at] = b;
+            self.at = at + 1;
+        }
     }
-    0
-}
 
-pub fn decimal(out: &mut [u8], at: usize, n: u64) -> usize
-    ensures { Wrote (buffer out.old at) (Text·decimal n) (buffer out.new result) }
-{
-    numeral(out, at, n, 10, 1)
-}
-
-// A blank and a number.
-pub fn number(out: &mut [u8], at: usize, n: u64) -> usize
-    ensures { Wrote (buffer out.old at) (number_text n) (buffer out.new result) }
-{
-    let a = put(out, at, b' ');
-    decimal(out, a, n)
-}
-
-// With zeros in front up to the width.
-pub fn hex(out: &mut [u8], at: usize, n: u64, width: usize) -> usize
-    ensures { Wrote (buffer out.old at) (Text·hex width n) (buffer out.new result) }
-{
-    numeral(out, at, n, 16, width)
-}
-
-// The digits in front of the last one are those of the quotient.
-fn numeral(out: &mut [u8], at: usize, n: u64, base: u64, width: usize) -> usize
-    requires { Radix base }
-    ensures { Wrote (buffer out.old at) (Text·numeral base width n) (buffer out.new result) }
-{
-    let last = glyph(n % base);
-    if is_last(base, width, n) {
-        return put(out, at, last);
+    pub fn put_all(&mut self, text: &[u8])
+        ensures { Wrote (state self.old) text.now (state self.new) }
+    {
+        for b in text {
+            self.put(*b);
+        }
     }
-    let next = numeral(out, at, n / base, base, one_less(width));
-    put(out, next, last)
+
+    pub fn decimal(&mut self, n: u64)
+        ensures { Wrote (state self.old) (Text·decimal n) (state self.new) }
+    {
+        self.numeral(n, 10, 1);
+    }
+
+    // A blank and a number.
+    pub fn number(&mut self, n: u64)
+        ensures { Wrote (state self.old) (number_text n) (state self.new) }
+    {
+        self.put(b' ');
+        self.decimal(n);
+    }
+
+    // With zeros in front up to the width.
+    pub fn hex(&mut self, n: u64, width: usize)
+        ensures { Wrote (state self.old) (Text·hex width n) (state self.new) }
+    {
+        self.numeral(n, 16, width);
+    }
+
+    // The digits in front of the last one are those of the quotient.
+    fn numeral(&mut self, n: u64, base: u64, width: usize)
+        requires { Radix base }
+        ensures { Wrote (state self.old) (Text·numeral base width n) (state self.new) }
+    {
+        if !is_last(base, width, n) {
+            self.numeral(n / base, base, width.saturating_sub(1));
+        }
+        self.put(glyph(n % base));
+    }
+
+    // Each letter in four hex digits, between the two texts.
+    pub fn letters(&mut self, letters: &[u16], front: &[u8], back: &[u8])
+        ensures { Wrote (state self.old)
+            (each (letter_text front.now back.now) letters.now)
+            (state self.new) }
+    {
+        for x in letters {
+            self.letter(*x, front, back);
+        }
+    }
+
+    fn letter(&mut self, letter: u16, front: &[u8], back: &[u8])
+        ensures { Wrote (state self.old)
+            (letter_text front.now back.now letter)
+            (state self.new) }
+    {
+        self.put_all(front);
+        self.hex(u64::from(letter), 4);
+        self.put_all(back);
+    }
 }
 
 fn is_last(base: u64, width: usize, n: u64) -> bool
     ensures { result ≡ is_last base width n }
 {
-    if n < base {
-        return width <= 1;
-    }
-    false
-}
-
-fn one_less(n: usize) -> usize
-    ensures { result ≡ n - 1 }
-{
-    if 0 < n { n - 1 } else { 0 }
+    n < base && width <= 1
 }
 
 fn glyph(d: u64) -> u8
@@ -97,41 +120,10 @@ fn glyph(d: u64) -> u8
     if d < 10 { 48 + d as u8 } else { 87 + d as u8 }
 }
 
-// Each letter in four hex digits, between the two texts.
-pub fn letters(out: &mut [u8], start: usize, letters: &[u16], front: &[u8], back: &[u8]) -> usize
-    ensures { Wrote (buffer out.old start)
-        (each (letter_text front.now back.now) letters.now)
-        (buffer out.new result) }
-{
-    let mut at = start;
-    let mut i = 0;
-    while i < letters.len() {
-        at = letter(out, at, letters[i], front, back);
-        i += 1;
-    }
-    at
-}
-
-fn letter(out: &mut [u8], at: usize, letter: u16, front: &[u8], back: &[u8]) -> usize
-    ensures { Wrote (buffer out.old at)
-        (letter_text front.now back.now letter)
-        (buffer out.new result) }
-{
-    let a = put_all(out, at, front);
-    let b = hex(out, a, letter as u64, 4);
-    put_all(out, b, back)
-}
-
 // As many of the letters behind the first ones as there are, up to a count.
 pub fn part(letters: &[u16], from: usize, count: usize) -> &[u16]
     ensures { result.now ≡ take count (drop from letters.now) }
 {
-    if letters.len() <= from {
-        return &letters[..0];
-    }
-    if letters.len() - from <= count {
-        return &letters[from..];
-    }
-    let end = from + count;
-    &letters[from..end]
+    let rest = &letters[from.min(letters.len())..];
+    &rest[..count.min(rest.len())]
 }

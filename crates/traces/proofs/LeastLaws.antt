@@ -1,25 +1,17 @@
 -- The mask of the least fixpoints, built subformula by subformula: its bits below the rank are the definition's, and what is left of the
 -- definition's list belongs to the subformulas that are left. Assumes nothing.
-use mathlib.Core.Path.{◌≡◌, refl, sym, ap, subst⁻¹, ◌∙◌}
-use mathlib.Core.Bool.{Bool, true, false, cond}
-use mathlib.Core.List.{List, ◌∷◌}
-use Prim.Native.Nat.{ℕ, suc, ◌+◌, ◌-◌, ◌≤◌, ◌<◌}
-use native.Mathlib.Omega.{arith}
-use native.Mathlib.Decide.{dec_lt, ℕ_discrete}
-use native.Mathlib.Numerals.{add-one}
-use borrow.Author.Tests.{eq-eqb, ne_eqb}
-use lib.Dec.{eqb}
-use lib.ListN.{get_or}
+use Rattle.std.proofs.Common.{◌≡◌, ℕ, suc, ◌+◌, ◌-◌, ◌≤◌, ◌<◌, Bool, true, false, cond, List, ◌∷◌, get_or, refl, sym, ap, ◌∙◌, arith}
+use Rattle.std.proofs.Common.{add-one, eq-eqb, ne_eqb}
+use Rattle.std.proofs.Math.Decide.{dec_lt, ℕ_discrete}
+use Rattle.std.proofs.Math.Dec.{eqb}
 use Rattle.base.specs.Bits.{bit}
 use Rattle.base.proofs.WordLaws.{no-bit}
 use Rattle.formula.specs.Table.{Operator, is_fix}
 use Rattle.formula.specs.Rows.{operator_at, operators_of}
-use Rattle.formula.specs.Access.{decoded}
-use Rattle.formula.specs.declared.Operator as code
 use Rattle.tableau.specs.Inner.{table_of}
 use Rattle.profile.specs.Profiles.{is_least}
 use Rattle.profile_tables.specs.Marks.{leasts}
-use Rattle.traces.specs.Inner.{fix_at, fix_rank, WithLeast}
+use Rattle.traces.specs.Inner.{fix_at, fix_rank}
 use Rattle.traces.proofs.RankLaws.{before_suc}
 
 -- what the mask says of the subformulas before e, and what is left
@@ -51,10 +43,6 @@ mask_end rows count e mask h m k = at (dec_lt k (fix_rank rows e))
         (ap (λ (i : ℕ). get_or (leasts (table_of rows count)) i false) {x = k} {y = fix_rank rows e + (k - fix_rank rows e)} (omega arith)
         ∙ m.rest (k - fix_rank rows e)
         ∙ ap (λ (i : ℕ). get_or (leasts (operators_of rows e i)) (k - fix_rank rows e) false) {x = count - e} {y = 0} (omega arith))
-
--- what was read of an operator o, and found to be y
-pub is_as : {o : Operator} {x y : code.Operator} → o ≡ decoded x → x ≡ y → is_least (decoded y) ≡ is_least o
-is_as read is = sym (ap is_least (read ∙ ap decoded is))
 
 -- a least fixpoint is a fixpoint
 pub least-fix : (o : Operator) → is_least o ≡ true → is_fix o ≡ true
@@ -120,21 +108,20 @@ module _ (rows : List ℕ) (count e mask : ℕ) (h : e < count) (m : Masked rows
           ∙ ap (λ (l : List Bool). get_or l 0 false) whole)
       at k i (no q) = ap (λ (t : Bool). cond t b (bit mask k)) (ne_eqb k (fix_rank rows e) q) ∙ m.past k (omega arith)
 
-  -- by what the code has read and built
-  pub mask_more : (new k : ℕ) {least : Bool} → k ≡ fix_rank rows e → least ≡ is_least (operator_at rows e) → WithLeast least mask k new
-      → Masked rows count (e + 1) new
-  mask_more new k {least} ek is w = go least (fix_at rows e) refl refl
-    where
-      still : (i : ℕ) → bit mask i ≡ cond (eqb i (fix_rank rows e)) false (bit mask i)
-      still i = at (ℕ_discrete i (fix_rank rows e))
-        where
-          at : Dec (i ≡ fix_rank rows e) → bit mask i ≡ cond (eqb i (fix_rank rows e)) false (bit mask i)
-          at (yes q) = m.none i (omega arith) ∙ sym (ap (λ (t : Bool). cond t false (bit mask i)) (eq-eqb i (fix_rank rows e) q))
-          at (no q) = sym (ap (λ (t : Bool). cond t false (bit mask i)) (ne_eqb i (fix_rank rows e) q))
+  -- a least fixpoint, whose bit is set
+  pub mask_set : (new k : ℕ) → k ≡ fix_rank rows e → is_least (operator_at rows e) ≡ true
+      → ((i : ℕ) → bit new i ≡ cond (eqb i k) true (bit mask i)) → Masked rows count (e + 1) new
+  mask_set new k ek is w =
+      mask_fix new true (least-fix (operator_at rows e) is) is (λ i. w i ∙ ap (λ (r : ℕ). cond (eqb i r) true (bit mask i)) ek)
 
-      go : (b c : Bool) → least ≡ b → fix_at rows e ≡ c → Masked rows count (e + 1) new
-      go true c p q =
-          mask_fix new true (least-fix (operator_at rows e) (sym is ∙ p)) (sym is ∙ p)
-          (λ i. w.put p i ∙ ap (λ (r : ℕ). cond (eqb i r) true (bit mask i)) ek)
-      go false true p q = subst⁻¹ (Masked rows count (e + 1)) (w.kept p) (mask_fix mask false q (sym is ∙ p) still)
-      go false false p q = subst⁻¹ (Masked rows count (e + 1)) (w.kept p) (mask_same q)
+  -- any other operator, with which the mask stays
+  pub mask_kept : is_least (operator_at rows e) ≡ false → Masked rows count (e + 1) mask
+  mask_kept is = go (fix_at rows e) refl
+    where
+      still : (i : ℕ) → Dec (i ≡ fix_rank rows e) → bit mask i ≡ cond (eqb i (fix_rank rows e)) false (bit mask i)
+      still i (yes q) = m.none i (omega arith) ∙ sym (ap (λ (t : Bool). cond t false (bit mask i)) (eq-eqb i (fix_rank rows e) q))
+      still i (no q) = sym (ap (λ (t : Bool). cond t false (bit mask i)) (ne_eqb i (fix_rank rows e) q))
+
+      go : (c : Bool) → fix_at rows e ≡ c → Masked rows count (e + 1) mask
+      go true q = mask_fix mask false q is (λ i. still i (ℕ_discrete i (fix_rank rows e)))
+      go false q = mask_same q

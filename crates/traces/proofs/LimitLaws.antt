@@ -1,11 +1,6 @@
 -- The rows of an accepted formula have a subformula behind each next, since their operators are shaped as the formula's, and few enough
 -- next and fixpoints: reading's limits, for the definition's lists. Assumes nothing.
-use mathlib.Core.Path.{◌≡◌, refl, sym, ap}
-use mathlib.Core.Bool.{true, true≢false}
-use mathlib.Core.List.{List, [], ◌∷◌}
-use Prim.Native.Nat.{ℕ, suc, ◌+◌, ◌≤◌, ◌<◌}
-use native.Mathlib.Omega.{arith}
-use lib.ListN.{length}
+use Rattle.std.proofs.Common.{◌≡◌, refl, sym, ap, true, true≢false, List, [], ◌∷◌, ℕ, suc, ◌+◌, ◌≤◌, ◌<◌, arith, length}
 use Rattle.formula.specs.Table.{Operator, Table as Operators, is_next, is_fix}
 use Rattle.formula.specs.Rows.{operator_at, end_at}
 use Rattle.formula.specs.declared.Table.{Table}

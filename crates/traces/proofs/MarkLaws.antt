@@ -1,18 +1,12 @@
 -- Marks in bytes: what is put into one byte, what one operator passes on, and that it is nothing where there are no marks;
 -- what a sweep over the rows makes of them; and sweeping until nothing changes, which is what the definition reaches by a fixed number of
 -- rounds. Assumes nothing.
-use mathlib.Core.Path.{◌≡◌, refl, sym, ap, subst, subst⁻¹, ◌∙◌}
-use mathlib.Core.Bool.{Bool, true, false, cond, ◌||◌, or-false}
-use mathlib.Core.List.{List, [], ◌∷◌, map}
-use Prim.Native.Nat.{ℕ, zero, suc, ◌+◌, ◌-◌, ◌*◌, ◌^◌, ◌≤◌, ◌<◌}
-use native.Mathlib.Omega.{arith}
-use native.Mathlib.Decide.{dec_lt, ℕ_discrete}
-use native.Mathlib.Numerals.{add-one}
-use borrow.Author.Tests.{eq-eqb, ne_eqb}
-use lib.Dec.{eqb}
-use lib.Bits.{bit_or}
-use lib.ListN.{length, get_or, set, length-set}
-use lib.Seq.{ext_get_or, get_or-set_same, get_or-set_other, set-get_or, set_out}
+use Rattle.std.proofs.Common.{◌≡◌, ℕ, zero, suc, ◌+◌, ◌-◌, ◌*◌, ◌^◌, ◌≤◌, ◌<◌, Bool, true, false, cond, ◌||◌, List, [], ◌∷◌, map, length}
+use Rattle.std.proofs.Common.{get_or, set, refl, sym, ap, subst, ◌∙◌, bit_or, arith, add-one, length-set, eq-eqb, ne_eqb}
+use Rattle.std.proofs.Math.Decide.{dec_lt, ℕ_discrete}
+use Rattle.std.proofs.Math.Bool.{or-false}
+use Rattle.std.proofs.Math.Dec.{eqb}
+use Rattle.std.proofs.Math.Seq.{ext_get_or, get_or-set_same, get_or-set_other, set-get_or, set_out}
 use Rattle.base.specs.Lists.{range, iterate}
 use Rattle.base.specs.Bits.{bit, word}
 use Rattle.base.proofs.ListLaws.{iterate_stays}
@@ -62,11 +56,6 @@ module _ (n : ℕ) (b : List ℕ) where
 
   mark-bit : (i x : ℕ) → i < n → x < 8 → bit_of (get_or (marks_of n b) i []) x ≡ bit (get_or b i 0) x
   mark-bit i x h k = ap (λ (r : List Bool). bit_of r x) (marks_at i h) ∙ bit-priorities (bit (get_or b i 0)) x k
-
-  pub marks_same : (a : List ℕ) → ((i : ℕ) → i < n → get_or b i 0 ≡ get_or a i 0) → marks_of n b ≡ marks_of n a
-  marks_same a h =
-      values_same (λ e. priorities (bit (get_or b e 0))) (λ e. priorities (bit (get_or a e 0))) 0 n
-      (λ i k l. ap (λ (w : ℕ). priorities (bit w)) (h i (omega arith)))
 
 -- one byte stored
 marks_set : (n : ℕ) (b : List ℕ) (m v : ℕ) → m < length b → marks_of n (set b m v) ≡ set (marks_of n b) m (priorities (bit v))
@@ -120,7 +109,7 @@ with_own b e ms n = mark ms (priorities (bit (get_or b e 0))) (marks_of n b)
 -- what `passing` does, by the operator that was read: o is x
 module _ {o : Operator} {x : code.Operator} (read : o ≡ decoded x) (p : Bool) (e k : ℕ) (b r : List ℕ) where
   passed_as : {y : code.Operator} → x ≡ y → PassedOn (decoded y) p e k b r → PassedOn o p e k b r
-  passed_as is = subst⁻¹ (λ (d : Operator). PassedOn d p e k b r) (read ∙ ap decoded is)
+  passed_as is = subst (λ (d : Operator). PassedOn d p e k b r) (sym (read ∙ ap decoded is))
 
   -- an operator that is no fixpoint passes on what it has
   plain : {y : code.Operator} (ms : List ℕ) → x ≡ y → moves (decoded y) p ≡ ms → is_fix (decoded y) ≡ false
@@ -134,10 +123,6 @@ module _ {o : Operator} {x : code.Operator} (read : o ≡ decoded x) (p : Bool) 
       (sym (marks_at n b e h)
       ∙ ap (λ (t : Bool). cond t (priorities (smaller (bit_of (get_or (marks_of n b) e [])) (eqb k))) (get_or (marks_of n b) e []))
       (sym f)))
-
-  -- nothing moves from a leaf or a next
-  pub pass_none : {y : code.Operator} → x ≡ y → moves (decoded y) p ≡ [] → is_fix (decoded y) ≡ false → r ≡ b → PassedOn o p e k b r
-  pass_none is m f q = plain [] is m f (λ n l. ap (marks_of n) q)
 
   pub pass_variable : {m : Subformula} → x ≡ Variable m → PrioritiesMarked (m.0 ∷ []) (get_or b e 0) b r → PassedOn o p e k b r
   pass_variable {m} is g = plain (m.0 ∷ []) is refl refl g
@@ -157,15 +142,12 @@ module _ {o : Operator} {x : code.Operator} (read : o ≡ decoded x) (p : Bool) 
         (λ n h. g n h ∙ ap (λ (v : Marks). mark (right.0 ∷ []) (priorities (bit (get_or b e 0))) v) (f n h))
 
   -- a fixpoint passes on the smaller of its own priority and of those that it has
-  pub pass_fixpoint : {greatest : Bool} {body : Subformula} → x ≡ Fixpoint greatest body → (rank one low : ℕ) → rank ≡ k → one ≡ 2 ^ rank
+  pub pass_fixpoint : {greatest : Bool} {body : Subformula} → x ≡ Fixpoint greatest body → (one low : ℕ) → one ≡ 2 ^ k
       → Bits low (smaller (bit (get_or b e 0)) (bit one)) → PrioritiesMarked (body.0 ∷ []) low b r → PassedOn o p e k b r
   unfolding passed
-  pass_fixpoint {body = body} is rank one low er eo q g =
+  pass_fixpoint {body = body} is one low power q g =
       passed_as is (λ n h l. g n l ∙ ap (λ (s : List Bool). mark (body.0 ∷ []) s (marks_of n b)) (smaller-one n h))
     where
-      power : one ≡ 2 ^ k
-      power = eo ∙ ap (λ (i : ℕ). 2 ^ i) er
-
       smaller-one : (n : ℕ) → e < n → priorities (bit low) ≡ priorities (smaller (bit_of (get_or (marks_of n b) e [])) (eqb k))
       smaller-one n h =
           priorities-same (bit low) (smaller (bit_of (get_or (marks_of n b) e [])) (eqb k))
@@ -258,33 +240,32 @@ module _ (rows : List ℕ) (count choice f : ℕ) where
       (values_same (λ e. priorities (bit (get_or z e 0))) (λ e. blank) 0 count (λ i j l. no_marks (get_or z i 0) (none i (omega arith)))
       ∙ sym (blanks (operator_at rows) 0 count))
 
-  pub reach_start : (z : List ℕ) → f < length z → ((i : ℕ) → i < count → get_or z i 0 ≡ 0)
-      → Reaching rows count choice f (8 * count) (set z f 128)
+  pub reach_start : (z : List ℕ) (left : ℕ) → left ≡ 8 * count → f < length z → ((i : ℕ) → i < count → get_or z i 0 ≡ 0)
+      → Reaching rows count choice f left (set z f 128)
   unfolding passed
-  reach_start z k none w c =
+  reach_start z left all k none w c =
       ap (λ (n : ℕ). iterate (8 * n) (sweep (table_of rows count) w 0 0)
       (set (map (λ (o : Operator). blank) (table_of rows count)) f (priorities (eqb 7))))
       (values_length (operator_at rows) 0 count)
       ∙ ap (iterate (8 * count) (sweep (table_of rows count) w 0 0)) (sym (start_marks z k none))
+      ∙ ap (λ (n : ℕ). iterate n (sweep (table_of rows count) w 0 0) (marks_of count (set z f 128))) (sym all)
 
   -- one sweep: b becomes r
   abbrev Sweep : List ℕ → List ℕ → Type 0
   Sweep b r = (w : Subset) → choice ≡ word w → marks_of count r ≡ sweep (table_of rows count) w 0 0 (marks_of count b)
 
-  pub reach_more : (left : ℕ) (b r : List ℕ) → 0 < left → Reaching rows count choice f left b → Sweep b r
-      → Reaching rows count choice f (left - 1) r
-  reach_more zero b r h e q w c = absurd (omega arith)
-  reach_more (suc left) b r h e q w c =
+  pub reach_more : (left less : ℕ) (b r : List ℕ) → left ≡ less + 1 → Reaching rows count choice f left b → Sweep b r
+      → Reaching rows count choice f less r
+  reach_more left less b r h e q w c =
       let s = sweep (table_of rows count) w 0 0 in
       e w c
-      ∙ ap (iterate left s) (sym (q w c))
-      ∙ ap (λ (k : ℕ). iterate k s (marks_of count r)) {x = left} {y = suc left - 1} (omega arith)
+      ∙ ap (λ (k : ℕ). iterate k s (marks_of count b)) {x = left} {y = suc less} (omega arith)
+      ∙ ap (iterate less s) (sym (q w c))
 
-  pub reach_still : (left : ℕ) (b r : List ℕ) → Reaching rows count choice f left b → Sweep b r
-      → ((i : ℕ) → i < count → get_or b i 0 ≡ get_or r i 0)
+  pub reach_still : (left : ℕ) (b r : List ℕ) → Reaching rows count choice f left b → Sweep b r → r ≡ b
       → (w : Subset) → choice ≡ word w → marks_of count r ≡ reached (table_of rows count) w f
   reach_still left b r e q same w c =
-      let back = sym (marks_same count b r same) in
+      let back = ap (marks_of count) same in
       back ∙ sym (e w c ∙ iterate_stays left (sweep (table_of rows count) w 0 0) (marks_of count b) (sym (q w c) ∙ back))
 
   pub reach_end : (left : ℕ) (b : List ℕ) → left ≤ 0 → Reaching rows count choice f left b

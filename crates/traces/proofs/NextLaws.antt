@@ -1,14 +1,9 @@
 -- Triples by the ranks of next: a row is filled next by next, the rows one by one, and all rows together are the definition's triples.
 -- Ranks of different nexts differ, so a row that is filled stays. Assumes nothing.
-use mathlib.Core.Path.{◌≡◌, refl, sym, ap, subst⁻¹, ◌∙◌}
-use mathlib.Core.Bool.{Bool, true, false, cond, true≢false}
-use mathlib.Core.List.{List, [], ◌∷◌, map}
-use Prim.Native.Nat.{ℕ, suc, ◌+◌, ◌*◌, ◌<◌}
-use native.Mathlib.Omega.{arith}
-use native.Mathlib.Decide.{ℕ_discrete}
-use native.Mathlib.Numerals.{add-one}
-use lib.ListN.{length, get_or, set}
-use lib.Seq.{get_or-set_same, get_or-set_other}
+use Rattle.std.proofs.Common.{◌≡◌, ℕ, suc, ◌+◌, ◌*◌, ◌<◌, Bool, true, false, cond, List, [], ◌∷◌, map, length, get_or, set, refl, sym, ap}
+use Rattle.std.proofs.Common.{subst, ◌∙◌, arith, add-one, true≢false}
+use Rattle.std.proofs.Math.Decide.{ℕ_discrete}
+use Rattle.std.proofs.Math.Seq.{get_or-set_same, get_or-set_other}
 use Rattle.base.specs.Lists.{range}
 use Rattle.base.specs.Bits.{bit, word}
 use Rattle.base.proofs.WordLaws.{word-bit}
@@ -16,7 +11,7 @@ use Rattle.tableau.specs.Saturation.{Subset, has}
 use Rattle.tableau.specs.Inner.{table_of}
 use Rattle.profile_tables.specs.Triples.{those}
 use Rattle.profile_tables.specs.Marks.{Marks, priorities, reached, row_of, blank, triples}
-use Rattle.traces.specs.Inner.{next_at, next_rank, RowsLimited, TracesReached, Stored, RowFilled, Done, Empty, DoneTo, TriplesOf}
+use Rattle.traces.specs.Inner.{next_at, next_rank, RowsLimited, TracesReached, RowFilled, Done, Empty, DoneTo, TriplesOf}
 use Rattle.traces.proofs.RankLaws.{before-less, nexts_of, NextIn, nexts-at, nexts-all, operands-all, next-after}
 use Rattle.traces.proofs.RankLaws.{other_after, next_small}
 use Rattle.traces.proofs.MarkLaws.{marks_at, no_marks}
@@ -34,40 +29,29 @@ module _ (rows : List ℕ) (e f : ℕ) (marks t u : List ℕ) (s : RowFilled row
   abbrev After : List ℕ → Type 0
   After v = RowFilled rows marks (e + 1) f t v
 
-  row-skip : next_at rows e ≡ false → After u
+  pub row-skip : next_at rows e ≡ false → After u
   row-skip d = record { filled = λ i h q. s.filled i (earlier rows e d i h q) q; others = s.others }
 
-  row_put : length u ≡ 144 → next_at rows e ≡ true → f < 12 → next_rank rows e < 12
-      → After (set u (f * 12 + next_rank rows e) (get_or marks e 0))
-  row_put l q hf hg = record {
+  pub row-put : (g : ℕ) → g ≡ next_rank rows e → length u ≡ 144 → next_at rows e ≡ true → f < 12 → next_rank rows e < 12
+      → After (set u (f * 12 + g) (get_or marks e 0))
+  row-put g eg l q hf hg = record {
     filled = λ i h p. at i h p (ℕ_discrete i e);
     others = λ i. (
-      (λ z. get_or-set_other u (f * 12 + next_rank rows e) i (get_or marks e 0) 0 (λ y. omega arith) ∙ (s.others i).0 z),
-      λ z. get_or-set_other u (f * 12 + next_rank rows e) i (get_or marks e 0) 0 (λ y. omega arith) ∙ (s.others i).1 z,
+      (λ z. get_or-set_other u (f * 12 + g) i (get_or marks e 0) 0 (λ y. omega arith) ∙ (s.others i).0 z),
+      λ z. get_or-set_other u (f * 12 + g) i (get_or marks e 0) 0 (λ y. omega arith) ∙ (s.others i).1 z,
     );
   }
     where
       at : (i : ℕ) → i < e + 1 → next_at rows i ≡ true → Dec (i ≡ e)
-          → get_or (set u (f * 12 + next_rank rows e) (get_or marks e 0)) (f * 12 + next_rank rows i) 0 ≡ get_or marks i 0
+          → get_or (set u (f * 12 + g) (get_or marks e 0)) (f * 12 + next_rank rows i) 0 ≡ get_or marks i 0
       at i h p (yes y) =
-          subst⁻¹ (λ (j : ℕ). get_or (set u (f * 12 + next_rank rows e) (get_or marks e 0)) (f * 12 + next_rank rows j) 0 ≡ get_or
-          marks j 0) y
-          (get_or-set_same u (f * 12 + next_rank rows e) (get_or marks e 0) 0 (omega arith))
+          ap (λ (k : ℕ). get_or (set u (f * 12 + g) (get_or marks e 0)) (f * 12 + k) 0) (ap (next_rank rows) y ∙ sym eg)
+          ∙ get_or-set_same u (f * 12 + g) (get_or marks e 0) 0 (omega arith)
+          ∙ ap (λ (j : ℕ). get_or marks j 0) (sym y)
       at i h p (no y) =
           let less = before-less (next_at rows) i e (omega arith) p in
-          get_or-set_other u (f * 12 + next_rank rows e) (f * 12 + next_rank rows i) (get_or marks e 0) 0 (λ z. omega arith)
+          get_or-set_other u (f * 12 + g) (f * 12 + next_rank rows i) (get_or marks e 0) 0 (λ z. omega arith)
           ∙ s.filled i (omega arith) p
-
-  -- by what the code has read and stored
-  pub row_more : (g : ℕ) (v : List ℕ) {on : Bool} → length u ≡ 144 → g ≡ next_rank rows e → f < 12
-      → (next_at rows e ≡ true → next_rank rows e < 12) → on ≡ next_at rows e → Stored on (f * 12 + g) (get_or marks e 0) u v → After v
-  row_more g v {on} l eg hf hg is st = go on refl
-    where
-      go : (b : Bool) → on ≡ b → After v
-      go true q =
-          let o = sym is ∙ q in
-          subst⁻¹ After (st.put q ∙ ap (λ (k : ℕ). set u (f * 12 + k) (get_or marks e 0)) eg) (row_put l o hf (hg o))
-      go false q = subst⁻¹ After (st.kept q) (row-skip (sym is ∙ q))
 
 -- the rows, one subformula more
 module _ (rows : List ℕ) (count choice node e : ℕ) (t : List ℕ) (limited : RowsLimited rows count) (h : e < count)
@@ -101,7 +85,7 @@ module _ (rows : List ℕ) (count choice node e : ℕ) (t : List ℕ) (limited :
       where
         at : (v w : Subset) → node ≡ word v → choice ≡ word w → (i d : ℕ) → i < e + 1 → next_at rows i ≡ true → d < count
             → next_at rows d ≡ true → Dec (i ≡ e) → Cell v w i d u
-        at v w nv cw i d l oi k od (yes p) = subst⁻¹ (λ (j : ℕ). Cell v w j d u) p (now v w nv cw d k od)
+        at v w nv cw i d l oi k od (yes p) = subst (λ (j : ℕ). Cell v w j d u) (sym p) (now v w nv cw d k od)
         at v w nv cw i d l oi k od (no p) = past v w nv cw i d (omega arith) oi k od
 
     pub skip_absent : bit node (e + 1) ≡ false → State t

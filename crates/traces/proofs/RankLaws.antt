@@ -1,14 +1,11 @@
 -- Ranks: how many next, or fixpoints, begin before a subformula. The rank is the place in the definition's list of them, so their numbers
 -- in all are its lengths. Assumes nothing.
-use mathlib.Core.Path.{◌≡◌, refl, sym, ap, subst, subst⁻¹, ◌∙◌}
-use mathlib.Core.Bool.{Bool, true, false, cond}
-use mathlib.Core.List.{List, [], ◌∷◌, ◌++◌, map}
-use Prim.Native.Nat.{ℕ, zero, suc, ◌+◌, ◌-◌, ◌%◌, ◌≤◌, ◌<◌}
-use native.Mathlib.Omega.{arith}
-use native.Mathlib.Decide.{ℕ_discrete}
-use native.Mathlib.Numerals.{add-one}
-use lib.ListN.{length, get_or, set, length-set, length-map, length-append}
-use lib.Seq.{get_or-set_same, get_or-set_other}
+use Rattle.std.proofs.Common.{◌≡◌, ℕ, zero, suc, ◌+◌, ◌-◌, ◌≤◌, ◌<◌, Bool, true, false, cond, List, [], ◌∷◌, ◌++◌, map, length, get_or}
+use Rattle.std.proofs.Common.{set, refl, sym, ap, subst, ◌∙◌, arith, add-one, length-set, length-append}
+use Rattle.std.proofs.Math.Decide.{ℕ_discrete}
+use Rattle.std.proofs.Math.ListN.{length-map}
+use Rattle.std.proofs.Math.Seq.{get_or-set_same, get_or-set_other}
+use Rattle.std.specs.Int.{from_bool}
 use Rattle.formula.specs.Table.{Operator, Table, is_next}
 use Rattle.formula.specs.Rows.{operator_at, operators_of}
 use Rattle.tableau.specs.Transition.{next_of}
@@ -27,9 +24,17 @@ one-most : (b : Bool) → cond b 1 0 ≤ 1
 one-most true = omega arith
 one-most false = omega arith
 
--- the same of a test that was read
-pub one_of : {a b : Bool} {n : ℕ} → a ≡ b → n ≡ cond a 1 0 → n ≡ cond b 1 0
-one_of q h = h ∙ ap (λ (t : Bool). cond t 1 0) q
+-- what a test that was read counts
+pub one_of : {a b : Bool} {n : ℕ} → a ≡ b → n ≡ from_bool a → n ≡ cond b 1 0
+one_of {a} {b} q h = h ∙ as_cond a ∙ ap (λ (t : Bool). cond t 1 0) q
+  where
+    as_cond : (t : Bool) → from_bool t ≡ cond t 1 0
+    as_cond true = refl
+    as_cond false = refl
+
+-- which is one at most
+pub one_most : {a b : Bool} {n : ℕ} → a ≡ b → n ≡ from_bool a → n ≤ 1
+one_most {b = b} q h = omega (arith, one_of q h, one-most b)
 
 -- numbers that a test holds of
 module _ (q : ℕ → Bool) where
@@ -57,14 +62,12 @@ module _ (q : ℕ → Bool) where
   before-most (suc e) = omega (arith, count-one (q e) (before q e), one-most (q e), before-most e)
 
 -- an array of ranks, one more at a time
-pub ranked-more : (rank : ℕ → ℕ) (e n : ℕ) (l : List ℕ) → e < length l → n ≡ rank e → n < 256 → Ranked rank e l
-    → Ranked rank (e + 1) (set l e (n % 256))
-ranked-more rank e n l h q s r d k = go (ℕ_discrete d e)
+ranked-more : (rank : ℕ → ℕ) (e n : ℕ) (l : List ℕ) → e < length l → n ≡ rank e → Ranked rank e l → Ranked rank (e + 1) (set l e n)
+ranked-more rank e n l h q r d k = go (ℕ_discrete d e)
   where
-    go : Dec (d ≡ e) → get_or (set l e (n % 256)) d 0 ≡ rank d
-    go (yes p) =
-        subst⁻¹ (λ (i : ℕ). get_or (set l e (n % 256)) i 0 ≡ rank i) p (get_or-set_same l e (n % 256) 0 h ∙ omega arith)
-    go (no p) = get_or-set_other l e d (n % 256) 0 p ∙ r d (omega arith)
+    go : Dec (d ≡ e) → get_or (set l e n) d 0 ≡ rank d
+    go (yes p) = subst (λ (i : ℕ). get_or (set l e n) i 0 ≡ rank i) (sym p) (get_or-set_same l e n 0 h ∙ q)
+    go (no p) = get_or-set_other l e d n 0 p ∙ r d (omega arith)
 
 -- one element for a next, none for another operator
 next_one : (o : Operator) (b : Bool) → is_next o ≡ b → (e : ℕ) → map (λ (g : ℕ). e) (next_of o) ≡ cond b (e ∷ []) []
@@ -133,14 +136,14 @@ module _ (rows : List ℕ) where
           → NextIn e (suc n) i (get_or (nexts_of e (suc n)) i 0)
       go false o i h f =
           let q = nexts_by e n false o in
-          subst⁻¹ (λ (l : List ℕ). NextIn e (suc n) i (get_or l i 0)) q
+          subst (λ (l : List ℕ). NextIn e (suc n) i (get_or l i 0)) (sym q)
           (wider i i (get_or (nexts_of (suc e) n) i 0) (omega (arith, next-same e o)) (f i (omega (arith, ap length q))))
       go true o zero h f =
-          subst⁻¹ (λ (l : List ℕ). NextIn e (suc n) 0 (get_or l 0 0)) (nexts_by e n true o)
+          subst (λ (l : List ℕ). NextIn e (suc n) 0 (get_or l 0 0)) (sym (nexts_by e n true o))
           (record { low = omega arith; high = omega arith; is = o; rank = omega arith })
       go true o (suc i) h f =
           let q = nexts_by e n true o in
-          subst⁻¹ (λ (l : List ℕ). NextIn e (suc n) (suc i) (get_or l (suc i) 0)) q
+          subst (λ (l : List ℕ). NextIn e (suc n) (suc i) (get_or l (suc i) 0)) (sym q)
           (wider i (suc i) (get_or (nexts_of (suc e) n) i 0) (omega (arith, next_suc e o)) (f i (omega (arith, ap length q))))
 
   fixes-length : (e n : ℕ) → fix_rank rows e + length (leasts (operators_of rows e n)) ≡ fix_rank rows (e + n)
@@ -195,26 +198,20 @@ ranking_start rows next fix l k =
 
 pub ranking_more : (rows : List ℕ) (e : ℕ) (next fix : List ℕ) (nexts fixes n m : ℕ) → e < 48 → n ≡ cond (next_at rows e) 1 0
     → m ≡ cond (fix_at rows e) 1 0
-    → Ranking rows e next fix nexts fixes → Ranking rows (e + 1) (set next e (nexts % 256)) (set fix e (fixes % 256)) (nexts + n)
-    (fixes + m)
+    → Ranking rows e next fix nexts fixes → Ranking rows (e + 1) (set next e nexts) (set fix e fixes) (nexts + n) (fixes + m)
 ranking_more rows e next fix nexts fixes n m h en em r =
     record {
-      next_long = length-set next e (nexts % 256) ∙ r.next_long;
-      fix_long = length-set fix e (fixes % 256) ∙ r.fix_long;
-      next_ranked =
-          ranked-more (next_rank rows) e nexts next (omega (arith, r.next_long)) r.nexts_are
-          (omega (arith, r.nexts_are, before-most (next_at rows) e)) r.next_ranked;
-      fix_ranked =
-          ranked-more (fix_rank rows) e fixes fix (omega (arith, r.fix_long)) r.fixes_are
-          (omega (arith, r.fixes_are, before-most (fix_at rows) e)) r.fix_ranked;
+      next_long = length-set next e nexts ∙ r.next_long;
+      fix_long = length-set fix e fixes ∙ r.fix_long;
+      next_ranked = ranked-more (next_rank rows) e nexts next (omega (arith, r.next_long)) r.nexts_are r.next_ranked;
+      fix_ranked = ranked-more (fix_rank rows) e fixes fix (omega (arith, r.fix_long)) r.fixes_are r.fix_ranked;
       nexts_are = ap (λ (k : ℕ). k + n) r.nexts_are ∙ before-one (next_at rows) e n en;
       fixes_are = ap (λ (k : ℕ). k + m) r.fixes_are ∙ before-one (fix_at rows) e m em;
     }
 
-pub ranking_end : (rows : List ℕ) (count e : ℕ) (next fix : List ℕ) (nexts fixes : ℕ) → e ≤ count → count ≤ e
+pub ranking_end : (rows : List ℕ) (count e : ℕ) (next fix : List ℕ) (nexts fixes : ℕ) → e ≡ count
     → Ranking rows e next fix nexts fixes → RanksOf rows count (record { nexts = nexts; next = next; fix = fix })
-ranking_end rows count e next fix nexts fixes h k r =
-    let q : e ≡ count = omega arith in
+ranking_end rows count e next fix nexts fixes q r =
     record {
       nexts_are = r.nexts_are ∙ ap (next_rank rows) q ∙ sym (operands-all rows count);
       next_is = λ d l. r.next_ranked d (omega arith);

@@ -1,7 +1,7 @@
 -- What the functions over traces promise. The marks of a subformula, the priorities with which traces reach it, are a byte with bit x for
 -- the priority x. Operands of next and fixpoints go by their rank: how many begin before them. A reader of the decision's contract need not
 -- read it. Assumes nothing.
-use Rattle.std.specs.Prelude.{◌≡◌, Bool, true, false, cond, eqb, List, [], map, ℕ, zero, suc, ◌+◌, ◌*◌, ◌≤◌, ◌<◌, length, get_or, set}
+use Rattle.std.specs.Prelude.{◌≡◌, Bool, true, cond, List, [], map, ℕ, zero, suc, ◌+◌, ◌*◌, ◌≤◌, ◌<◌, length, get_or}
 use Rattle.base.specs.Lists.{range}
 use Rattle.base.specs.Bits.{bit, word}
 use Rattle.formula.specs.Table.{Operator, is_next, is_fix}
@@ -46,15 +46,10 @@ pub record RowsLimited (rows : List ℕ) (count : ℕ) : Type 0 where
 abbrev pub Ranked : (ℕ → ℕ) → (e : ℕ) → List ℕ → Type 0
 Ranked rank e l = (d : ℕ) → d < e → get_or l d 0 ≡ rank d
 
--- What is asked where an array of ranks comes with the rows: the rows' limits, and that the ranks are theirs; of fixpoints,
-pub record FixesRanked (rows : List ℕ) (count : ℕ) (fix : List ℕ) : Type 0 where
+-- What is asked where an array of ranks comes with the rows: the rows' limits, and that the ranks are theirs, of next or of fixpoints.
+pub record RowsRanked (rank : List ℕ → ℕ → ℕ) (rows : List ℕ) (count : ℕ) (l : List ℕ) : Type 0 where
   pub limited : RowsLimited rows count
-  pub ranked : Ranked (fix_rank rows) count fix
-
--- and of next.
-pub record NextsRanked (rows : List ℕ) (count : ℕ) (next : List ℕ) : Type 0 where
-  pub limited : RowsLimited rows count
-  pub ranked : Ranked (next_rank rows) count next
+  pub ranked : Ranked (rank rows) count l
 
 -- The ranks r are those of the rows.
 pub record RanksOf (rows : List ℕ) (count : ℕ) (r : Ranks) : Type 0 where
@@ -83,11 +78,6 @@ SweptMarks rows count choice b r =
 -- The marks r are those of the traces from f.
 abbrev pub TracesReached : List ℕ → (count choice f : ℕ) → List ℕ → Type 0
 TracesReached rows count choice f r = (w : Subset) → choice ≡ word w → marks_of count r ≡ reached (table_of rows count) w f
-
--- Where it is on, the list r is t with w stored at a place; else it is t.
-pub record Stored (on : Bool) (at w : ℕ) (t r : List ℕ) : Type 0 where
-  pub put : on ≡ true → r ≡ set t at w
-  pub kept : on ≡ false → r ≡ t
 
 -- Row f has the marks of each next before e.
 abbrev pub RowOf : List ℕ → List ℕ → (e f : ℕ) → List ℕ → Type 0
@@ -120,15 +110,10 @@ pub record DoneTo (rows : List ℕ) (count choice node e : ℕ) (t : List ℕ) :
 
 -- What is asked to fill the row of subformula e: the ranks, and the rows of the nexts before it.
 pub record RowAsked (rows : List ℕ) (count choice node : ℕ) (next fix : List ℕ) (e : ℕ) (t : List ℕ) : Type 0 where
-  pub nexts : NextsRanked rows count next
-  pub fixes : FixesRanked rows count fix
+  pub nexts : RowsRanked next_rank rows count next
+  pub fixes : RowsRanked fix_rank rows count fix
   pub in_table : e < count
   pub before : DoneTo rows count choice node e t
-
--- Where it is a least fixpoint's, the mask r is the mask with the priority k too; else it is the mask.
-pub record WithLeast (least : Bool) (mask k r : ℕ) : Type 0 where
-  pub put : least ≡ true → (i : ℕ) → bit r i ≡ cond (eqb i k) true (bit mask i)
-  pub kept : least ≡ false → r ≡ mask
 
 -- The bytes r have the triples of the transition of a node under a choice.
 abbrev pub TriplesOf : List ℕ → (count choice node : ℕ) → List ℕ → Type 0

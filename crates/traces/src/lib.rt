@@ -6,14 +6,15 @@ ghost use Rattle.std.specs.Prelude.{◌≡◌, true, false, [], ◌∷◌, ℕ, 
 ghost use Rattle.base.specs.Bits.{bit};
 ghost use Rattle.formula.specs.Rows.{operator_at};
 ghost use Rattle.formula.specs.Access.{Placed};
-ghost use Rattle.tableau.specs.Inner.{table_of, Formed};
+ghost use Rattle.tableau.specs.Operators.{operators};
 ghost use Rattle.profile.specs.Profiles.{is_least};
 ghost use Rattle.profile_tables.specs.Marks.{leasts};
-ghost use Rattle.traces.specs.Inner.{fix_at, fix_rank, RowsLimited, Ranked, FixesRanked, NextsRanked, RanksOf, PrioritiesMarked};
+ghost use Rattle.traces.specs.Inner.{fix_at, next_rank, fix_rank, RowsLimited, Ranked, RowsRanked, RanksOf, PrioritiesMarked};
 ghost use Rattle.traces.specs.Inner.{PassedOn};
-ghost use Rattle.traces.specs.Inner.{SweptMarks, TracesReached, Stored, RowFilled, DoneTo, RowAsked, TriplesOf, WithLeast};
+ghost use Rattle.traces.specs.Inner.{SweptMarks, TracesReached, RowFilled, DoneTo, RowAsked, TriplesOf};
 
 use formula::{Operator, Subformula};
+use tableau::Tableau;
 
 // The ranks of the subformulas: how many next, or fixpoints, begin before each one; and how many next there are in all.
 #[derive(Clone, Copy)]
@@ -23,26 +24,23 @@ pub struct Ranks {
     pub fix: [u8; 48],
 }
 
-pub fn ranked(rows: &[u8; 144], count: usize) -> Ranks
-    requires { Formed rows.now count }
-    ensures { RanksOf rows.now count result }
+pub fn ranked(tableau: &Tableau) -> Ranks
+    ensures { RanksOf tableau.now.table.rows tableau.now.table.count result }
 {
     let mut next = [0u8; 48];
     let mut fix = [0u8; 48];
-    let mut nexts = 0usize;
-    let mut fixes = 0usize;
-    let mut e = 0;
-    while e < count {
-        next[e] = (nexts % 256) as u8;
-        fix[e] = (fixes % 256) as u8;
-        nexts += base::one_if(formula::is_next(rows, Subformula(e)));
-        fixes += base::one_if(formula::is_fixpoint(rows, Subformula(e)));
-        e += 1;
+    let mut nexts = 0u8;
+    let mut fixes = 0u8;
+    for e in 0..tableau.table.count {
+        next[e] = nexts;
+        fix[e] = fixes;
+        nexts += u8::from(formula::is_next(&tableau.table.rows, Subformula(e)));
+        fixes += u8::from(formula::is_fixpoint(&tableau.table.rows, Subformula(e)));
     }
     Ranks {
-        nexts: nexts,
-        next: next,
-        fix: fix,
+        nexts: usize::from(nexts),
+        next,
+        fix,
     }
 }
 
@@ -52,15 +50,7 @@ fn mark(marks: &mut [u8], s: Subformula, w: u8)
     requires { s.0 < length marks.old }
     ensures { PrioritiesMarked (s.0 ∷ []) w marks.old marks.new }
 {
-    let e = s.0;
-    marks[e] = marks[e] | w;
-}
-
-fn bit8(k: usize) -> u8
-    requires { k < 8 }
-    ensures { result ≡ 2 ^ k }
-{
-    1u8 << k
+    marks[s.0] |= w;
 }
 
 // Marks what subformula s passes on: nothing where it has no marks itself, as most have none.
@@ -70,122 +60,75 @@ fn passing(rows: &[u8; 144], fix: &[u8; 48], choice: u64, s: Subformula, marks: 
     ensures { PassedOn (operator_at rows.now s.0) (bit choice s.0) s.0 (get_or fix.now s.0 0)
         marks.old marks.new }
 {
-    let e = s.0;
-    let w = marks[e];
+    let w = marks[s.0];
     if w == 0 {
         return;
     }
-    let o = formula::operator_at(rows, s);
-    match o {
-        Operator::Constant(_) => {}
-        Operator::Signal { .. } => {}
+    match formula::operator_at(rows, s) {
+        Operator::Constant(_) | Operator::Signal { .. } | Operator::Next(_) => {}
         Operator::Variable(binder) => mark(marks, binder, w),
         Operator::Pair {
-            either,
+            either: false,
             left,
             right,
         } => {
-            if !either {
-                mark(marks, left, w);
-                mark(marks, right, w);
-            } else if base::has(choice, e) {
-                mark(marks, right, w);
-            } else {
-                mark(marks, left, w);
-            }
+            mark(marks, left, w);
+            mark(marks, right, w);
         }
-        Operator::Next(_) => {}
+        Operator::Pair { left, right, .. } => {
+            mark(marks, if base::has(choice, s.0) { right } else { left }, w);
+        }
         Operator::Fixpoint { body, .. } => {
-            let k = base::wide(fix[e]);
-            let low = triples::minima(w, bit8(k));
-            mark(marks, body, low);
+            let own = fix[s.0];
+            mark(marks, body, triples::minima(w, 1 << own));
         }
     }
 }
 
 // Marks what each subformula passes on, taken in rising order.
-fn passed(rows: &[u8; 144], count: usize, fix: &[u8; 48], choice: u64, marks: &mut [u8; 48])
-    requires { FixesRanked rows.now count fix.now }
-    ensures { SweptMarks rows.now count choice marks.old marks.new }
+fn passed(tableau: &Tableau, fix: &[u8; 48], choice: u64, marks: &mut [u8; 48])
+    requires { RowsRanked fix_rank tableau.now.table.rows tableau.now.table.count fix.now }
+    ensures { SweptMarks tableau.now.table.rows tableau.now.table.count choice marks.old marks.new }
 {
-    let mut e = 0;
-    while e < count {
-        passing(rows, fix, choice, Subformula(e), marks);
-        e += 1;
+    for e in 0..tableau.table.count {
+        passing(&tableau.table.rows, fix, choice, Subformula(e), marks);
     }
-}
-
-fn same48(a: &[u8; 48], b: &[u8; 48]) -> bool
-    ensures { result ≡ true → (i : ℕ) → i < 48 → get_or a.now i 0 ≡ get_or b.now i 0 }
-{
-    let mut i = 0;
-    while i < 48 {
-        if a[i] != b[i] {
-            return false;
-        }
-        i += 1;
-    }
-    true
 }
 
 // The priorities with which traces from subformula s reach each one.
-fn reaching(rows: &[u8; 144], count: usize, fix: &[u8; 48], choice: u64, s: Subformula) -> [u8; 48]
-    requires fixes_ranked { FixesRanked rows.now count fix.now }
+fn reaching(tableau: &Tableau, fix: &[u8; 48], choice: u64, s: Subformula) -> [u8; 48]
+    requires fixes_ranked { RowsRanked fix_rank tableau.now.table.rows tableau.now.table.count fix.now }
     requires s_bound { s.0 < 48 }
-    ensures { TracesReached rows.now count choice s.0 result }
+    ensures { TracesReached tableau.now.table.rows tableau.now.table.count choice s.0 result }
 {
-    let f = s.0;
     let mut w = [0u8; 48];
-    w[f] = 128;
-    let mut left = 8 * count;
-    while 0 < left {
+    w[s.0] = 128;
+    for _ in 0..8 * tableau.table.count {
         let old = w;
-        passed(rows, count, fix, choice, &mut w);
-        if same48(&old, &w) {
+        passed(tableau, fix, choice, &mut w);
+        if w == old {
             return w;
         }
-        left -= 1;
     }
     w
 }
 
-// Stores the byte (f, g), where there is one to store.
-fn put_if(t: &mut [u8], on: bool, f: usize, g: usize, w: u8)
-    requires f_bound { f < 12 }
-    requires g_in_bounds { on ≡ true → f * 12 + g < length t.old }
-    ensures { Stored on (f * 12 + g) w t.old t.new }
-{
-    if !on {
-        return;
-    }
-    t[f * 12 + g] = w;
-}
-
 // Fills row f of the triples: the marks of each next.
-fn triple_row(
-    rows: &[u8; 144],
-    count: usize,
-    next: &[u8; 48],
-    f: usize,
-    marks: &[u8; 48],
-    t: &mut [u8; 144],
-)
-    requires nexts_ranked { NextsRanked rows.now count next.now }
+fn triple_row(tableau: &Tableau, next: &[u8; 48], f: usize, marks: &[u8; 48], t: &mut [u8; 144])
+    requires nexts_ranked { RowsRanked next_rank tableau.now.table.rows tableau.now.table.count next.now }
     requires f_bound { f < 12 }
-    ensures { RowFilled rows.now marks.now count f t.old t.new }
+    ensures { RowFilled tableau.now.table.rows marks.now tableau.now.table.count f t.old t.new }
 {
-    let mut e = 0;
-    while e < count {
-        let on = formula::is_next(rows, Subformula(e));
-        put_if(t, on, f, base::wide(next[e]), marks[e]);
-        e += 1;
+    for e in 0..tableau.table.count {
+        if formula::is_next(&tableau.table.rows, Subformula(e)) {
+            t[f * 12 + usize::from(next[e])] = marks[e];
+        }
     }
 }
 
 // Fills the row of subformula s, where it is a next whose operand is in the node.
 fn with_row(
-    rows: &[u8; 144],
-    count: usize,
+    tableau: &Tableau,
     next: &[u8; 48],
     fix: &[u8; 48],
     choice: u64,
@@ -193,35 +136,34 @@ fn with_row(
     s: Subformula,
     t: &mut [u8; 144],
 )
-    requires { RowAsked rows.now count choice node next.now fix.now s.0 t.old }
-    ensures { DoneTo rows.now count choice node (s.0 + 1) t.new }
+    requires { RowAsked tableau.now.table.rows tableau.now.table.count choice node next.now fix.now s.0 t.old }
+    ensures { DoneTo tableau.now.table.rows tableau.now.table.count choice node (s.0 + 1) t.new }
 {
-    if !formula::is_next(rows, s) {
+    let operand = Subformula(s.0 + 1);
+    if !formula::is_next(&tableau.table.rows, s) || !base::has(node, operand.0) {
         return;
     }
-    let e = s.0;
-    if !base::has(node, e + 1) {
-        return;
-    }
-    let f = base::wide(next[e]);
-    let w = reaching(rows, count, fix, choice, Subformula(e + 1));
-    triple_row(rows, count, next, f, &w, t);
+    let w = reaching(tableau, fix, choice, operand);
+    triple_row(tableau, next, usize::from(next[s.0]), &w, t);
 }
 
 // The triples of the transition of a node under a choice.
-pub fn triples_of(rows: &[u8; 144], count: usize, r: Ranks, choice: u64, node: u64) -> [u8; 144]
-    requires rows_limited { RowsLimited rows.now count }
-    requires ranks_of { RanksOf rows.now count r }
-    ensures { TriplesOf rows.now count choice node result }
+pub fn triples_of(tableau: &Tableau, r: Ranks, choice: u64, node: u64) -> [u8; 144]
+    requires rows_limited { RowsLimited tableau.now.table.rows tableau.now.table.count }
+    requires ranks_of { RanksOf tableau.now.table.rows tableau.now.table.count r }
+    ensures { TriplesOf tableau.now.table.rows tableau.now.table.count choice node result }
 {
-    let next = r.next;
-    let fix = r.fix;
     let mut t = [0u8; 144];
-    let mut e = 0;
-    while e < count {
-        let s = Subformula(e);
-        with_row(rows, count, &next, &fix, choice, node, s, &mut t);
-        e += 1;
+    for e in 0..tableau.table.count {
+        with_row(
+            tableau,
+            &r.next,
+            &r.fix,
+            choice,
+            node,
+            Subformula(e),
+            &mut t,
+        );
     }
     t
 }
@@ -231,40 +173,26 @@ fn is_least(rows: &[u8; 144], s: Subformula) -> bool
     requires { Placed rows.now s.0 }
     ensures { result ≡ is_least (operator_at rows.now s.0) }
 {
-    let o = formula::operator_at(rows, s);
-    match o {
-        Operator::Constant(_) => false,
-        Operator::Signal { .. } => false,
-        Operator::Variable(_) => false,
-        Operator::Pair { .. } => false,
-        Operator::Next(_) => false,
-        Operator::Fixpoint { greatest, .. } => !greatest,
-    }
-}
-
-// The mask with the priority k too, where it is that of a least fixpoint.
-fn with_least(mask: u8, least: bool, k: usize) -> u8
-    requires { least ≡ true → k < 8 }
-    ensures { WithLeast least mask k result }
-{
-    if !least {
-        return mask;
-    }
-    mask | bit8(k)
+    matches!(
+        formula::operator_at(rows, s),
+        Operator::Fixpoint {
+            greatest: false,
+            ..
+        }
+    )
 }
 
 // The priorities that are least fixpoints.
-pub fn least_mask(rows: &[u8; 144], count: usize, fix: &[u8; 48]) -> u8
-    requires rows_limited { RowsLimited rows.now count }
-    requires ranked { Ranked (fix_rank rows.now) count fix.now }
-    ensures { (i : ℕ) → bit result i ≡ get_or (leasts (table_of rows.now count)) i false }
+pub fn least_mask(tableau: &Tableau, fix: &[u8; 48]) -> u8
+    requires rows_limited { RowsLimited tableau.now.table.rows tableau.now.table.count }
+    requires ranked { Ranked (fix_rank tableau.now.table.rows) tableau.now.table.count fix.now }
+    ensures { (i : ℕ) → bit result i ≡ get_or (leasts (operators tableau.now)) i false }
 {
     let mut mask = 0u8;
-    let mut e = 0;
-    while e < count {
-        let least = is_least(rows, Subformula(e));
-        mask = with_least(mask, least, base::wide(fix[e]));
-        e += 1;
+    for e in 0..tableau.table.count {
+        if is_least(&tableau.table.rows, Subformula(e)) {
+            mask |= 1 << fix[e];
+        }
     }
     mask
 }

@@ -1,14 +1,11 @@
 -- The priorities in a byte. To or a byte with itself shifted by 1, 2 and 4 puts under each priority all smaller ones; the smaller ones of
 -- two sets of priorities are those of each that the other has one at least as large as. Assumes nothing.
-use mathlib.Core.Path.{◌≡◌, refl, sym, ap, subst, subst⁻¹, ◌∙◌}
-use mathlib.Core.Logic.{inl, inr}
-use mathlib.Core.Bool.{Bool, true, false, not, ◌&&◌, ◌||◌}
-use Prim.Native.Nat.{ℕ, ◌+◌, ◌-◌, ◌/◌, ◌^◌, ◌≤◌, ◌<◌, min}
-use native.Mathlib.Omega.{arith}
-use native.Mathlib.Decide.{dec_lt}
-use borrow.Author.Tests.{eqb-true, eqb-false}
-use lib.Dec.{T, eqb, leb, leb→le, le→leb}
-use lib.Bits.{bit_and, bit_or, and_le_r}
+use Rattle.std.proofs.Common.{◌≡◌, refl, sym, ap, subst, ◌∙◌, inl, inr, Bool, true, false, not, ◌&&◌, ◌||◌, ℕ, ◌+◌, ◌-◌, ◌/◌, ◌^◌, ◌≤◌}
+use Rattle.std.proofs.Common.{◌<◌, min, arith, eqb-true, T, eqb, leb, leb→le, le→leb, bit_and, bit_or}
+use Rattle.std.proofs.Math.Decide.{dec_lt}
+use Rattle.std.proofs.Math.Path.{subst⁻¹}
+use Rattle.std.proofs.lemmas.Bool.{eqb-false}
+use lib.Bits.{and_le_r}
 use Rattle.base.specs.Bits.{bit}
 use Rattle.base.proofs.BoolLaws.{and_left, and_right, and_both, or_cases, or_left, or_right}
 use Rattle.base.proofs.TestLaws.{not_of_T, same_truth}

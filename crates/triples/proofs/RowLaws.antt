@@ -1,24 +1,18 @@
 -- A row through its laps. Row f of a lap needs row f of the set alone, so a row can go through the laps by itself: it stands for the table
 -- that has it in every row, and a lap of that table has the row's next lap in every row. A row that a lap does not change never changes
 -- again. Laps only add: an operand that leads back after some of them leads back after all. Assumes nothing.
-use mathlib.Core.Path.{◌≡◌, sym, ap, subst⁻¹, ◌∙◌}
-use mathlib.Core.Bool.{Bool, true, false, ◌&&◌, ◌||◌}
-use mathlib.Core.List.{List}
-use Prim.Native.Nat.{ℕ, zero, suc, ◌+◌, ◌-◌, ◌*◌, ◌≤◌, ◌<◌}
-use native.Mathlib.Omega.{arith}
-use native.Mathlib.Nat.{mul-le-mul_right}
-use lib.Dec.{T}
-use lib.ListN.{get_or}
+use Rattle.std.proofs.Common.{◌≡◌, ℕ, zero, suc, ◌+◌, ◌*◌, ◌≤◌, ◌<◌, Bool, true, ◌&&◌, ◌||◌, List, get_or, refl, sym, ap, subst, ◌∙◌}
+use Rattle.std.proofs.Common.{arith, mul-le-mul_right, T}
 use Rattle.base.specs.Lists.{iterate}
 use Rattle.base.specs.Bits.{bit}
 use Rattle.base.proofs.BoolLaws.{of_T, to_T, and_left, and_right, and_both}
 use Rattle.base.proofs.ListLaws.{iterate_stays}
-use Rattle.profile_tables.specs.Triples.{Triples, those, holds, lap, laps, rejecting}
+use Rattle.profile_tables.specs.Triples.{Triples, some, those, holds, lap, laps, rejecting}
 use Rattle.profile_tables.proofs.TriplesLaws.{Test, some_of, some_in, some_same, holds-those, those-same}
 use Rattle.profile_tables.proofs.LapsLaws.{rounds_sub, rounds_row}
 use Rattle.triples.specs.Inner.{bytes, bytes_from, bits, triples_in, triples_at, one_way, by_way, RowWith, comes_back, leads_back}
 use Rattle.triples.proofs.ByteLaws.{met}
-use Rattle.triples.proofs.CellLaws.{triples_copied, SameBelow, comes_those, found_some}
+use Rattle.triples.proofs.CellLaws.{triples_copied, SameBelow, comes_those}
 use Rattle.triples.proofs.JoinLaws.{either-join}
 
 pub square : (n : ℕ) → n ≤ 12 → n * n ≤ 144
@@ -69,18 +63,17 @@ module _ (n : ℕ) (a : List ℕ) where
   unfolding rejecting laps
   back_rejects least e =
       let (f, hf, u) = some_of n (comes_back least base) (to_T (leads_back least n base) e) in
-      found_some n (comes_back least (laps n base)) f hf
-      (comes_more least base (laps n base) f (λ x hx t. rounds_sub n base (8 * (n * n)) base f x f hf hx hf t)
-      (of_T (comes_back least base f) u))
+      let back : comes_back least (laps n base) f ≡ true =
+      comes_more least base (laps n base) f (λ x hx t. rounds_sub n base (8 * (n * n)) base f x f hf hx hf t)
+      (of_T (comes_back least base f) u) in
+      sym
+      (of_T (leads_back least n (laps n base))
+      (some_in n (comes_back least (laps n base)) f hf (to_T (comes_back least (laps n base) f) back)))
 
-  -- one operand leads back after all laps, or none does
-  pub row_rejects : (least : ℕ → Bool) (f : ℕ) → f < n → comes_back least (laps n base) f ≡ true → true ≡ rejecting least n base
+  -- some operand leads back after all laps
+  pub rows_reject : (least : ℕ → Bool) → some n (comes_back least (laps n base)) ≡ rejecting least n base
   unfolding rejecting
-  row_rejects least f h e = found_some n (comes_back least (laps n base)) f h e
-
-  pub none_rejects : (least : ℕ → Bool) → leads_back least n (laps n base) ≡ false → false ≡ rejecting least n base
-  unfolding rejecting
-  none_rejects least e = sym e
+  rows_reject least = refl
 
   module _ (f : ℕ) where
     -- with that many laps more the row r has at f what all laps have there
@@ -92,22 +85,23 @@ module _ (n : ℕ) (a : List ℕ) where
     Lapped r m = RowWith r 12 (by_way (bytes_from r 0) a n) m
 
     module _ (hn : n ≤ 12) (hf : f < n) where
-      pub row-start : (r : List ℕ) → ((g : ℕ) → g < 12 → get_or r g 0 ≡ get_or a (f * 12 + g) 0) → OnWay r (8 * (n * n))
+      pub row-start : (r : List ℕ) (left : ℕ) → left ≡ 8 * (n * n) → ((g : ℕ) → g < 12 → get_or r g 0 ≡ get_or a (f * 12 + g) 0)
+          → OnWay r left
       unfolding laps
-      row-start r e x hx =
+      row-start r left all e x hx =
           rounds_row n base f hf (8 * (n * n)) base (each_row n r)
           (λ x g hx hg.
           holds-those n (bits (bytes a)) f x g hf hx hg
           ∙ ap (λ (w : ℕ). bit w x) (sym (e g (omega arith)))
           ∙ sym (holds-those n (row-bits r) f x g hf hx hg))
           x f hx hf
+          ∙ ap (λ (k : ℕ). holds (iterate k (lap n base) (each_row n r)) f x f) (sym all)
 
-      pub row_more : (r m : List ℕ) (left : ℕ) → 0 < left → OnWay r left → Lapped r m → OnWay m (left - 1)
-      row_more r m zero h w p = absurd (omega arith)
-      row_more r m (suc left) h w p = λ x hx.
+      pub row_more : (r m : List ℕ) (left less : ℕ) → left ≡ less + 1 → OnWay r left → Lapped r m → OnWay m less
+      row_more r m left less e w p x hx =
           w x hx
-          ∙ ap (λ (s : Triples). holds (iterate left (lap n base) s) f x f) (sym (row-lap n a r m hn p))
-          ∙ ap (λ (k : ℕ). holds (iterate k (lap n base) (each_row n m)) f x f) {x = left} {y = suc left - 1} (omega arith)
+          ∙ ap (λ (k : ℕ). holds (iterate k (lap n base) (each_row n r)) f x f) {x = left} {y = suc less} (omega arith)
+          ∙ ap (λ (s : Triples). holds (iterate less (lap n base) s) f x f) (sym (row-lap n a r m hn p))
 
       -- a row that a lap did not change has all laps
       pub row-still : (r m : List ℕ) (left : ℕ) → OnWay r left → Lapped r m → SameBelow r m 12 → OnWay m 0
@@ -136,5 +130,5 @@ module _ (n : ℕ) (a : List ℕ) where
       row-found r mask left w e =
           sym
           (comes_more (bit mask) (each_row n r) (laps n base) f
-          (λ x hx t. subst⁻¹ T (w x hx) (rounds_sub n base left (each_row n r) f x f hf hx hf t))
+          (λ x hx t. subst T (sym (w x hx)) (rounds_sub n base left (each_row n r) f x f hf hx hf t))
           (comes_those (bit mask) n (row-bits r) f hf ∙ e))

@@ -1,7 +1,7 @@
 -- What the functions over sets of triples promise. A set of triples is 144 bytes: byte 12 f + g has bit x for the triple (f, x, g). Through
 -- this decoding a promise speaks of the tables of bits of the definitions. A reader of the decision's contract need not read it.
 -- Assumes nothing.
-use Rattle.std.specs.Prelude.{◌≡◌, Bool, true, false, ◌&&◌, ◌||◌, List, ℕ, ◌+◌, ◌*◌, ◌≤◌, ◌<◌, leb, get_or}
+use Rattle.std.specs.Prelude.{◌≡◌, Bool, ◌&&◌, ◌||◌, List, ℕ, ◌+◌, ◌*◌, ◌≤◌, ◌<◌, leb, get_or}
 use Rattle.base.specs.Bits.{bit}
 use Rattle.profile_tables.specs.Triples.{Triples, those, some, smaller, holds}
 
@@ -51,9 +51,9 @@ pub record RowPut (t : List ℕ) (f k : ℕ) (row u : List ℕ) : Type 0 where
   pub put : (g : ℕ) → g < k → bytes u (f * 12 + g) ≡ bytes row g
   pub rest : (i : ℕ) → (f * 12 ≤ i → i < f * 12 + k → ⊥) → bytes u i ≡ bytes t i
 
--- row f has the same bits in its first k columns
+-- row f has the same bytes in its first k columns
 abbrev pub SameRow : List ℕ → (at : ℕ) → List ℕ → (f k : ℕ) → Type 0
-SameRow l at t f k = (g : ℕ) → g < k → Bits (bytes_from l at (f * 12 + g)) (bit (bytes t (f * 12 + g)))
+SameRow l at t f k = (g : ℕ) → g < k → bytes_from l at (f * 12 + g) ≡ bytes t (f * 12 + g)
 
 -- operand f leads back to itself with a priority that a test says
 abbrev pub comes_back : (ℕ → Bool) → Triples → ℕ → Bool
@@ -62,8 +62,3 @@ comes_back least s f = some 8 (λ x. least x && holds s f x f)
 -- some operand does
 abbrev pub leads_back : (ℕ → Bool) → ℕ → Triples → Bool
 leads_back least n s = some n (comes_back least s)
-
--- a Bool that says whether a statement holds
-pub record Decides (b : Bool) (P : Type 0) : Type 0 where
-  pub holds : b ≡ true → P
-  pub fails : b ≡ false → P → ⊥

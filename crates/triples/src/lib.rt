@@ -2,11 +2,11 @@
 // g-th whose priority is the x-th fixpoint, bit 7 for the priority none.
 #![tactic(auto)]
 
-ghost use Rattle.std.specs.Prelude.{◌≡◌, ℕ, ◌+◌, ◌*◌, ◌≤◌, ◌<◌, length, get_or};
+ghost use Rattle.std.specs.Prelude.{◌≡◌, ◌↔◌, ℕ, ◌+◌, ◌*◌, ◌≤◌, ◌<◌, IsTrue, length, get_or};
 ghost use Rattle.base.specs.Bits.{bit};
 ghost use Rattle.profile_tables.specs.Triples.{smaller, same_triples, join, laps, rejecting};
 ghost use Rattle.triples.specs.Inner.{bytes_from, triples_in, triples_at, Bits, above, one_way, by_way, RowWith, RowPut};
-ghost use Rattle.triples.specs.Inner.{SameRow, Decides, comes_back, leads_back};
+ghost use Rattle.triples.specs.Inner.{SameRow, comes_back, leads_back};
 
 // The priorities with all smaller ones.
 fn down(w: u8) -> u8
@@ -35,10 +35,8 @@ fn with_way(row: [u8; 12], x: u8, b: &[u8; 144], m: usize) -> [u8; 12]
     if x == 0 {
         return r;
     }
-    let mut g = 0;
-    while g < 12 {
-        r[g] = r[g] | minima(x, b[m * 12 + g]);
-        g += 1;
+    for g in 0..12 {
+        r[g] |= minima(x, b[m * 12 + g]);
     }
     r
 }
@@ -49,24 +47,21 @@ fn joined_row(row: [u8; 12], a: &[u8], at: usize, b: &[u8; 144], n: usize) -> [u
     ensures { RowWith row 12 (by_way (bytes_from a.now at) b.now n) result }
 {
     let mut r = row;
-    let mut m = 0;
-    while m < n {
+    for m in 0..n {
+        // In two steps: of r = with_way(r, ..) the check has no proof, as it does not follow a call's result into an array that is in use.
         let more = with_way(r, a[at + m], b, m);
         r = more;
-        m += 1;
     }
     r
 }
 
-// The row becomes row f of t.
+// The row becomes row f of t. A loop of fixed length: copy_from_slice was tried, and each row takes a nanosecond longer by it.
 fn put_row(t: &mut [u8], f: usize, row: &[u8; 12])
     requires { (144 ≤ length t.old) × (f < 12) }
     ensures { RowPut t.old f 12 row.now t.new }
 {
-    let mut g = 0;
-    while g < 12 {
+    for g in 0..12 {
         t[f * 12 + g] = row[g];
-        g += 1;
     }
 }
 
@@ -76,11 +71,9 @@ pub fn joined(a: &[u8; 144], b: &[u8; 144], n: usize) -> [u8; 144]
     ensures { triples_in n result ≡ join n (triples_in n a.now) (triples_in n b.now) }
 {
     let mut t = [0u8; 144];
-    let mut f = 0;
-    while f < n {
+    for f in 0..n {
         let row = joined_row([0u8; 12], a, f * 12, b, n);
         put_row(&mut t, f, &row);
-        f += 1;
     }
     t
 }
@@ -91,35 +84,16 @@ pub fn copied(area: &[u8], at: usize) -> [u8; 144]
     ensures { (i : ℕ) → i < 144 → get_or result i 0 ≡ get_or area.now (at + i) 0 }
 {
     let mut t = [0u8; 144];
-    let mut i = 0;
-    while i < 144 {
-        t[i] = area[at + i];
-        i += 1;
-    }
+    t.copy_from_slice(&area[at..at + 144]);
     t
-}
-
-fn same_byte(x: u8, y: u8) -> bool
-    ensures { Decides result (Bits x (bit y)) }
-{
-    if x == y {
-        return true;
-    }
-    false
 }
 
 fn same_row(area: &[u8], at: usize, t: &[u8; 144], n: usize, f: usize) -> bool
     requires { (n ≤ 12) × ((f < n) × (at + 144 ≤ length area.now)) }
-    ensures { Decides result (SameRow area.now at t.now f n) }
+    ensures { IsTrue result ↔ SameRow area.now at t.now f n }
 {
-    let mut g = 0;
-    while g < n {
-        if !same_byte(area[at + (f * 12 + g)], t[f * 12 + g]) {
-            return false;
-        }
-        g += 1;
-    }
-    true
+    let from = f * 12;
+    area[at + from..at + from + n] == t[from..from + n]
 }
 
 // Whether the triples at a place are those of t.
@@ -127,14 +101,7 @@ pub fn same_triples(area: &[u8], at: usize, t: &[u8; 144], n: usize) -> bool
     requires { (n ≤ 12) × (at + 144 ≤ length area.now) }
     ensures { result ≡ same_triples (triples_at n area.now at) (triples_in n t.now) }
 {
-    let mut f = 0;
-    while f < n {
-        if !same_row(area, at, t, n, f) {
-            return false;
-        }
-        f += 1;
-    }
-    true
+    (0..n).all(|f| same_row(area, at, t, n, f))
 }
 
 // Whether some operand leads back to itself with a priority of the mask.
@@ -142,39 +109,29 @@ fn leads_back(a: &[u8; 144], mask: u8, n: usize) -> bool
     requires { n ≤ 12 }
     ensures { result ≡ leads_back (bit mask) n (triples_in n a.now) }
 {
-    let mut f = 0;
-    while f < n {
-        if a[f * 12 + f] & mask != 0 {
-            return true;
-        }
-        f += 1;
-    }
-    false
+    (0..n).any(|f| a[f * 12 + f] & mask != 0)
 }
 
-// Row f of a.
+// Row f of a, by a loop of fixed length as in put_row.
 fn row_of(a: &[u8; 144], f: usize) -> [u8; 12]
     requires { f < 12 }
     ensures { (g : ℕ) → g < 12 → get_or result g 0 ≡ get_or a.now (f * 12 + g) 0 }
 {
     let mut row = [0u8; 12];
-    let mut g = 0;
-    while g < 12 {
+    for g in 0..12 {
         row[g] = a[f * 12 + g];
-        g += 1;
     }
     row
 }
 
-// Whether two rows are the same: without an early exit, for the same reason as in with_way.
+// Whether two rows are the same: without an early exit, for the same reason as in with_way. By == on the arrays, which was tried, a lap
+// takes a nanosecond longer: it reads 16 bytes at once where fewer were just written.
 fn same_bytes(x: &[u8; 12], y: &[u8; 12]) -> bool
-    ensures { Decides result ((g : ℕ) → g < 12 → get_or x.now g 0 ≡ get_or y.now g 0) }
+    ensures { IsTrue result ↔ ((g : ℕ) → g < 12 → get_or x.now g 0 ≡ get_or y.now g 0) }
 {
     let mut differ = 0u8;
-    let mut g = 0;
-    while g < 12 {
-        differ = differ | (x[g] ^ y[g]);
-        g += 1;
+    for g in 0..12 {
+        differ |= x[g] ^ y[g];
     }
     differ == 0
 }
@@ -186,8 +143,7 @@ fn comes_back(a: &[u8; 144], mask: u8, n: usize, f: usize) -> bool
     ensures { result ≡ comes_back (bit mask) (laps n (triples_in n a.now)) f }
 {
     let mut row = row_of(a, f);
-    let mut left = 8 * (n * n);
-    while 0 < left {
+    for _ in 0..8 * (n * n) {
         let more = joined_row(row, &row, 0, a, n);
         if more[f] & mask != 0 {
             return true;
@@ -196,7 +152,6 @@ fn comes_back(a: &[u8; 144], mask: u8, n: usize, f: usize) -> bool
             return false;
         }
         row = more;
-        left -= 1;
     }
     row[f] & mask != 0
 }
@@ -208,15 +163,5 @@ pub fn is_rejecting(area: &[u8], at: usize, mask: u8, n: usize) -> bool
     ensures { result ≡ rejecting (bit mask) n (triples_at n area.now at) }
 {
     let a = copied(area, at);
-    if leads_back(&a, mask, n) {
-        return true;
-    }
-    let mut f = 0;
-    while f < n {
-        if comes_back(&a, mask, n, f) {
-            return true;
-        }
-        f += 1;
-    }
-    false
+    leads_back(&a, mask, n) || (0..n).any(|f| comes_back(&a, mask, n, f))
 }

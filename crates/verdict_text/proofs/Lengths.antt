@@ -1,21 +1,19 @@
 -- How long the text of a verdict is. A number below 1,000 has three digits and a letter four, so a witness takes seven bytes a position;
 -- with room for 256 nodes and 300 profiles every text is shorter than 4,096 bytes. Assumes nothing.
-use mathlib.Core.Path.{refl, sym, subst⁻¹}
+use Rattle.std.proofs.Common.{Ok, Err, refl, sym, List, [], ◌∷◌, ◌++◌, append-nil, ℕ, ◌+◌, ◌*◌, ◌≤◌, ◌<◌, arith, length, length-append}
+use Rattle.std.proofs.Math.Path.{subst⁻¹}
 use mathlib.Core.List.Memᴰ
-use mathlib.Core.List.{List, [], ◌∷◌, ◌++◌, append-nil}
-use mathlib.Core.Option.{some}
-use Prim.Native.Nat.{ℕ, ◌+◌, ◌*◌, ◌≤◌, ◌<◌}
-use native.Mathlib.Omega.{arith}
-use lib.ListN.{length, length-append}
+use Rattle.std.proofs.Math.Option.{some}
 use Rattle.text.specs.Text.{hex, number_text, each, letter_text}
 use Rattle.text.proofs.Numerals.{few_digits}
-use Rattle.formula.specs.Refusal.{code_of, PlacesWithin}
+use Rattle.formula.specs.Refusal.{fault_code, code_of, PlacesWithin}
 use Rattle.formula.specs.declared.Refusal.{Refusal}
 use Rattle.formula.specs.declared.Refusal.TheVariants.{AtByte, Unguarded}
 use Rattle.decision.specs.Verdict.{Verdict, verdict}
-use Rattle.decision.specs.Contract.{says}
-use Rattle.decision.specs.declared.Verdict as code
-use Rattle.decision.specs.declared.Verdict.TheVariants.{Satisfiable, Unsatisfiable, Refused, Unread}
+use Rattle.construction.specs.Questions.{question_code}
+use Rattle.construction.specs.declared.Refusal.TheVariants.{No, Unread}
+use Rattle.decision.specs.Contract.{Answer, says}
+use Rattle.decision.specs.declared.Verdict.TheVariants.{Satisfiable, Unsatisfiable}
 use Rattle.decision.proofs.Answer.{Says, verdict-says}
 use Rattle.decision.proofs.Bounds.{Bounded, verdict_bounded, LettersSmall, LettersParted, witness_parted}
 use Rattle.verdict_text.specs.Texts.{worded_text, refused_text, placed_text, from_text, unread_text, verdict_text, lasso_text}
@@ -40,7 +38,9 @@ placed-short code place h k =
     )
 
 unread-short : (why : Refusal) → code_of why ≤ 9 → PlacesWithin 97 why → length (unread_text why) ≤ 27
-unread-short (AtByte code at) h k = omega (arith, placed-short code at h k, length-append (placed_text code at) [])
+unread-short (AtByte fault at) h k =
+    let code = fault_code fault in
+    omega (arith, placed-short code at h k, length-append (placed_text code at) [])
 unread-short (Unguarded at binder) h (k, l) =
     omega (
       arith,
@@ -50,20 +50,20 @@ unread-short (Unguarded at binder) h (k, l) =
     )
 
 -- the texts of verdicts, without the witness
-verdict-short : (v : code.Verdict) → Bounded 256 300 v → length (verdict_text v) ≤ 27
-verdict-short (Satisfiable stem cycle K P) s =
+verdict-short : (r : Answer) → Bounded 256 300 r → length (verdict_text r) ≤ 27
+verdict-short (Ok (Satisfiable stem cycle K P)) s =
     let a = (77 ∷ 69 ∷ 84 ∷ []) ++ number_text stem in
     let b = a ++ number_text cycle in
     let ha : length a ≤ 7 = numbered 3 (77 ∷ 69 ∷ 84 ∷ []) stem (omega arith) (omega (arith, s.stem-few)) in
     let hb : length b ≤ 11 = numbered 7 a cycle ha (omega (arith, s.cycle-few)) in
     let hc : length (b ++ number_text K) ≤ 15 = numbered 11 b K hb (omega (arith, s.nodes-few)) in
     omega (arith, numbered 15 (b ++ number_text K) P hc (omega (arith, s.profiles-few)))
-verdict-short (Unsatisfiable K P) s =
+verdict-short (Ok (Unsatisfiable K P)) s =
     let a = (78 ∷ 79 ∷ 84 ∷ []) ++ number_text K in
     let ha : length a ≤ 7 = numbered 3 (78 ∷ 79 ∷ 84 ∷ []) K (omega arith) (omega (arith, s.nodes-few)) in
     omega (arith, numbered 7 a P ha (omega (arith, s.profiles-few)))
-verdict-short (Refused code) h = omega (arith, refused-short code h)
-verdict-short (Unread why) (h, k) = unread-short why h k
+verdict-short (Err (No q)) h = omega (arith, refused-short (question_code q) h)
+verdict-short (Err (Unread why)) (h, k) = unread-short why h k
 
 -- some letters
 module _ (front back : List ℕ) (h : length front + length back ≤ 3) where
@@ -87,7 +87,7 @@ module _ (front back : List ℕ) (h : length front + length back ≤ 3) where
       )
 
 lasso-short : {stem cycle : ℕ} (K P : ℕ) (letters : List ℕ) → LettersParted stem cycle letters
-    → length (lasso_text (Satisfiable stem cycle K P) letters (83 ∷ 32 ∷ []) (76 ∷ 32 ∷ []) (10 ∷ [])) ≤ 7 * (stem + cycle)
+    → length (lasso_text (Ok (Satisfiable stem cycle K P)) letters (83 ∷ 32 ∷ []) (76 ∷ 32 ∷ []) (10 ∷ [])) ≤ 7 * (stem + cycle)
 lasso-short {stem} {cycle} K P letters w =
     let xs = w.before in
     let ys = w.around in
@@ -106,13 +106,18 @@ line_and : (line rest : List ℕ) → length line ≤ 27 → length rest ≤ 388
 line_and line rest h k = omega (arith, length-append (line ++ (10 ∷ [])) rest, length-append line (10 ∷ []))
 
 shown-short : (bytes : List ℕ) (o : Verdict) → Bounded 256 300 (says o) → Says bytes o → length (shown_text o) ≤ 4095
-shown-short bytes (Verdict.unread why) h k = line_and (verdict_text (Unread why)) [] (verdict-short (Unread why) h) (omega arith)
-shown-short bytes (Verdict.refused c) h k = line_and (verdict_text (Refused c)) [] (verdict-short (Refused c) h) (omega arith)
+shown-short bytes (Verdict.unread why) h k =
+    line_and (verdict_text (Err (Unread why))) [] (verdict-short (Err (Unread why)) h) (omega arith)
+shown-short bytes (Verdict.refused q) h k =
+    line_and (verdict_text (Err (No q))) [] (verdict-short (Err (No q)) h) (omega arith)
 shown-short bytes (Verdict.satisfiable stem cycle K P letters) h k =
-    line_and (verdict_text (Satisfiable stem cycle K P)) _ (verdict-short (Satisfiable stem cycle K P) h)
+    line_and
+    (verdict_text (Ok (Satisfiable stem cycle K P)))
+    _
+    (verdict-short (Ok (Satisfiable stem cycle K P)) h)
     (omega (arith, h.stem-few, h.cycle-few, lasso-short K P letters (witness_parted k.witness)))
 shown-short bytes (Verdict.unsatisfiable K P) h k =
-    line_and (verdict_text (Unsatisfiable K P)) [] (verdict-short (Unsatisfiable K P) h) (omega arith)
+    line_and (verdict_text (Ok (Unsatisfiable K P))) [] (verdict-short (Ok (Unsatisfiable K P)) h) (omega arith)
 
 -- Theorem: the text of every verdict with this room has fewer than 4,096 bytes.
 pub verdict_shown_short : (room places : ℕ) (bytes : List ℕ) → length (shown_text (verdict 256 300 room places bytes)) ≤ 4095

@@ -1,16 +1,12 @@
 -- What is shown of a formula is settled by its bytes and by how much is lent: the text of the decision's answer and of what it leaves in
 -- the witness buffer is that of the verdict which the definition gives, since of the buffer the witness's letters alone are shown.
 -- Assumes nothing.
-use mathlib.Core.Path.{◌≡◌, refl, sym, ap, ◌∙◌}
-use mathlib.Core.List.{List, [], ◌∷◌, ◌++◌, append_assoc, append-nil}
-use Prim.Native.Nat.{ℕ, ◌+◌}
-use lib.ListN.{length, take, drop}
-use lib.Seq.{take-append_seam, drop-append_seam}
+use Rattle.std.proofs.Common.{Ok, ◌≡◌, refl, sym, ap, ◌∙◌, List, [], ◌∷◌, ◌++◌, append_assoc, append-nil, ℕ, ◌+◌, length, take, drop}
+use Rattle.std.proofs.Math.Seq.{take-append_seam, drop-append_seam}
 use Rattle.text.specs.Text.{each, letter_text}
 use Rattle.decision.specs.Verdict.{Verdict, verdict}
-use Rattle.decision.specs.Contract.{says, leaves}
+use Rattle.decision.specs.Contract.{Answer, says, leaves}
 use Rattle.decision.specs.Inner.{Answers}
-use Rattle.decision.specs.declared.Verdict as code
 use Rattle.decision.specs.declared.Verdict.TheVariants.{Satisfiable}
 use Rattle.decision.proofs.Answer.{Says, verdict-says}
 use Rattle.decision.proofs.Bounds.{LettersParted, witness_parted}
@@ -23,7 +19,7 @@ parts f g xs ys zs p q e = rw (p, q, e, take-append_seam xs (ys ++ zs), drop-app
 
 pub lasso_parts : {stem cycle : ℕ} (K c : ℕ) {letters l : List ℕ} (rest : List ℕ) (w : LettersParted stem cycle letters)
     → l ≡ letters ++ rest → (stem-front cycle-front back : List ℕ)
-    → lasso_text (Satisfiable stem cycle K c) l stem-front cycle-front back
+    → lasso_text (Ok (Satisfiable stem cycle K c)) l stem-front cycle-front back
     ≡ each (letter_text stem-front back) w.before ++ each (letter_text cycle-front back) w.around
 lasso_parts K c rest w e stem-front cycle-front back =
     parts (letter_text stem-front back) (letter_text cycle-front back) w.before w.around rest w.stem_is w.cycle_is
@@ -31,17 +27,17 @@ lasso_parts K c rest w e stem-front cycle-front back =
 
 shown_by : (bytes b : List ℕ) (o : Verdict) → Says bytes o → program_text (says o) (leaves o b) ≡ shown_text o
 shown_by bytes b (Verdict.unread why) h = refl
-shown_by bytes b (Verdict.refused code) h = refl
+shown_by bytes b (Verdict.refused q) h = refl
 shown_by bytes b (Verdict.satisfiable stem cycle K c letters) h =
     let w = witness_parted h.witness in
-    ap (λ (m : List ℕ). verdict_text (Satisfiable stem cycle K c) ++ (10 ∷ []) ++ m)
+    ap (λ (m : List ℕ). verdict_text (Ok (Satisfiable stem cycle K c)) ++ (10 ∷ []) ++ m)
     (lasso_parts K c (drop (stem + cycle) b) w refl (83 ∷ 32 ∷ []) (76 ∷ 32 ∷ []) (10 ∷ [])
     ∙ sym (lasso_parts K c [] w (sym (append-nil letters)) (83 ∷ 32 ∷ []) (76 ∷ 32 ∷ []) (10 ∷ [])))
 shown_by bytes b (Verdict.unsatisfiable K P) h = refl
 
 -- Theorem: the text of an answer to a verdict, and of what it leaves in the witness buffer, is that of the verdict.
-pub shows : (N M workspace buffer : ℕ) (bytes : List ℕ) {b b' : List ℕ} {v : code.Verdict}
-    → Answers (verdict N M workspace buffer bytes) b b' v → program_text v b' ≡ shown_text (verdict N M workspace buffer bytes)
+pub shows : (N M workspace buffer : ℕ) (bytes : List ℕ) {b b' : List ℕ} {r : Answer}
+    → Answers (verdict N M workspace buffer bytes) b b' r → program_text r b' ≡ shown_text (verdict N M workspace buffer bytes)
 shows N M workspace buffer bytes {b} a =
     (λ i. program_text (a.answered i) (a.buffered i))
     ∙ shown_by bytes b (verdict N M workspace buffer bytes) (verdict-says N M workspace buffer bytes)

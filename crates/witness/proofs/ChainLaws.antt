@@ -1,13 +1,10 @@
 -- Labels along a chain of parents. An item's are its parent's and then its own (`labels_at`); so whatever lists go on by these labels are
 -- the labels (`labels_are`). They are counted from the last item to the first (`ChainCounted`). Assumes nothing.
-use mathlib.Core.Path.{◌≡◌, sym, ap, ◌∙◌}
-use mathlib.Core.List.{List, [], ◌∷◌, ◌++◌}
-use Prim.Native.Nat.{ℕ, zero, suc, ◌+◌, ◌-◌, ◌≤◌, ◌<◌}
-use native.Mathlib.Omega.{arith}
-use lib.ListN.{length, length-append}
+use Rattle.std.proofs.Common.{◌≡◌, refl, sym, ap, ◌∙◌, List, [], ◌∷◌, ◌++◌, ℕ, zero, suc, ◌+◌, ◌-◌, ◌≤◌, ◌<◌, length, length-append}
+use Rattle.std.proofs.Common.{arith}
 use Rattle.base.specs.Spread.{Numbered, each_label, labels_up, Linked}
 use Rattle.base.proofs.SpreadLaws.{labels_next}
-use Rattle.witness.specs.Letters.{labels}
+use Rattle.witness.specs.Letters.{labels, plain}
 
 module _ {K : Type 0} (of : ℕ → Numbered ℕ K) where
   up_short : (f k : ℕ) → length (labels_up each_label of f k) ≤ f
@@ -52,23 +49,23 @@ pub record ChainCounted {K : Type 0} (of : ℕ → Numbered ℕ K) (top n at : �
   pub low : at ≤ top
   pub sum : n + length (labels of at) ≡ length (labels of top)
 
-module _ {K : Type 0} (of : ℕ → Numbered ℕ K) where
-  pub counted_start : (top : ℕ) {at : ℕ} → at ≡ top → ChainCounted of top 0 at
-  counted_start top e = record { low = omega arith; sum = omega (arith, ap (λ (k : ℕ). length (labels of k)) e) }
+module _ {K : Type 0} (of : ℕ → Numbered ℕ K) {top n at : ℕ} (linked : Linked of top) (c : ChainCounted of top n at) (some : 0 < at) where
+  -- there are more letters than those counted, and at most as many as items
+  pub counted-few : n < top
+  counted-few = omega (arith, c.sum, length_at of linked at some c.low, labels-short of top)
 
-  module _ {top n at : ℕ} (linked : Linked of top) (c : ChainCounted of top n at) where
-    pub counted-room : n ≤ top
-    counted-room = omega (arith, c.sum, labels-short of top)
+  pub counted_next : {up : ℕ} → up ≡ (of (at - 1)).parent → ChainCounted of top (n + 1) up
+  counted_next {up} e =
+      record {
+        low = omega (arith, parent-less of linked at some c.low, c.low);
+        sum = omega (arith, c.sum, length_at of linked at some c.low, ap (λ (k : ℕ). length (labels of k)) e);
+      }
 
-    pub counted_next : 0 < at → {up : ℕ} → up ≡ (of (at - 1)).parent → ChainCounted of top (n + 1) up
-    counted_next h {up} e =
-        record {
-          low = omega (arith, parent-less of linked at h c.low, c.low);
-          sum = omega (arith, c.sum, length_at of linked at h c.low, ap (λ (k : ℕ). length (labels of k)) e);
-        }
+-- the labels are those along the items with their numbers for vertices
+up_plain : {K : Type 0} (of : ℕ → Numbered ℕ K) (f k : ℕ) → labels_up each_label (plain of) f k ≡ labels_up each_label of f k
+up_plain of zero k = refl
+up_plain of (suc f) zero = refl
+up_plain of (suc f) (suc i) = ap (λ (l : List ℕ). l ++ ((of i).label ∷ [])) (up_plain of f (of i).parent)
 
-    pub counted-less : 0 < at → {up : ℕ} → up ≡ (of (at - 1)).parent → up < at
-    counted-less h e = omega (arith, parent-less of linked at h c.low)
-
-    pub counted_end : at ≤ 0 → n ≡ length (labels of top)
-    counted_end h = omega (arith, c.sum, ap (λ (k : ℕ). length (labels of k)) {x = at} {y = 0} (omega arith))
+pub labels-plain : {K : Type 0} (of : ℕ → Numbered ℕ K) (k : ℕ) → labels (plain of) k ≡ labels of k
+labels-plain of k = up_plain of k k

@@ -1,10 +1,6 @@
 -- The letters along the profiles that are kept are those of a profile's way, where the profiles agree with the definition's one for one.
 -- Assumes nothing.
-use mathlib.Core.Path.{◌≡◌}
-use mathlib.Core.List.{List}
-use Prim.Native.Nat.{ℕ, suc, ◌<◌}
-use native.Mathlib.Omega.{arith}
-use lib.ListN.{length}
+use Rattle.std.proofs.Common.{◌≡◌, List, ℕ, suc, ◌<◌, length, arith}
 use Rattle.base.specs.Spread.{Linked}
 use Rattle.base.proofs.At.{At}
 use Rattle.formula.specs.Table.{Table}

@@ -1,16 +1,12 @@
 -- The stem that the notes give is the way by which the search comes to a node. Assumes nothing.
-use mathlib.Core.Path.{◌≡◌, ap, ◌∙◌}
-use mathlib.Core.List.{List, [], map}
-use Prim.Native.Nat.{ℕ, suc, ◌-◌, ◌*◌, ◌≤◌, ◌<◌}
-use native.Mathlib.Omega.{arith}
-use lib.ListN.{length, get_or}
+use Rattle.std.proofs.Common.{◌≡◌, ap, List, [], map, ℕ, suc, ◌*◌, ◌≤◌, ◌<◌, length, get_or, arith}
 use Rattle.base.specs.Search.{Item}
 use Rattle.base.specs.Spread.{Linked}
 use Rattle.formula.specs.Table.{Table}
 use Rattle.tableau.specs.Saturation.{Subset}
 use Rattle.tableau.specs.Transition.{Transition, letter}
 use Rattle.tableau.specs.Nodes.{nodes}
-use Rattle.tableau.specs.Origins.{way_letters, parent_at, letter_at, Origins}
+use Rattle.tableau.specs.Origins.{way_letters, Origins}
 use Rattle.tableau.proofs.NodeLaws.{nodes-first}
 use Rattle.witness.specs.Letters.{node_item, stem_letters, StemNoted}
 use Rattle.witness.proofs.ChainLaws.{labels_are}
@@ -20,13 +16,6 @@ way-root : (t : Table) → way_letters t 0 ≡ []
 unfolding nodes
 way-root t = ap (λ (l : List (Item Transition Subset)). map letter (get_or l 0 (record { way = []; at = [] })).way)
     (nodes-first t)
-
--- a node's note, as an item of the chain
-pub note_parent : (o : List ℕ) {k x : ℕ} → 0 < k → x ≡ parent_at o k → x ≡ (node_item o (k - 1)).parent
-note_parent o {k} h e = e ∙ ap (parent_at o) {x = k} {y = suc (k - 1)} (omega arith)
-
-pub note_letter : (o : List ℕ) {k x : ℕ} → 0 < k → x ≡ letter_at o k → x ≡ (node_item o (k - 1)).label
-note_letter o {k} h e = e ∙ ap (letter_at o) {x = k} {y = suc (k - 1)} (omega arith)
 
 module _ {t : Table} {o : List ℕ} {n : ℕ} (origins : Origins t o n) (j : ℕ) (inside : j < n) where
   linked : Linked (node_item o) j

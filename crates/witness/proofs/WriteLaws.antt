@@ -1,16 +1,13 @@
 -- What is written letter by letter from the back is the whole list, with the rest of the buffer as before (`Backward`); so is one letter
 -- behind another (`written_on`); and one list behind another is both at once (`over-both`). Assumes nothing.
-use mathlib.Core.Path.{◌≡◌, refl, sym, ap, subst⁻¹, ◌∙◌}
-use mathlib.Core.List.{List, [], ◌∷◌, ◌++◌, append-nil, append_assoc}
-use Prim.Native.Nat.{ℕ, zero, suc, ◌+◌, ◌-◌, ◌≤◌, ◌<◌}
-use native.Mathlib.Omega.{arith}
-use lib.ListN.{length, length-append, length-set, set}
+use Rattle.std.proofs.Common.{◌≡◌, refl, sym, ap, ◌∙◌, List, [], ◌∷◌, ◌++◌, append_assoc, ℕ, zero, suc, ◌+◌, ◌-◌, ◌≤◌, ◌<◌}
+use Rattle.std.proofs.Common.{add-one, length, length-append, length-set, set, arith}
 use Rattle.base.specs.Spread.{Numbered, Linked}
 use Rattle.profile_search.specs.Stored.{record_of, first_of}
 use Rattle.profile_search.specs.declared.Store.{Store}
-use Rattle.witness.specs.Letters.{labels, node_item, stem_letters, cycle_letters, over, written, LettersFit, WitnessReady}
+use Rattle.witness.specs.Letters.{labels, plain, node_item, stem_letters, cycle_letters, over, written, LettersFit, WitnessReady}
 use Rattle.witness.specs.Letters.{WitnessWritten}
-use Rattle.witness.proofs.ChainLaws.{labels-short, labels_at, parent-less, length_at}
+use Rattle.witness.proofs.ChainLaws.{labels-short, labels-plain, labels_at, parent-less, length_at}
 
 -- nothing written
 pub written_none : (from : ℕ) (l : List ℕ) → written from [] l ≡ l
@@ -56,33 +53,22 @@ pub record Backward {K : Type 0} (of : ℕ → Numbered ℕ K) (from top at left
   pub left_is : left ≡ length (labels of at)
   pub now-is : after ≡ written (from + left) rest before
 
-pub back_start : {K : Type 0} (of : ℕ → Numbered ℕ K) (from top : ℕ) {left at : ℕ} (l : List ℕ) → at ≡ top → left ≡ length (labels of top)
-    → Backward of from top at left l l
-back_start of from top {left} l q e =
-    subst⁻¹ (λ (k : ℕ). Backward of from top k left l l) q
-    (record {
-      low = omega arith;
-      same_length = refl;
-      rest = [];
-      whole = sym (append-nil (labels of top));
-      left_is = e;
-      now-is = sym (written_none (from + left) l);
-    })
-
-pub back_end : {K : Type 0} {of : ℕ → Numbered ℕ K} {from top left : ℕ} {before after : List ℕ} (at : ℕ) → at ≤ 0
-    → Backward of from top at left before after → after ≡ written from (labels of top) before
-back_end {from = from} {left = left} {before} zero h b =
-    b.now-is
-    ∙ ap (λ (i : ℕ). written i b.rest before) {x = from + left} {y = from} (omega (arith, b.left_is))
-    ∙ ap (λ (l : List ℕ). written from l before) (sym b.whole)
-back_end (suc i) h b = absurd (omega arith)
-
 -- a turn: there is an item to go on from, and room for all letters
 pub record Turn {K : Type 0} (of : ℕ → Numbered ℕ K) (from top at left : ℕ) (before after : List ℕ) : Type 0 where
   pub linked : Linked of top
   pub room : from + length (labels of top) ≤ length before
   pub some : 0 < at
   pub back : Backward of from top at left before after
+
+pub turning : {K : Type 0} {of : ℕ → Numbered ℕ K} {from top n at left : ℕ} {before after : List ℕ} → Linked of top
+    → LettersFit (labels of top) n from (length before) → 0 < at → Backward of from top at left before after
+    → Turn of from top at left before after
+turning linked fits some back = record {
+  linked = linked;
+  room = omega (arith, fits.count_is, fits.room);
+  some = some;
+  back = back;
+}
 
 module _ {K : Type 0} {of : ℕ → Numbered ℕ K} {from top at left : ℕ} {before after : List ℕ}
     (t : Turn of from top at left before after) where
@@ -92,14 +78,8 @@ module _ {K : Type 0} {of : ℕ → Numbered ℕ K} {from top at left : ℕ} {be
   pub turn_some : 0 < left
   turn_some = omega (arith, length_at of t.linked at t.some b.low, b.left_is)
 
-  pub turn_room : from + left ≤ length before
+  turn_room : from + left ≤ length before
   turn_room = omega (arith, ap length b.whole, length-append (labels of at) b.rest, b.left_is, t.room)
-
-  pub turn_index : {i : ℕ} → i ≡ from + (left - 1) → i < length after
-  turn_index e = omega (arith, turn_room, turn_some, b.same_length)
-
-  pub turn_less : {up : ℕ} → up ≡ (of (at - 1)).parent → up < at
-  turn_less e = omega (arith, parent-less of t.linked at t.some b.low)
 
   -- the letter before those written
   stored : (x : ℕ) → set after (from + (left - 1)) x ≡ written (from + (left - 1)) (x ∷ b.rest) before
@@ -113,45 +93,53 @@ module _ {K : Type 0} {of : ℕ → Numbered ℕ K} {from top at left : ℕ} {be
   pub turn_next : {i up x : ℕ} {after' : List ℕ} → i ≡ from + (left - 1) → up ≡ (of (at - 1)).parent → x ≡ (of (at - 1)).label
       → after' ≡ set after i x → Backward of from top up (left - 1) before after'
   turn_next {i} {up} {x} {after'} p e q s =
-      subst⁻¹ (λ (k : ℕ). Backward of from top k (left - 1) before after') e
-      (record {
-        low = omega (arith, turn_less refl, b.low);
+      record {
+        low = omega (arith, parent-less of t.linked at t.some b.low, b.low);
         same_length = ap length s ∙ length-set after i x ∙ b.same_length;
         rest = x ∷ b.rest;
         whole =
             b.whole ∙ ap (λ (l : List ℕ). l ++ b.rest) (labels_at of t.linked at t.some b.low)
             ∙ append_assoc (labels of (of (at - 1)).parent) ((of (at - 1)).label ∷ []) b.rest
-            ∙ ap (λ (y : ℕ). labels of (of (at - 1)).parent ++ (y ∷ b.rest)) (sym q);
-        left_is = omega (arith, length_at of t.linked at t.some b.low, b.left_is);
+            ∙ ap (λ (y : ℕ). labels of (of (at - 1)).parent ++ (y ∷ b.rest)) (sym q)
+            ∙ ap (λ (k : ℕ). labels of k ++ (x ∷ b.rest)) (sym e);
+        left_is = omega (arith, length_at of t.linked at t.some b.low, b.left_is, ap (λ (k : ℕ). length (labels of k)) e);
         now-is = s ∙ ap (λ (k : ℕ). set after k x) p ∙ stored x;
-      })
+      }
 
 -- A stem of which n letters are counted, to the first node of profile p, and a cycle of m letters behind it.
 module _ {o : List ℕ} {s : Store} {area : List ℕ} {p len j n m : ℕ} (ready : WitnessReady o s area p len)
     (first-is : j ≡ first_of s area p)
-    (stem_is : n ≡ length (stem_letters o j)) (cycle_is : m ≡ length (cycle_letters s area p)) where
+    (stem_is : n ≡ length (stem_letters o j)) (count_is : m ≡ length (labels (plain (record_of s area)) (p + 1))) where
+  -- the code follows the items with their numbers for vertices
+  along_cycle : labels (plain (record_of s area)) (p + 1) ≡ cycle_letters s area p
+  along_cycle = ap (labels (plain (record_of s area))) (add-one p) ∙ labels-plain (record_of s area) (suc p)
+
+  cycle_is : m ≡ length (cycle_letters s area p)
+  cycle_is = count_is ∙ ap length along_cycle
+
   stem-low : n ≤ first_of s area p
   stem-low = omega (arith, labels-short (node_item o) j)
 
   cycle-low : m ≤ suc p
-  cycle-low = omega (arith, labels-short (record_of s area) (suc p))
+  cycle-low = omega (arith, cycle_is, labels-short (record_of s area) (suc p))
 
   pub stem_fits : LettersFit (stem_letters o j) n 0 len
   stem_fits = record { count_is = stem_is; room = omega (arith, stem-low, ready.room) }
 
-  pub cycle_fits : {len' : ℕ} → len' ≡ len → LettersFit (cycle_letters s area p) m n len'
-  cycle_fits e = record { count_is = cycle_is; room = omega (arith, stem-low, cycle-low, ready.room) }
+  pub cycle_fits : {len' : ℕ} → len' ≡ len → LettersFit (labels (plain (record_of s area)) (p + 1)) m n len'
+  cycle_fits e = record { count_is = count_is; room = omega (arith, stem-low, cycle-low, ready.room) }
 
   -- Theorem: the stem and then the cycle, written, are the witness of profile p.
   pub all-written : {before mid after : List ℕ} → len ≡ length before → mid ≡ written 0 (stem_letters o j) before
-      → after ≡ written n (cycle_letters s area p) mid
+      → after ≡ written n (labels (plain (record_of s area)) (p + 1)) mid
       → WitnessWritten o s area p before after (record { stem = n; cycle = m })
   all-written {before} {mid} {after} l a b =
       record {
         stem_is = stem_is ∙ ap (λ (k : ℕ). length (stem_letters o k)) first-is;
         cycle_is = cycle_is;
         buffer_is =
-            b ∙ ap (λ (k : ℕ). written k cycle mid) stem_is ∙ ap (written (length stem) cycle) a
+            b ∙ ap (λ (ws : List ℕ). written n ws mid) along_cycle ∙ ap (λ (k : ℕ). written k cycle mid) stem_is
+            ∙ ap (written (length stem) cycle) a
             ∙ over-both stem cycle before (omega (arith, stem_is, stem-low, ready.room))
             ∙ ap (λ (k : ℕ). over (stem_letters o k ++ cycle) before) first-is;
       }

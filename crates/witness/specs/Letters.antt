@@ -5,7 +5,7 @@ use Rattle.base.specs.Spread.{Numbered, each_label, labels_to, Linked}
 use Rattle.tableau.specs.Origins.{parent_at, letter_at}
 use Rattle.profile_search.specs.Stored.{record_of, first_of, StoreFits}
 use Rattle.profile_search.specs.declared.Store.{Store}
-use Rattle.witness.specs.declared.Origin.{Origin}
+use Rattle.witness.specs.declared.Note.{Note}
 use Rattle.witness.specs.declared.Lengths.{Lengths}
 
 -- the labels along the parents up to item k - 1, where `of` gives the item of each number
@@ -16,10 +16,14 @@ labels of k = labels_to each_label of k
 abbrev pub node_item : List ℕ → ℕ → Numbered ℕ ℕ
 node_item o i = record { at = suc i; parent = parent_at o (suc i); label = letter_at o (suc i) }
 
--- r is the note of node j.
-pub record OriginOf (o : List ℕ) (j : ℕ) (r : Origin) : Type 0 where
-  pub parent : r.parent.0 ≡ parent_at o j
-  pub letter : r.letter ≡ letter_at o j
+-- the items of a chain with their numbers for vertices: the labels along them are the same
+abbrev pub plain : {K : Type 0} → (ℕ → Numbered ℕ K) → ℕ → Numbered ℕ ℕ
+plain of i = record { at = suc i; parent = (of i).parent; label = (of i).label }
+
+-- r is what is noted of an item
+pub record NoteOf (x : Numbered ℕ ℕ) (r : Note) : Type 0 where
+  pub parent : r.parent ≡ x.parent
+  pub letter : r.letter ≡ x.label
 
 -- the letters of the stem to node j
 abbrev pub stem_letters : List ℕ → ℕ → List ℕ
@@ -36,6 +40,16 @@ over ws l = ws ++ drop (length ws) l
 -- the same from an index on
 abbrev pub written : ℕ → List ℕ → List ℕ → List ℕ
 written from ws l = take from l ++ over ws (drop from l)
+
+-- There are notes of the items up to item k - 1, and each leads to a smaller number.
+pub record ChainNoted (of : ℕ → Numbered ℕ ℕ) (noted : ℕ → Type 0) (k : ℕ) : Type 0 where
+  pub there : noted k
+  pub linked : Linked of k
+
+-- The store in an area of that length has k profiles.
+pub record ProfileNoted (s : Store) (len k : ℕ) : Type 0 where
+  pub fits : StoreFits s len
+  pub room : k ≤ s.capacity
 
 -- There are notes of the nodes up to node j, and each leads to a smaller number.
 pub record StemNoted (o : List ℕ) (j : ℕ) : Type 0 where

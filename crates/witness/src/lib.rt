@@ -2,23 +2,16 @@
 // letter. A chain of parents is followed twice: once to count its letters, and once to write them, the last first.
 #![tactic(auto)]
 
-ghost use Rattle.std.specs.Prelude.{◌≡◌, ◌+◌, ◌*◌, ◌<◌, length, set};
-ghost use Rattle.witness.specs.Letters.{OriginOf, stem_letters, cycle_letters, written, StemNoted, CycleKept, LettersFit};
-ghost use Rattle.witness.specs.Letters.{WitnessReady, WitnessWritten};
+ghost use Rattle.std.specs.Prelude.{◌≡◌, ℕ, ◌+◌, ◌-◌, ◌*◌, ◌<◌, ◌≤◌, length};
+ghost use Rattle.std.proofs.Common.{rules};
+ghost use Rattle.base.specs.Spread.{Numbered};
+ghost use Rattle.profile_search.specs.Stored.{record_of};
+ghost use Rattle.witness.specs.Letters.{labels, plain, node_item, stem_letters, written, NoteOf, ProfileNoted, ChainNoted, StemNoted};
+ghost use Rattle.witness.specs.Letters.{LettersFit, WitnessReady, WitnessWritten};
 
 use lasso::Position;
 use profile_search::Store;
 use tableau::NodeNumber;
-
-// The root's number.
-const ROOT: usize = 0;
-
-// The node that the search came from, and the letter of the transition between.
-#[derive(Clone, Copy)]
-struct Origin {
-    parent: NodeNumber,
-    letter: u16,
-}
 
 // How many letters the stem and the cycle have.
 #[derive(Clone, Copy)]
@@ -27,24 +20,102 @@ pub struct Lengths {
     pub cycle: usize,
 }
 
-// Puts a letter at a position of the witness.
-fn put(letters: &mut [u16], at: Position, letter: u16)
-    requires { at.0 < length letters.old }
-    ensures { letters.new ≡ set letters.old at.0 letter }
-{
-    let i = at.0;
-    letters[i] = letter;
+// Where a chain of parents ends: at the root, or before the first profile.
+const END: usize = 0;
+
+// What is noted of an item of a chain: its parent, and the letter between.
+#[derive(Clone, Copy)]
+struct Note {
+    parent: usize,
+    letter: u16,
 }
 
-// The note of a node.
-fn origin_of(origins: &[u16], node: NodeNumber) -> Origin
-    requires { 2 * node.0 + 1 < length origins.now }
-    ensures { OriginOf origins.now node.0 result }
+// Notes along which chains of parents are followed. Items go by 1 + their number, parents too.
+trait Notes {
+    ghost item: { Self → ℕ → Numbered ℕ ℕ };
+
+    ghost noted: { Self → ℕ → Type 0 };
+
+    fn note(&self, at: usize) -> Note
+        requires some { 0 < at }
+        requires noted { noted self.now at }
+        ensures { NoteOf (item self.now (at - 1)) result };
+
+    ghost noted_below: { (s : Self) (j k : ℕ) → j ≤ k → noted s k → noted s j };
+}
+
+// The notes of the nodes: two numbers each. The root's are not read.
+#[derive(Clone, Copy)]
+struct NodeNotes<'a> {
+    origins: &'a [u16],
+}
+
+impl Notes for NodeNotes<'_> {
+    ghost item = { λ s. node_item s.origins.now };
+
+    ghost noted = { λ s k. 2 * k + 1 < length s.origins.now };
+
+    ghost noted_below = { Prim.search rules };
+
+    fn note(&self, at: usize) -> Note {
+        Note {
+            parent: usize::from(self.origins[2 * at]),
+            letter: self.origins[2 * at + 1],
+        }
+    }
+}
+
+// The notes of the profiles: the headers of their records.
+#[derive(Clone, Copy)]
+struct ProfileNotes<'a> {
+    area: &'a [u8],
+    store: Store,
+}
+
+impl Notes for ProfileNotes<'_> {
+    ghost item = { λ s. plain (record_of s.store s.area.now) };
+
+    ghost noted = { λ s. ProfileNoted s.store (length s.area.now) };
+
+    ghost noted_below = { Prim.search rules };
+
+    fn note(&self, at: usize) -> Note {
+        let e = profile_search::header_of(self.area, self.store, at - 1);
+        Note {
+            parent: e.parent,
+            letter: e.letter,
+        }
+    }
+}
+
+// How many letters stand along a chain.
+fn length_of<N: Notes>(notes: &N, top: usize) -> usize
+    requires { ChainNoted (N.item notes.now) (N.noted notes.now) top }
+    ensures { result ≡ length (labels (N.item notes.now) top) }
 {
-    let i = node.0;
-    Origin {
-        parent: NodeNumber(base::wide16(origins[2 * i])),
-        letter: origins[2 * i + 1],
+    let mut n = 0usize;
+    let mut at = top;
+    while END < at {
+        n += 1;
+        at = notes.note(at).parent;
+    }
+    n
+}
+
+// Writes the n letters along a chain from a position on, the last first.
+fn write_chain<N: Notes>(notes: &N, top: usize, letters: &mut [u16], from: Position, n: usize)
+    requires chain_noted { ChainNoted (N.item notes.now) (N.noted notes.now) top }
+    requires letters_fit { LettersFit (labels (N.item notes.now) top) n from.0 (length letters.old) }
+    ensures { letters.new ≡ written from.0 (labels (N.item notes.now) top) letters.old }
+{
+    let start = from.0;
+    let mut at = top;
+    let mut left = n;
+    while END < at {
+        left -= 1;
+        let note = notes.note(at);
+        letters[start + left] = note.letter;
+        at = note.parent;
     }
 }
 
@@ -53,62 +124,16 @@ pub fn stem_length(origins: &[u16], node: NodeNumber) -> usize
     requires { StemNoted origins.now node.0 }
     ensures { result ≡ length (stem_letters origins.now node.0) }
 {
-    let mut n = 0usize;
-    let mut at = node.0;
-    while ROOT < at {
-        n += 1;
-        let o = origin_of(origins, NodeNumber(at));
-        at = o.parent.0;
-    }
-    n
+    length_of(&NodeNotes { origins }, node.0)
 }
 
-// Writes the n letters of the stem to a node from position 0 on, the last first.
+// Writes the n letters of the stem to a node from position 0 on.
 pub fn write_stem(origins: &[u16], node: NodeNumber, letters: &mut [u16], n: usize)
     requires stem_noted { StemNoted origins.now node.0 }
     requires letters_fit { LettersFit (stem_letters origins.now node.0) n 0 (length letters.old) }
     ensures { letters.new ≡ written 0 (stem_letters origins.now node.0) letters.old }
 {
-    let mut at = node.0;
-    let mut left = n;
-    while ROOT < at {
-        left -= 1;
-        let o = origin_of(origins, NodeNumber(at));
-        put(letters, Position(left), o.letter);
-        at = o.parent.0;
-    }
-}
-
-// How many letters the cycle of profile p has.
-fn cycle_length(area: &[u8], store: Store, p: usize) -> usize
-    requires { CycleKept store area.now p }
-    ensures { result ≡ length (cycle_letters store area.now p) }
-{
-    let mut n = 0usize;
-    let mut at = p + 1;
-    while 0 < at {
-        n += 1;
-        let e = profile_search::header_of(area, store, at - 1);
-        at = e.parent;
-    }
-    n
-}
-
-// Writes the n letters of the cycle of profile p from a position on, the last first.
-fn write_cycle(area: &[u8], store: Store, p: usize, letters: &mut [u16], from: Position, n: usize)
-    requires cycle_kept { CycleKept store area.now p }
-    requires letters_fit { LettersFit (cycle_letters store area.now p) n from.0 (length letters.old) }
-    ensures { letters.new ≡ written from.0 (cycle_letters store area.now p) letters.old }
-{
-    let start = from.0;
-    let mut at = p + 1;
-    let mut left = n;
-    while 0 < at {
-        left -= 1;
-        let e = profile_search::header_of(area, store, at - 1);
-        put(letters, Position(start + left), e.letter);
-        at = e.parent;
-    }
+    write_chain(&NodeNotes { origins }, node.0, letters, Position(0), n);
 }
 
 // Writes the witness of profile p: the stem to its first node, and behind it the profile's cycle.
@@ -119,11 +144,9 @@ pub fn write(origins: &[u16], area: &[u8], store: Store, p: usize, letters: &mut
     let e = profile_search::header_of(area, store, p);
     let first = e.first;
     let stem = stem_length(origins, first);
-    let cycle = cycle_length(area, store, p);
+    let profiles = ProfileNotes { area, store };
+    let cycle = length_of(&profiles, p + 1);
     write_stem(origins, first, letters, stem);
-    write_cycle(area, store, p, letters, Position(stem), cycle);
-    Lengths {
-        stem: stem,
-        cycle: cycle,
-    }
+    write_chain(&profiles, p + 1, letters, Position(stem), cycle);
+    Lengths { stem, cycle }
 }

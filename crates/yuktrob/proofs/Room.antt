@@ -1,16 +1,12 @@
 -- The program's buffer has room for the text of every verdict, so that what it prints is the text and nothing of it is lost. Assumes
 -- nothing.
-use mathlib.Core.Path.{◌≡◌, subst, ◌∙◌}
-use mathlib.Core.List.{List}
-use Prim.Native.Nat.{ℕ}
-use native.Mathlib.Omega.{arith}
-use lib.ListN.{length}
+use Rattle.std.proofs.Common.{◌≡◌, subst, ◌∙◌, List, ℕ, arith}
 use Rattle.text.specs.Text.{buffer, Wrote}
 use Rattle.text.proofs.Writing.{stands}
 use Rattle.decision.specs.Verdict.{workspace_size, witness_size, verdict}
 use Rattle.decision.specs.Lends.{Lends}
 use Rattle.decision.specs.Inner.{Answers}
-use Rattle.decision.specs.declared.Verdict.{Verdict}
+use Rattle.decision.specs.Contract.{Answer}
 use Rattle.verdict_text.specs.Texts.{program_text, shown_text}
 use Rattle.verdict_text.proofs.Showing.{shows}
 use Rattle.verdict_text.proofs.Lengths.{verdict_shown_short}
@@ -28,10 +24,10 @@ enough h k =
     }
 
 -- Theorem: the text of an answer to the verdict, with areas of these lengths, is what the program is to print, and stands whole.
-pub prints : {workspace places : ℕ} {bytes out out' b b' : List ℕ} {v : Verdict} {end : ℕ}
-    → Answers (verdict nodes profiles workspace places bytes) b b' v
+pub prints : {workspace places : ℕ} {bytes out out' b b' : List ℕ} {r : Answer} {end : ℕ}
+    → Answers (verdict nodes profiles workspace places bytes) b b' r
     → workspace ≡ workspace_size nodes profiles → places ≡ witness_size nodes profiles
-    → Wrote (buffer out 0) (program_text v b') (buffer out' end) → Printed bytes out out' end
+    → Wrote (buffer out 0) (program_text r b') (buffer out' end) → Printed bytes out out' end
 prints {workspace} {places} {bytes} {out} {out'} {end = end} a h k p =
     let e = shows nodes profiles workspace places bytes a ∙ (λ i. shown_text (verdict nodes profiles (h i) (k i) bytes)) in
     let wrote = subst (λ (text : List ℕ). Wrote (buffer out 0) text (buffer out' end)) e p in

@@ -1,8 +1,5 @@
 -- MEANING 6.1: the decision of the first 97 bytes is the decision of all of them, as their reading is. Assumes nothing.
-use mathlib.Core.Path.{◌≡◌, ap}
-use mathlib.Core.List.{List}
-use Prim.Native.Nat.{ℕ}
-use lib.ListN.{take}
+use Rattle.std.proofs.Common.{◌≡◌, ap, List, ℕ, take}
 use Rattle.formula.proofs.Prefix.{parse_prefix}
 use Rattle.decision.specs.Verdict.{verdict, after_reading}
 use Rattle.decision.proofs.VerdictLaws.{questions}

@@ -1,26 +1,23 @@
 -- An answer is taken apart as include/yuktrob.h does it, where a shift to the right is a quotient and a mask a remainder: out comes what
 -- the answer was made of. So the number says as much as the answer. Assumes nothing.
-use mathlib.Core.Path.{◌≡◌, refl, sym, ap, subst, ◌∙◌}
-use mathlib.Core.Logic.{◌↔◌}
-use mathlib.Core.List.{List}
-use mathlib.Core.Option.{Option, none, some}
-use Prim.Native.Nat.{ℕ, ◌+◌, ◌*◌, ◌/◌, ◌%◌, ◌≤◌, ◌<◌}
-use native.Mathlib.Omega.{arith}
-use native.Mathlib.Nat.{mod-eq_of_lt, div-eq_of_lt, add-mul-mod_self_left, add-mul-div_left}
+use Rattle.std.proofs.Common.{Ok, Err, ◌≡◌, refl, sym, ap, subst, ◌∙◌, ◌↔◌, List, ℕ, ◌+◌, ◌*◌, ◌/◌, ◌%◌, ◌≤◌, ◌<◌, arith, mod-eq_of_lt}
+use Rattle.std.proofs.Math.Option.{Option, none, some}
+use Rattle.std.proofs.Math.Nat.{div-eq_of_lt, add-mul-mod_self_left, add-mul-div_left}
 use Rattle.formula.specs.Table.{Operator}
 use Rattle.formula.specs.Rows.{opcode_byte}
-use Rattle.formula.specs.Refusal.{code_of, place_of, binder_place_of}
+use Rattle.formula.specs.Refusal.{fault_code, code_of, place_of, binder_place_of}
 use Rattle.formula.specs.Reading.{Reading, parse}
 use Rattle.formula.specs.declared.Refusal.{Refusal}
 use Rattle.formula.specs.declared.Refusal.TheVariants.{AtByte, Unguarded}
 use Rattle.formula.proofs.Fuel.{Stopped, parse_stopped}
 use Rattle.formula.proofs.Early.{parse-early}
-use Rattle.joint.specs.declared.Joint.TheVariants.{Unread, Untried, Unsatisfiable}
+use Rattle.joint.specs.declared.Verdict.TheVariants.{Unsatisfiable}
+use Rattle.joint.specs.declared.Refusal.TheVariants.{Unread, Untried}
 use Rattle.substitution.specs.declared.Source.{Source}
-use Rattle.substitution.specs.declared.Answer.TheVariants as substitution
+use Rattle.substitution.specs.declared.Refusal.TheVariants as substitution
 use Rattle.catalogue.specs.Contract.{code, layer_told}
-use Rattle.catalogue.specs.declared.Location.{Location}
-use Rattle.catalogue.specs.declared.Location.TheVariants.{Found, Damaged, Missing}
+use Rattle.catalogue.specs.Location.{Location}
+use Rattle.catalogue.specs.declared.Refusal.TheVariants.{Damaged, Missing}
 use Rattle.yuktrob_c.specs.Numbers.{number, refusal_number, found, location_number, joint_number, Letters16, Early}
 use Rattle.yuktrob_c.specs.Numbers.{source_number, edit_number}
 use Rattle.yuktrob_c.proofs.JointFit.{refusal_small}
@@ -56,7 +53,8 @@ pub record RefusalApart (n : ℕ) (why : Refusal) : Type 0 where
 -- by its kind, where its number is small and tells the kind and its places are early; above 24 bits for these there may be more
 apart_by : {total : ℕ} (why : Refusal) (above : ℕ) → Stopped total why → Early why
     → RefusalApart (refusal_number why + 16777216 * above) why
-apart_by (AtByte code at) above s e =
+apart_by (AtByte fault at) above s e =
+    let code = fault_code fault in
     let n = number code at + 16777216 * above in
     let small : code < 256 = omega (arith, s.known) in
     let refusal : n % 256 ≡ code =
@@ -97,13 +95,13 @@ above_apart bytes why e above =
 
 -- Theorem: so is that of a formula of a catalogue, with its position, by yuktrob_position.
 pub unread-apart : (bytes : List ℕ) (why : Refusal) → parse bytes ≡ Reading.refused why → (position : ℕ)
-    → RefusalApart (joint_number (Unread position why)) why × (joint_number (Unread position why) / 16777216 ≡ position)
+    → RefusalApart (joint_number (Err (Unread position why))) why × (joint_number (Err (Unread position why)) / 16777216 ≡ position)
 unread-apart = above_apart
 
 -- Theorem: so is that of a substitution, with which bytes it is about, by yuktrob_source.
 pub source_apart : (bytes : List ℕ) (why : Refusal) → parse bytes ≡ Reading.refused why → (count : ℕ) (source : Source)
-    → RefusalApart (edit_number count (substitution.Unread source why)) why
-    × (edit_number count (substitution.Unread source why) / 16777216 ≡ source_number source)
+    → RefusalApart (edit_number count (Err (substitution.Unread source why))) why
+    × (edit_number count (Err (substitution.Unread source why)) / 16777216 ≡ source_number source)
 source_apart bytes why e count source = above_apart bytes why e (source_number source)
 
 -- Theorem: a substitution that is done is taken apart by yuktrob_edited_len and yuktrob_edited_count: shifts by 8 and 16 bits.
@@ -112,9 +110,9 @@ pub record EditApart (n long count : ℕ) : Type 0 where
   pub long-is : n / 256 % 256 ≡ long
   pub count_is : n / 65536 % 256 ≡ count
 
-pub edit_apart : (long count : ℕ) → long ≤ 97 → count ≤ 48 → EditApart (edit_number count (substitution.Substituted long)) long count
+pub edit_apart : (long count : ℕ) → long ≤ 97 → count ≤ 48 → EditApart (edit_number count (Ok long)) long count
 edit_apart long count l c =
-    let n = edit_number count (substitution.Substituted long) in
+    let n = edit_number count (Ok long) in
     record {
       refusal = low 0 256 (long + 256 * count) (omega arith);
       long-is = part n 0 256 long 256 count (omega arith) (omega arith) (omega arith);
@@ -122,11 +120,11 @@ edit_apart long count l c =
     }
 
 -- Theorem: 35 is taken apart by yuktrob_refusal and yuktrob_tried, a core by yuktrob_clash: shifts by 8 and 9 bits.
-pub tried_apart : (s : ℕ) → s < 256 → (joint_number (Untried s) % 256 ≡ 35) × (joint_number (Untried s) / 256 % 256 ≡ s)
+pub tried_apart : (s : ℕ) → s < 256 → (joint_number (Err (Untried s)) % 256 ≡ 35) × (joint_number (Err (Untried s)) / 256 % 256 ≡ s)
 tried_apart s h =
     (low 35 256 s (omega arith), part (number 35 s) 35 256 s 256 0 (omega arith) (omega arith) h)
 
-pub clash-apart : (K P core : ℕ) → core < 256 → joint_number (Unsatisfiable K P core) / 512 % 256 ≡ core
+pub clash-apart : (K P core : ℕ) → core < 256 → joint_number (Ok (Unsatisfiable K P core)) / 512 % 256 ≡ core
 clash-apart K P core h =
     let counts = 0 + 8192 * (K + 8192 * P) in
     part (number 0 (found 0 core 0 K P)) 0 512 core 256 (32 * counts) (omega arith) (omega arith) h
@@ -189,9 +187,9 @@ entry-apart o end h i j =
 
 -- the header's yuktrob_refusal and yuktrob_sheet: a shift by 8 bits
 code-small : (l : Location) → code l < 256
-code-small (Found layer start size) = omega arith
-code-small (Damaged layer place) = omega arith
-code-small Missing = omega arith
+code-small (Ok f) = omega arith
+code-small (Err (Damaged layer place)) = omega arith
+code-small (Err Missing) = omega arith
 
 pub location-apart : (l : Location) → (location_number l % 256 ≡ code l) × (location_number l / 256 ≡ layer_told l)
 location-apart l = number-apart (code l) (layer_told l) (code-small l)

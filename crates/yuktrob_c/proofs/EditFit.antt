@@ -1,21 +1,19 @@
 -- The number of every answer on a substitution fits: a refusal of reading takes 24 bits, and what it is about two; the bytes and the
 -- subformulas take seven bits at most. Assumes nothing.
-use mathlib.Core.Path.{◌≡◌, subst⁻¹}
-use mathlib.Core.List.{List}
-use Prim.Native.Nat.{ℕ, ◌≤◌}
-use native.Mathlib.Omega.{arith}
+use Rattle.std.proofs.Common.{Result, Ok, Err, ◌≡◌, List, ℕ, ◌≤◌, arith}
+use Rattle.std.proofs.Math.Path.{subst⁻¹}
 use Rattle.substitution.specs.Substitution.{substitution}
 use Rattle.substitution.specs.Contract.{handed}
 use Rattle.substitution.specs.declared.Substitution as result
-use Rattle.substitution.specs.declared.Answer.{Answer}
-use Rattle.substitution.specs.declared.Answer.TheVariants.{Unread, Missing, Substituted}
+use Rattle.substitution.specs.declared.Refusal.{Refusal}
+use Rattle.substitution.specs.declared.Refusal.TheVariants.{Unread, Missing}
 use Rattle.substitution.proofs.Bounds.{AnswerSmall, substitution_bounded}
 use Rattle.yuktrob_c.specs.Numbers.{EditFits}
 
-small-fits : (answer : Answer) → AnswerSmall answer → EditFits answer
-small-fits (Unread source why) s = s
-small-fits Missing s = tt
-small-fits (Substituted count) s = omega arith
+small-fits : (answer : Result ℕ Refusal) → AnswerSmall answer → EditFits answer
+small-fits (Ok count) s = omega arith
+small-fits (Err (Unread source why)) s = s
+small-fits (Err Missing) s = tt
 
 pub edit_fits : (old : List ℕ) (e : ℕ) (new : List ℕ) {r : result.Substitution} → r ≡ handed (substitution old e new)
     → EditFits r.answer × (r.table.count ≤ 48)

@@ -1,23 +1,15 @@
 -- An entry's number: it has room in 64 bits, as the numbers in an operator of a table are small; and the operator and the end at a number
 -- of the table are those of the definition's list. Assumes nothing.
-use mathlib.Core.Path.{◌≡◌, sym, ap, ◌∙◌}
-use mathlib.Core.Bool.{Bool, cond}
-use mathlib.Core.List.{List, map}
-use Prim.Native.Nat.{ℕ, ◌+◌, ◌≤◌, ◌<◌}
-use native.Mathlib.Omega.{arith}
-use lib.ListN.{length, get_or}
-use borrow.Author.Tests.{lt-ltb, le-ltb}
+use Rattle.std.proofs.Common.{Result, Ok, ◌≡◌, sym, ap, ◌∙◌, Bool, cond, List, map, ℕ, ◌+◌, ◌≤◌, ◌<◌, arith, length, get_or, lt-ltb, le-ltb}
 use Rattle.base.specs.Lists.{range}
 use Rattle.base.proofs.NumberLaws.{values_length, values_at}
 use Rattle.formula.specs.Formula.{Leaf}
 use Rattle.formula.specs.Table.{Operator, operator}
 use Rattle.formula.specs.Reading.{Reading, reading}
-use Rattle.formula.specs.Rows.{length_at, operator_at, end_at, operators_of, entries_of, reading_by, reading_of}
+use Rattle.formula.specs.Rows.{length_at, operator_at, end_at, operators_of, entries_of, reading_of}
 use Rattle.formula.specs.Access.{Fits}
 use Rattle.formula.specs.declared.Table.{Table}
-use Rattle.formula.specs.declared.Outcome.{Outcome}
-use Rattle.formula.specs.declared.Outcome.TheVariants.{Accepted}
-use Rattle.formula.specs.declared.Reading as code
+use Rattle.formula.specs.declared.Refusal.{Refusal}
 use Rattle.yuktrob_c.specs.Numbers.{number}
 use Rattle.yuktrob_c.specs.Entry.{argument_of, packed, entry_number}
 
@@ -55,9 +47,9 @@ module _ (t : Table) (e r : ℕ) where
       at g d = values_at g 0 t.count e d l ∙ ap g (omega arith)
 
 -- what callers of the reader have of an accepted formula
-module _ (bytes : List ℕ) (r : code.Reading) (is : reading_of r ≡ reading bytes) (o : r.outcome ≡ Accepted) where
-  pub reading-accepted : Reading.accepted (entries_of r.table) ≡ reading bytes
-  reading-accepted = sym (ap (λ (x : Outcome). reading_by x r.table) o) ∙ is
+pub reading-accepted : (bytes : List ℕ) (r : Result Table Refusal) {t : Table} → reading_of r ≡ reading bytes → r ≡ Ok t
+    → Reading.accepted (entries_of t) ≡ reading bytes
+reading-accepted bytes r is o = sym (ap reading_of o) ∙ is
 
-  pub accepted-count : length (entries_of r.table).operators ≡ r.table.count
-  accepted-count = values_length (operator_at r.table.rows) 0 r.table.count
+pub accepted-count : (t : Table) → length (entries_of t).operators ≡ t.count
+accepted-count t = values_length (operator_at t.rows) 0 t.count

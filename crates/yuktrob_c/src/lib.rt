@@ -13,7 +13,7 @@ ghost use Rattle.construction.specs.Contract as built;
 ghost use Rattle.decision.specs.Contract.{says, leaves, cleared, kept};
 ghost use Rattle.yuktrob_c.specs.Numbers.{number, refusal_number, Letters16, Early, TruthFits, VerdictFits};
 ghost use Rattle.yuktrob_c.specs.Numbers.{reading_number, truth_number, found, verdict_number, verdict_of};
-ghost use Rattle.yuktrob_c.specs.Numbers.{construction_number, construction_of, search_of, ConstructionFits};
+ghost use Rattle.yuktrob_c.specs.Numbers.{no_number, construction_number, construction_of, search_of, NoFits, ConstructionFits};
 ghost use Rattle.safety.specs.Contract as safe;
 ghost use Rattle.yuktrob_c.specs.Numbers.{safety_number, safety_of, SafetyFits};
 ghost use Rattle.yuktrob_c.specs.Entry.{argument_of, packed, entry_number};
@@ -26,20 +26,17 @@ ghost use Rattle.yuktrob_c.specs.Numbers.{source_number, edit_number, EditFits};
 ghost use Rattle.joint.specs.Contract as joined;
 ghost use Rattle.yuktrob_c.specs.Numbers.{joint_number, joint_of, JointFits};
 
-use catalogue::Location;
-use construction::Construction;
+use catalogue::Found;
 use decision::Verdict;
-use formula::{Operator, Outcome, Refusal, Subformula, Table};
-use joint::Joint;
-use lasso::Truth;
-use substitution::{Answer, Source};
+use formula::{Operator, Refusal, Subformula, Table};
+use substitution::Source;
 
 // The lowest byte is a refusal's code or 0; what the answer carries stands above it.
 fn number(code: u8, carried: usize) -> u64
     requires { carried < 72057594037927936 }
     ensures { result ≡ number code carried }
 {
-    (base::wide(code) + 256 * carried) as u64
+    (usize::from(code) + 256 * carried) as u64
 }
 
 // A refusal of reading with its place, and that of the binder if it has one.
@@ -49,30 +46,40 @@ fn refusal_number(why: Refusal) -> u64
 {
     let code = formula::code_of(why);
     match why {
-        Refusal::AtByte { code: _, at } => number(code, at),
+        Refusal::AtByte { at, .. } => number(code, at),
         Refusal::Unguarded { at, binder_at } => number(code, at + 256 * binder_at),
     }
 }
 
-fn truth_number(t: Truth) -> u64
+fn truth_number(t: Result<bool, lasso::Refusal>) -> u64
     requires { TruthFits t }
     ensures { result ≡ truth_number t }
 {
     match t {
-        Truth::Unread(why) => refusal_number(why),
-        Truth::Refused(code) => number(code, 0),
-        Truth::Holds(on) => number(0, base::one_if(on)),
+        Ok(on) => number(0, usize::from(on)),
+        Err(lasso::Refusal::Unread(why)) => refusal_number(why),
+        Err(why) => number(lasso::code_of(why), 0),
     }
 }
 
-fn construction_number(c: Construction) -> u64
+// Why building, the decision or a search refuses: a refusal of reading, or a question, which carries nothing.
+fn no_number(why: construction::Refusal) -> u64
+    requires { NoFits why }
+    ensures { result ≡ no_number why }
+{
+    match why {
+        construction::Refusal::Unread(why) => refusal_number(why),
+        construction::Refusal::No(question) => number(construction::question_code(question), 0),
+    }
+}
+
+fn construction_number(c: Result<usize, construction::Refusal>) -> u64
     requires { ConstructionFits c }
     ensures { result ≡ construction_number c }
 {
     match c {
-        Construction::Unread(why) => refusal_number(why),
-        Construction::Refused(code) => number(code, 0),
-        Construction::Built(count) => number(0, count),
+        Ok(count) => number(0, count),
+        Err(why) => no_number(why),
     }
 }
 
@@ -86,33 +93,34 @@ fn found(met: usize, stem: usize, cycle: usize, nodes: usize, profiles: usize) -
     number(0, met + 2 * sizes)
 }
 
-fn verdict_number(v: Verdict) -> u64
+fn verdict_number(v: Result<Verdict, construction::Refusal>) -> u64
     requires { VerdictFits v }
     ensures { result ≡ verdict_number v }
 {
     match v {
-        Verdict::Unread(why) => refusal_number(why),
-        Verdict::Refused(code) => number(code, 0),
-        Verdict::Satisfiable {
-            stem,
-            cycle,
-            nodes,
-            profiles,
-        } => found(1, stem, cycle, nodes, profiles),
-        Verdict::Unsatisfiable { nodes, profiles } => found(0, 0, 0, nodes, profiles),
+        Ok(
+            Verdict::Satisfiable {
+                stem,
+                cycle,
+                nodes,
+                profiles,
+            },
+        ) => found(1, stem, cycle, nodes, profiles),
+        Ok(Verdict::Unsatisfiable { nodes, profiles }) => found(0, 0, 0, nodes, profiles),
+        Err(why) => no_number(why),
     }
 }
 
-fn safety_number(v: safety::Verdict) -> u64
+fn safety_number(v: Result<safety::Verdict, safety::Refusal>) -> u64
     requires { SafetyFits v }
     ensures { result ≡ safety_number v }
 {
     match v {
-        safety::Verdict::Unread(why) => refusal_number(why),
-        safety::Verdict::LeastAt(place) => number(43, place),
-        safety::Verdict::Refused(s) => number(safety::shortage_code(s), 0),
-        safety::Verdict::Satisfiable { stem, cycle, nodes } => found(1, stem, cycle, nodes, 0),
-        safety::Verdict::Unsatisfiable(nodes) => found(0, 0, 0, nodes, 0),
+        Ok(safety::Verdict::Satisfiable { stem, cycle, nodes }) => found(1, stem, cycle, nodes, 0),
+        Ok(safety::Verdict::Unsatisfiable(nodes)) => found(0, 0, 0, nodes, 0),
+        Err(safety::Refusal::Unread(why)) => refusal_number(why),
+        Err(safety::Refusal::LeastAt(place)) => number(43, place),
+        Err(safety::Refusal::No(question)) => number(construction::question_code(question), 0),
     }
 }
 
@@ -122,18 +130,11 @@ fn argument(operator: Operator) -> usize
 {
     match operator {
         Operator::Constant(_) => 0,
-        Operator::Signal { present: _, signal } => base::wide(signal),
+        Operator::Signal { signal, .. } => usize::from(signal),
         Operator::Variable(binder) => binder.0,
-        Operator::Pair {
-            either: _,
-            left: _,
-            right,
-        } => right.0,
+        Operator::Pair { right, .. } => right.0,
         Operator::Next(_) => 0,
-        Operator::Fixpoint {
-            greatest: _,
-            body: _,
-        } => 0,
+        Operator::Fixpoint { .. } => 0,
     }
 }
 
@@ -142,7 +143,10 @@ fn packed(operator: Operator, end: usize) -> u64
     ensures { result ≡ number 0 (packed (decoded operator) end) }
 {
     let behind = argument(operator) + 256 * end;
-    number(0, base::wide(formula::opcode_byte(operator)) + 256 * behind)
+    number(
+        0,
+        usize::from(formula::opcode_byte(operator)) + 256 * behind,
+    )
 }
 
 // Subformula e of a table, or 0 if it has no such subformula.
@@ -153,9 +157,8 @@ fn entry(t: Table, e: usize) -> u64
     if e >= t.count {
         return 0;
     }
-    let rows = t.rows;
     let s = Subformula(e);
-    packed(formula::operator_at(&rows, s), formula::end(&rows, s))
+    packed(formula::operator_at(&t.rows, s), formula::end(&t.rows, s))
 }
 
 // Reads a formula: how many subformulas it has.
@@ -163,12 +166,9 @@ fn entry(t: Table, e: usize) -> u64
 pub extern "C" fn yuktrob_read(rule: &[u8]) -> u64
     ensures { result ≡ reading_number (reading rule.now) }
 {
-    let r = formula::read(rule);
-    let outcome = r.outcome;
-    let t = r.table;
-    match outcome {
-        Outcome::Refused(why) => refusal_number(why),
-        Outcome::Accepted => number(0, t.count),
+    match formula::read(rule) {
+        Ok(t) => number(0, t.count),
+        Err(why) => refusal_number(why),
     }
 }
 
@@ -177,12 +177,9 @@ pub extern "C" fn yuktrob_read(rule: &[u8]) -> u64
 pub extern "C" fn yuktrob_entry(rule: &[u8], e: usize) -> u64
     ensures { result ≡ entry_number (reading rule.now) e }
 {
-    let r = formula::read(rule);
-    let outcome = r.outcome;
-    let t = r.table;
-    match outcome {
-        Outcome::Refused(why) => refusal_number(why),
-        Outcome::Accepted => entry(t, e),
+    match formula::read(rule) {
+        Ok(t) => entry(t, e),
+        Err(why) => refusal_number(why),
     }
 }
 
@@ -264,7 +261,7 @@ pub extern "C" fn yuktrob_decide_safety(
     safety_number(safety::decide_safety(rule, nodes, work, course))
 }
 
-fn location_number(l: Location) -> u64
+fn location_number(l: Result<Found, catalogue::Refusal>) -> u64
     ensures { result ≡ location_number l }
 {
     number(catalogue::code_of(l), catalogue::layer_of(l))
@@ -289,27 +286,32 @@ pub extern "C" fn yuktrob_lookup(
     location_number(l)
 }
 
-fn joint_number(j: Joint) -> u64
+fn joint_number(j: Result<joint::Verdict, joint::Refusal>) -> u64
     requires { JointFits j }
     ensures { result ≡ joint_number j }
 {
     match j {
-        Joint::Damaged(_) => number(30, 0),
-        Joint::Miscounted => number(34, 0),
-        Joint::Unread { position, why } => refusal_number(why) + 16777216 * (position as u64),
-        Joint::Refused(code) => number(code, 0),
-        Joint::Untried(s) => number(35, base::wide(s)),
-        Joint::Satisfiable {
-            stem,
-            cycle,
-            nodes,
-            profiles,
-        } => found(1, stem, cycle, nodes, profiles),
-        Joint::Unsatisfiable {
-            nodes,
-            profiles,
-            core,
-        } => found(0, base::wide(core), 0, nodes, profiles),
+        Ok(
+            joint::Verdict::Satisfiable {
+                stem,
+                cycle,
+                nodes,
+                profiles,
+            },
+        ) => found(1, stem, cycle, nodes, profiles),
+        Ok(
+            joint::Verdict::Unsatisfiable {
+                nodes,
+                profiles,
+                core,
+            },
+        ) => found(0, usize::from(core), 0, nodes, profiles),
+        Err(joint::Refusal::Damaged(_)) => number(30, 0),
+        Err(joint::Refusal::Miscounted) => number(34, 0),
+        Err(joint::Refusal::Unread { position, why }) => refusal_number(why)
+            + 16777216 * (position as u64),
+        Err(joint::Refusal::No(question)) => number(construction::question_code(question), 0),
+        Err(joint::Refusal::Untried(s)) => number(35, usize::from(s)),
     }
 }
 
@@ -347,16 +349,16 @@ fn source_number(source: Source) -> usize
     }
 }
 
-fn edit_number(answer: Answer, count: usize) -> u64
+fn edit_number(answer: Result<usize, substitution::Refusal>, count: usize) -> u64
     requires { EditFits answer × (count ≤ 48) }
     ensures { result ≡ edit_number count answer }
 {
     match answer {
-        Answer::Unread { source, why } => {
+        Ok(long) => number(0, long + 256 * count),
+        Err(substitution::Refusal::Unread { source, why }) => {
             refusal_number(why) + 16777216 * (source_number(source) as u64)
         }
-        Answer::Missing => number(37, 0),
-        Answer::Substituted(long) => number(0, long + 256 * count),
+        Err(substitution::Refusal::Missing) => number(37, 0),
     }
 }
 
@@ -376,11 +378,9 @@ pub extern "C" fn yuktrob_edit(
     ensures tabled { rows.new ≡ (edited.handed (substitution old.now e new.now)).table.rows }
 {
     let r = substitution::substitute(old, e, new);
-    let answer = r.answer;
-    let table = r.table;
     let bytes = r.bytes;
-    let entries = table.rows;
+    let entries = r.table.rows;
     *spliced = bytes;
     *rows = entries;
-    edit_number(answer, table.count)
+    edit_number(r.answer, r.table.count)
 }

@@ -1,6 +1,6 @@
 -- `base::with` changes one bit: set by or, cleared by xor where it is set.
-use mathlib.Core.Path.{sym, ◌∙◌}
-use Rattle.base.proofs.BitLaws.{set_on, set_off, set_none}
+use Rattle.std.proofs.Common.{sym, ◌∙◌}
+use Rattle.base.proofs.BitLaws.{set_on, set_off}
 use Rattle.base.proofs.with.Goals as goal
 
 pub returns-then-on : goal.returns-then-on
@@ -9,11 +9,6 @@ returns-then-on c =
 
 pub returns-then-has : goal.returns-then-has
 returns-then-has c =
-    let if1 = c.if-on in
-    let has = c.has in
-    rw (c.power-then-has.ensures, if1.false) (set_off c.args.word c.args.e (sym has.ensures ∙ c.if-has.true))
-
-pub returns : goal.returns
-returns c =
-    let if1 = c.if-on in
-    rw if1.false (set_none c.args.word c.args.e (sym c.has.ensures ∙ c.if-has.false))
+    let off = c.if-on.false in
+    let has = sym c.has.ensures ∙ c.if-has.true in
+    rw (c.power-then-has.ensures, off) (set_off c.args.word c.args.e has)

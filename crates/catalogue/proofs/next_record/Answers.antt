@@ -43,14 +43,14 @@ pub returns-then-length-start : goal.returns-then-length-start
 returns-then-length-start c =
     record {
       is = sym (at-cut_short c.args.catalogue.now c.args.at c.args.least c.if-length-at.false c.if-catalogue-at-ne-MARK.false
-          (λ h. omega (arith, c.number_at-number.ensures.0)) (omega (arith, c.wide-size.ensures)));
+          (λ h. omega (arith, c.number_at-number.ensures.0)) (omega (arith, c.from-size.ensures)));
       small = tt;
     }
 
 pub returns : goal.returns
 returns c =
     record {
-      is = as_whole c.args.catalogue.now c.args.at c.args.least c.number_at-number.ensures.0 c.wide-size.ensures
-          c.if-catalogue-at-ne-MARK.false c.if-number-least.false (omega (arith, c.wide-size.ensures));
+      is = as_whole c.args.catalogue.now c.args.at c.args.least c.number_at-number.ensures.0 c.from-size.ensures
+          c.if-catalogue-at-ne-MARK.false c.if-number-least.false (omega (arith, c.from-size.ensures));
       small = c.number_at-number.ensures.1;
     }

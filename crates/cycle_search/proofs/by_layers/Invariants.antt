@@ -1,6 +1,6 @@
 -- `cycle_search::by_layers` looks for an accepting profile in one layer after another. The invariant (`Searching`): the store has all
 -- layers up to this one, and none before it has an accepting profile.
-use Prim.Native.Nat.{◌+◌, ◌-◌}
+use Rattle.std.proofs.Common.{◌+◌, ◌-◌}
 use Rattle.base.specs.Bits.{bit}
 use Rattle.cycle_search.specs.Layers.{accepts}
 use Rattle.cycle_search.proofs.SearchLaws.{Searching}

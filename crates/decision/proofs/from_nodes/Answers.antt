@@ -7,7 +7,7 @@ pub search-found-requires : goal.search-found-requires
 search-found-requires c = given (record {
   ready = c.requires;
   ranks = c.ranked-r.ensures;
-  store_is = c.store_of-store.ensures;
+  store_is = c.store-store.ensures;
 })
 
 pub answered-requires : goal.answered-requires
@@ -15,7 +15,7 @@ answered-requires c =
     answer-ready (record {
       ready = c.requires;
       ranks = c.ranked-r.ensures;
-      store_is = c.store_of-store.ensures;
+      store_is = c.store-store.ensures;
     }) c.search-found.ensures.comes_to c.search-found.ensures.bytes_between
 
 pub returns : goal.returns
@@ -23,5 +23,5 @@ returns c =
     answer-on (record {
       ready = c.requires;
       ranks = c.ranked-r.ensures;
-      store_is = c.store_of-store.ensures;
+      store_is = c.store-store.ensures;
     }) c.search-found.ensures.comes_to c.search-found.ensures.bytes_between c.answered.ensures

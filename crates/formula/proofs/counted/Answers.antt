@@ -1,10 +1,12 @@
--- `formula::counted` counts what the definition counts: each of its three sums adds one exactly for the opcodes of that kind.
--- Assumes nothing.
-use Rattle.formula.proofs.CodeOpcodes.{counted-head}
+-- `formula::counted` counts what the definition counts, by the kind of the opcode. Assumes nothing.
+use Rattle.formula.proofs.CodeOpcodes.{counted-or, counted-next, counted-fixpoint}
 use Rattle.formula.proofs.counted.Goals as goal
 
-pub returns : goal.returns
-returns c =
-    let one_if = c.one_if in
-    let one-if2 = c.one_if-2 in
-    counted-head c.args.op c.args.h _ _ _ c.requires one_if.ensures.0 one-if2.ensures.0 c.one_if-3.ensures.0
+pub returns-in-Or : goal.returns-in-Or
+returns-in-Or c = counted-or c.args.op c.args.h c.requires c.in-Or.is
+
+pub returns-in-Next : goal.returns-in-Next
+returns-in-Next c = counted-next c.args.op c.args.h c.requires c.in-Next.is
+
+pub returns-in-Least : goal.returns-in-Least
+returns-in-Least c = counted-fixpoint c.args.op c.args.h c.requires c.in-Least.is

@@ -1,36 +1,17 @@
--- `formula::opcode_at` answers the questions 1 to 4: each return has the answer of one of them, and the last but one the opcode.
--- Assumes nothing.
-use native.Mathlib.Omega.{arith}
-use Rattle.formula.proofs.CodeOpcodes.{zero_opcode, unknown-opcode}
-use Rattle.formula.proofs.CodeQuestions.{none_left, not_known, too_many, no_room, room, opened}
+-- `formula::opcode_at` answers the questions 1 to 4: each return has the answer of one of them, and the last the opcode. Assumes nothing.
+use Rattle.std.proofs.Common.{sym, ◌∙◌}
+use Rattle.std.proofs.lemmas.Result.{err_from_is_err_and}
+use Rattle.formula.proofs.CodeQuestions.{none_left, no_room}
 use Rattle.formula.proofs.opcode_at.Goals as goal
 
-pub returns-then-s-at : goal.returns-then-s-at
-returns-then-s-at c = none_left _ c.args.h c.if-s-at.true
+pub returns-in_err-byte : goal.returns-in_err-byte
+returns-in_err-byte c =
+    let (why, is, same) = err_from_is_err_and c.from_residual.result c.from_residual.ensures.1 in
+    rw (is, same) (none_left c.args.s.now c.args.h _ c.in_err-byte.ensures)
 
-pub returns-then-op-lt-TRUE : goal.returns-then-op-lt-TRUE
-returns-then-op-lt-TRUE c = not_known _ c.args.h (omega arith) (zero_opcode _ c.if-op-lt-TRUE.true)
-
-pub returns-then-op-gt-GREATEST : goal.returns-then-op-gt-GREATEST
-returns-then-op-gt-GREATEST c = not_known _ c.args.h (omega arith) (unknown-opcode _ c.if-op-gt-GREATEST.true)
-
-pub returns-then-h-ge48 : goal.returns-then-h-ge48
-returns-then-h-ge48 c = too_many _ c.args.h (omega arith) (omega arith) (omega arith)
-    c.if-h-ge48.true
-
-pub counted-requires : goal.counted-requires
-counted-requires c =
-    room _ c.args.h _ _ c.passed-after.ensures c.requires (omega arith) (omega arith) c.within.ensures
-    c.if-within.true
-
-pub returns-then-within : goal.returns-then-within
-returns-then-within c =
-    opened _ c.args.h (omega arith) (omega arith) (omega arith) _ _ c.passed-after.ensures c.requires
-    (room _ c.args.h _ _ c.passed-after.ensures c.requires (omega arith) (omega arith) c.within.ensures c.if-within.true)
-    c.counted.ensures
-
-pub returns : goal.returns
-returns c =
-    no_room _ c.args.h (omega arith) (omega arith)
-    (omega arith) _ _
-    c.passed-after.ensures (omega arith) c.within.ensures c.if-within.false
+pub returns-then-not-within : goal.returns-then-not-within
+returns-then-not-within c =
+    let full = c.if-not-within.true in
+    rw c.at-then-not-within.ensures
+    (no_room c.args.s.now c.args.h c.in-Ok.op c.in_ok-byte.ensures c.in-Ok.ensures c.if-h-ge48.false
+    (sym (c.within.ensures c.args.s.now) ∙ full))

@@ -1,51 +1,34 @@
 -- `joint::asked`: each answer settles the outcome.
-use mathlib.Core.Path.{refl, sym, ◌∙◌}
-use native.Mathlib.Omega.{arith}
-use lib.ListN.{length}
-use Rattle.joint.proofs.AskedLaws.{range-placed, joint-unread, range_readable, joint-refused, joint-concluded, joint-leaves}
+use Rattle.std.proofs.Common.{refl, sym, ◌∙◌, length, arith}
+use Rattle.std.proofs.lemmas.Result.{err_from_is_err_and}
+use Rattle.joint.specs.Inner.{held}
+use Rattle.joint.proofs.CheckLaws.{held-length}
+use Rattle.joint.proofs.AskedLaws.{unread-leaves, range_readable, joint-refused, joint-concluded, joint-leaves}
 use Rattle.joint.proofs.asked.Goals as goal
 
-pub first_unread-requires : goal.first_unread-requires
-first_unread-requires c =
-    let (from, range) = c.requires in
-    range-placed c.args.node_capacity c.args.profile_capacity (length c.args.workspace.now) (length c.args.witness.now)
-    c.args.catalogue.now from
-    range
+pub returns-in_err-check : goal.returns-in_err-check
+returns-in_err-check c =
+    let p = err_from_is_err_and c.from_residual.result c.from_residual.ensures.1 in
+    rw (p.1, p.2)
+    (unread-leaves c.args.node_capacity c.args.profile_capacity (length c.args.workspace.now) (length c.args.witness.now)
+    (held c.args.formulas.now) (sym c.check.ensures ∙ c.in_err-check.was))
 
-pub returns-then-code-ne0 : goal.returns-then-code-ne0
-returns-then-code-ne0 c =
-    let (from, range) = c.requires in
-    let read = sym c.first_unread.ensures ∙ c.in-Read.is in
-    joint-leaves
+pub returns-in_err-ask_capacities : goal.returns-in_err-ask_capacities
+returns-in_err-ask_capacities c =
+    let p = err_from_is_err_and c.from_residual-in_err-ask_capacities.result c.from_residual-in_err-ask_capacities.ensures.1 in
+    rw (p.1, p.2)
+    (joint-leaves
     (joint-refused c.args.node_capacity c.args.profile_capacity (length c.args.workspace.now) (length c.args.witness.now)
-    c.args.catalogue.now
-    from range read c.ask_capacities-code.ensures (omega arith))
-    (record { answered = refl; buffered = refl; worked = refl })
+    (held c.args.formulas.now) (sym c.check.ensures ∙ c.in_ok-check.was) c.in_err-ask_capacities.ensures.err)
+    (record { answered = refl; buffered = refl; worked = refl }))
 
-pub concluded-requires : goal.concluded-requires
-concluded-requires c =
-    let (from, range) = c.requires in
-    let read = sym c.first_unread.ensures ∙ c.in-Read.is in record {
-      readable = range_readable c.args.node_capacity c.args.profile_capacity (length c.args.workspace.now) (length c.args.witness.now)
-          c.args.catalogue.now
-          from range read;
-      lends = c.ask_capacities-code.ensures.granted c.if-code-ne0.false;
-    }
+pub concluded-requires-clause-readable : goal.concluded-requires-clause-readable
+concluded-requires-clause-readable c =
+    range_readable c.args.node_capacity c.args.profile_capacity (length c.args.workspace.now) (length c.args.witness.now)
+    (held c.args.formulas.now) (sym c.check.ensures ∙ c.in_ok-check.was) (omega (arith, held-length c.args.formulas.now, c.requires))
 
-pub returns-in-Not : goal.returns-in-Not
-returns-in-Not c =
-    let (from, range) = c.requires in
-    joint-leaves
-    (joint-unread c.args.node_capacity c.args.profile_capacity (length c.args.workspace.now) (length c.args.witness.now)
-    c.args.catalogue.now
-    from range (sym c.first_unread.ensures ∙ c.in-Not.is))
-    (record { answered = refl; buffered = refl; worked = refl })
-
-pub returns-else-code-ne0 : goal.returns-else-code-ne0
-returns-else-code-ne0 c =
-    let (from, range) = c.requires in
-    let read = sym c.first_unread.ensures ∙ c.in-Read.is in
+pub returns : goal.returns
+returns c =
     joint-leaves
     (joint-concluded c.args.node_capacity c.args.profile_capacity (length c.args.workspace.now) (length c.args.witness.now)
-    c.args.catalogue.now
-    from range read c.ask_capacities-code.ensures c.if-code-ne0.false) c.concluded.ensures
+    (held c.args.formulas.now) (sym c.check.ensures ∙ c.in_ok-check.was) c.in_ok-ask_capacities.ensures.ok) c.concluded.ensures

@@ -13,8 +13,8 @@ conjoin-at-requires c =
 
 pub returns-then-at-eq-CONJUNCTION : goal.returns-then-at-eq-CONJUNCTION
 returns-then-at-eq-CONJUNCTION c =
-    let bs = held c.args.catalogue.now c.args.p in
-    let sized = sized-chosen c.args.s.has bs (accepted-sized c.requires.readable.accepted) in record {
+    let bs = held c.args.formulas.now in
+    let sized = sized-chosen c.args.taken bs (accepted-sized c.requires.readable.accepted) in record {
       told = attempted-none c.args.node_capacity c.args.profile_capacity
           (conjoins_none 776 c.conjoin-at.ensures (search rules) sized (search rules));
       kept = refl;
@@ -38,7 +38,7 @@ decided-requires c =
 
 pub returns : goal.returns
 returns c =
-    let fs = chosen c.args.s.has (held c.args.catalogue.now c.args.p) in
+    let fs = chosen c.args.taken (held c.args.formulas.now) in
     let d =
     decided_of (rest-is c.conjoin-at.new.out c.conjoin-at.result (search (rules, c.conjoin-at.ensures.long)) ∙ c.conjoin-at.ensures.is)
     c.decided.ensures in record {

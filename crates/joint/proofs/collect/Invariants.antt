@@ -1,13 +1,11 @@
--- `joint::collect`: before each turn, the places noted and the records from here on come to what the catalogue comes to. Each record takes
--- four bytes or more, so the bytes left fall.
-use Prim.Native.Nat.{◌-◌}
-use lib.ListN.{length}
-use Rattle.joint.proofs.PlaceLaws.{Collecting}
+-- `joint::collect`: before each turn, the records that were passed and those from here on are the whole catalogue's. Each record takes four
+-- bytes or more, so the bytes left fall.
+use Rattle.std.proofs.Common.{◌-◌, length}
+use Rattle.joint.proofs.CollectLaws.{Collecting}
 use Rattle.joint.proofs.collect.Given as goal
 
-abbrev pub invariant-loop-starts : goal.invariant-loop-starts
-invariant-loop-starts l =
-    Collecting l.catalogue l.at l.least (record { starts = l.starts; sizes = l.sizes; count = l.count })
+abbrev pub invariant-loop-r : goal.invariant-loop-r
+invariant-loop-r l = Collecting l.catalogue l.at l.least l.parts l.count
 
-abbrev pub decreases-loop-starts : goal.decreases-loop-starts
-decreases-loop-starts l = length l.catalogue - l.at
+abbrev pub decreases-loop-r : goal.decreases-loop-r
+decreases-loop-r l = length l.catalogue - l.at

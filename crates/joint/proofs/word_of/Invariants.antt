@@ -3,7 +3,4 @@ use Rattle.joint.proofs.WordingLaws.{Wording}
 use Rattle.joint.proofs.word_of.Given as goal
 
 abbrev pub invariant-loop-i : goal.invariant-loop-i
-invariant-loop-i l = Wording l.has l.x l.i
-
-abbrev pub decreases-loop-i : goal.decreases-loop-i
-decreases-loop-i l = l.i
+invariant-loop-i l = Wording l.taken l.x l.i

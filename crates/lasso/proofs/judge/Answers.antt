@@ -1,6 +1,6 @@
 -- `lasso::judge`: each question's refusal is the definition's, and after the last one the formula's labelling is the answer. Assumes
 -- nothing.
-use mathlib.Core.Path.{sym, ◌∙◌}
+use Rattle.std.proofs.Common.{sym, ◌∙◌}
 use Rattle.lasso.proofs.CodeAsked.{no-cycle, too_long, other_letter, no_room, judged}
 use Rattle.lasso.proofs.judge.Goals as goal
 
@@ -10,19 +10,19 @@ returns-then-letters-stem c = no-cycle _ _ _ c.if-letters-stem.true
 pub returns-then-letters-gt8192 : goal.returns-then-letters-gt8192
 returns-then-letters-gt8192 c = too_long _ _ _ c.if-letters-stem.false c.if-letters-gt8192.true
 
-pub returns-then-not-over_alphabet : goal.returns-then-not-over_alphabet
-returns-then-not-over_alphabet c =
+pub returns-then-not-all_in_alphabet : goal.returns-then-not-all_in_alphabet
+returns-then-not-all_in_alphabet c =
     other_letter _ _ _ c.if-letters-stem.false c.if-letters-gt8192.false
-    (sym c.all_in_alphabet-over_alphabet.ensures ∙ c.if-not-over_alphabet.true)
+    (sym c.all_in_alphabet.ensures ∙ c.if-not-all_in_alphabet.true)
 
 pub returns-then-words-letters : goal.returns-then-words-letters
 returns-then-words-letters c =
     no_room _ _ _ c.if-letters-stem.false c.if-letters-gt8192.false
-    (sym c.all_in_alphabet-over_alphabet.ensures ∙ c.if-not-over_alphabet.false)
+    (sym c.all_in_alphabet.ensures ∙ c.if-not-all_in_alphabet.false)
     c.if-words-letters.true
 
 pub returns : goal.returns
 returns c =
     judged _ _ _ _ _ c.if-letters-stem.false c.if-letters-gt8192.false
-    (sym c.all_in_alphabet-over_alphabet.ensures ∙ c.if-not-over_alphabet.false) c.if-words-letters.false
+    (sym c.all_in_alphabet.ensures ∙ c.if-not-all_in_alphabet.false) c.if-words-letters.false
     c.whole.ensures

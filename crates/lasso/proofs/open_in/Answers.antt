@@ -1,18 +1,12 @@
 -- `lasso::open_in` goes over the numbers inside e. The loop's invariant: those before k are gone through. A closed subformula is passed
 -- over, so what is left falls by its size. Assumes nothing.
-use native.Mathlib.Omega.{arith}
+use Rattle.std.proofs.Common.{arith}
 use Rattle.lasso.proofs.CodeWritten.{few, held_end, held-inside}
-use Rattle.lasso.proofs.CodeOpen.{inside-some, opening_first, opening_past, opening_more, opening_end}
+use Rattle.lasso.proofs.CodeOpen.{inside-some, opening_first, opening_past, opening_more}
 use Rattle.lasso.proofs.open_in.Goals as goal
 
 pub end-end-requires : goal.end-end-requires
 end-end-requires c = few _ _ c.requires
-
-pub power-mask-requires : goal.power-mask-requires
-power-mask-requires c = omega (arith, few _ _ c.requires)
-
-pub overflow_add-k : goal.overflow_add-k
-overflow_add-k c = omega (arith, few _ _ c.requires)
 
 pub loop-k-init : goal.loop-k-init
 loop-k-init c =
@@ -41,14 +35,6 @@ loop-k-preserved-then-closed c =
           (c.closed.ensures.yes c.if-closed.true) _ c.end-k.ensures;
     }
 
-pub power-mask-requires-else-closed : goal.power-mask-requires-else-closed
-power-mask-requires-else-closed c =
-    omega (arith, c.loop-k.invariant.last, c.loop-k-test.true, held_end _ _ c.requires)
-
-pub overflow_add-k-else-closed : goal.overflow_add-k-else-closed
-overflow_add-k-else-closed c =
-    omega (arith, c.loop-k.invariant.last, c.loop-k-test.true, held_end _ _ c.requires)
-
 pub loop-k-preserved : goal.loop-k-preserved
 loop-k-preserved c =
     record {
@@ -56,7 +42,3 @@ loop-k-preserved c =
       opening = opening_more _ _ _ _ c.requires c.loop-k.invariant.opening (omega (arith, c.loop-k.invariant.last, c.loop-k-test.true))
           (c.closed.ensures.no c.if-closed.false) _ c.power-mask-else-closed.ensures;
     }
-
-pub returns : goal.returns
-returns c =
-    opening_end _ _ _ _ (omega (arith, c.loop-k.invariant.last, c.loop-k-test.false)) c.loop-k.invariant.opening

@@ -1,45 +1,24 @@
--- `letters::all_in_alphabet` asks about one word after another. The loop's invariant: what those passed have come to, with those left,
--- decides.
-use mathlib.Core.Path.{◌≡◌, refl, sym, ap, ◌∙◌}
-use mathlib.Core.Bool.{Bool, ◌&&◌, and-true, and_assoc}
-use mathlib.Core.List.{List}
-use Prim.Native.Nat.{ℕ, suc, ◌+◌, ◌≤◌, ◌<◌}
-use native.Mathlib.Omega.{arith}
-use lib.ListN.{length, get_or, drop}
-use lib.Seq.{drop-cons, drop-length}
+-- `letters::all_in_alphabet` folds "and" over the words. So far it has come to whether all words that it has asked about are in the alphabet.
+use Rattle.std.proofs.Common.{◌≡◌, Bool, ◌&&◌, List, [], ◌∷◌, ◌++◌, ℕ, rules, refl, sym, ap, subst, ◌∙◌}
+use Rattle.std.proofs.Math.Bool.{and-true, and_assoc}
+use Rattle.std.proofs.lemmas.Fn.{fold_over, fronts, slice_gives}
 use Rattle.base.specs.Lists.{all}
 use Rattle.letters.specs.Alphabet.{in_alphabet}
-use Rattle.letters.proofs.all_in_alphabet.Invariants.{Left-from}
 use Rattle.letters.proofs.all_in_alphabet.Goals as goal
 
--- one more is asked about
-one_more : {words : List ℕ} {b : Bool} {i : ℕ} → Left-from words b i → i < length words → (d : Bool) → d ≡ in_alphabet (get_or words i 0)
-    → Left-from words (b && d) (i + 1)
-one_more {words} {b} {i} inv h d q =
-    record {
-      passed = omega arith;
-      decides =
-          and_assoc b d (all in_alphabet (drop (i + 1) words))
-          ∙ (λ k. b && (q k && all in_alphabet (drop (add-one k) words)))
-          ∙ ap (λ (l : List ℕ). b && all in_alphabet l) (sym (drop-cons words i 0 h))
-          ∙ inv.decides;
-    }
-  where
-    add-one : i + 1 ≡ suc i
-    add-one = omega arith
+-- one word more
+all-push : (words : List ℕ) (w : ℕ) → all in_alphabet (words ++ w ∷ []) ≡ (all in_alphabet words && in_alphabet w)
+all-push [] w = and-true (in_alphabet w)
+all-push (v ∷ words) w =
+    ap (λ b. in_alphabet v && b) (all-push words w) ∙ sym (and_assoc (in_alphabet v) (all in_alphabet words) (in_alphabet w))
 
--- none is left
-none_left : {words : List ℕ} {b : Bool} {i : ℕ} → Left-from words b i → length words ≤ i → b ≡ all in_alphabet words
-none_left {words} {b} {i} inv h =
-    sym (and-true b) ∙ ap (λ (l : List ℕ). b && all in_alphabet l) (sym (drop-length words))
-    ∙ ap (λ (n : ℕ). b && all in_alphabet (drop n words)) {x = length words} {y = i} (omega (arith, inv.passed))
-    ∙ inv.decides
-
-pub loop-i-init : goal.loop-i-init
-loop-i-init c = record { passed = omega arith; decides = refl }
-
-pub loop-i-preserved : goal.loop-i-preserved
-loop-i-preserved c = one_more c.loop-i.invariant c.loop-i-test.true _ c.in_alphabet-all.ensures
+one_more : (words : List ℕ) (w : ℕ) {so_far b : Bool} → so_far ≡ all in_alphabet words → b ≡ (so_far && in_alphabet w)
+    → b ≡ all in_alphabet (words ++ w ∷ [])
+one_more words w e q = q ∙ ap (λ b. b && in_alphabet w) e ∙ sym (all-push words w)
 
 pub returns : goal.returns
-returns c = none_left c.loop-i.invariant c.loop-i-test.false
+returns c =
+    subst (λ words. c.fold.result ≡ all in_alphabet words) c.iter.ensures.rest
+    (fold_over fronts (λ y. y.now) _ (λ words so_far. so_far ≡ all in_alphabet words) _
+    (λ words so_far w b f' e k. (one_more words w.now e (search rules), search rules))
+    _ _ _ _ (slice_gives c.iter.result) refl c.fold.ensures.ran)

@@ -1,5 +1,5 @@
 -- `letters::clashes` looks for a bit that is set in both words, neither of which has one from 16 on, and for both flags in one of them.
-use native.Mathlib.Omega.{arith}
+use Rattle.std.proofs.Common.{arith}
 use Rattle.letters.proofs.LetterLaws.{clash_and}
 use Rattle.letters.proofs.clashes.Goals as goal
 

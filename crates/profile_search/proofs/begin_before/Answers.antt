@@ -1,6 +1,6 @@
 -- `profile_search::begin_before` halves the records between those that are known to begin before the node and those that are known not to.
 use Rattle.profile_search.proofs.RisingLaws.{halved_start, halved_up, halved_down, halved_done}
-use native.Mathlib.Omega.{arith}
+use Rattle.std.proofs.Common.{arith}
 use Rattle.profile_search.proofs.begin_before.Goals as goal
 
 pub loop-low-init : goal.loop-low-init

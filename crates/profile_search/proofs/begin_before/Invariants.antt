@@ -1,5 +1,5 @@
 -- `profile_search::begin_before` halves the records between those that are known to begin before the node and those that are known not to.
-use Prim.Native.Nat.{◌-◌}
+use Rattle.std.proofs.Common.{◌-◌}
 use Rattle.profile_search.proofs.RisingLaws.{Halved}
 use Rattle.profile_search.proofs.begin_before.Given as goal
 

@@ -1,6 +1,5 @@
 -- `profile_search::get2` reads two bytes of a record, the low one first.
-use mathlib.Core.Path.{ap, ◌∙◌}
-use Prim.Native.Nat.{ℕ, ◌+◌}
+use Rattle.std.proofs.Common.{ap, ◌∙◌, ℕ, ◌+◌}
 use Rattle.profile_search.specs.Stored.{two}
 use Rattle.profile_search.proofs.get2.Goals as goal
 

@@ -1,30 +1,42 @@
 -- `profile_search::known` looks for a profile among the records of its bucket, from the last one back by their links. The invariant: the
--- records from number v on are other profiles, and record v - 1 is in the bucket.
-use mathlib.Core.Path.{sym, ◌∙◌}
-use Prim.Native.Nat.{◌-◌}
+-- records behind the one that it has come to are other profiles, and that one is in the bucket.
+use Rattle.std.proofs.Common.{ℕ, Option, ◌+◌, sym, ap, subst, ◌∙◌, arith}
+use Rattle.triples.specs.Inner.{triples_in}
+use Rattle.profile_search.specs.Stored.{link_of, profile_of}
 use Rattle.profile_search.proofs.GrowLaws.{seen-found}
-use Rattle.profile_search.proofs.BucketLaws.{passed_start, passed-less, passed-more, passed-all}
-use native.Mathlib.Omega.{arith}
+use Rattle.profile_search.proofs.BucketLaws.{ChainPassed, passed_start, passed-less, passed-more, passed-all}
 use Rattle.profile_search.proofs.known.Goals as goal
+use Rattle.profile_search.proofs.known.Goals.{In-Some}
 
-pub loop-v-init : goal.loop-v-init
-loop-v-init c =
-    passed_start c.requires.store_chained.chained _ c.requires.k_value c.head-v.ensures
+-- the invariant at the record that the search has come to
+here : (c : In-Some)
+    → ChainPassed c.args.store c.args.area.now c.args.count (profile_of c.args.header (triples_in c.args.store.n c.args.t.now))
+    (c.in-Some.p + 1)
+here c =
+    subst
+    (λ (o : Option ℕ). ChainPassed c.args.store c.args.area.now c.args.count
+    (profile_of c.args.header (triples_in c.args.store.n c.args.t.now)) (link_of o))
+    c.in-Some.is c.loop-at.invariant
+
+pub loop-at-init : goal.loop-at-init
+loop-at-init c = passed_start c.requires.store_chained.chained _ c.requires.k_value c.head-at.ensures
 
 pub returns-then-same_profile : goal.returns-then-same_profile
 returns-then-same_profile c =
-    sym (seen-found c.args.store c.args.area.now _ c.args.count (c.loop-v.v - 1) (omega arith)
+    sym (seen-found c.args.store c.args.area.now _ c.args.count c.in-Some.p
+    (let w = here (goal.at.returns-then-same_profile c).In-Some in omega (arith, w.among))
     (sym c.same_profile.ensures ∙ c.if-same_profile.true))
 
-pub loop-v-smaller : goal.loop-v-smaller
-loop-v-smaller c =
-    passed-less c.requires.store_chained.chained _ c.loop-v.invariant c.loop-v-test.true c.get2-v.ensures.0
+pub loop-at-smaller : goal.loop-at-smaller
+loop-at-smaller c =
+    let w = here (goal.at.loop-at-smaller c).In-Some in
+    omega (arith, passed-less c.requires.store_chained.chained _ c.in-Some.p w (sym c.linked-at.ensures), ap link_of c.in-Some.is)
 
-pub loop-v-preserved : goal.loop-v-preserved
-loop-v-preserved c =
-    passed-more c.requires.store_chained.chained _ c.loop-v.invariant c.loop-v-test.true c.get2-v.ensures.0
+pub loop-at-preserved : goal.loop-at-preserved
+loop-at-preserved c =
+    passed-more c.requires.store_chained.chained _ c.in-Some.p (here (goal.at.loop-at-preserved c).In-Some) (sym c.linked-at.ensures)
     (sym c.same_profile.ensures ∙ c.if-same_profile.false)
 
 pub returns : goal.returns
 returns c =
-    sym (passed-all c.requires.store_chained.chained _ c.loop-v.invariant c.loop-v-test.false)
+    sym (passed-all c.requires.store_chained.chained _ c.loop-at.invariant (omega (arith, ap link_of c.in_default.is)))

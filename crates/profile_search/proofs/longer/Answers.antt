@@ -1,13 +1,15 @@
 -- `profile_search::longer` adds one profile followed by one of one transition: none where the first does not end where the second begins.
 use Rattle.profile_search.proofs.TurnLaws.{longer-none, longer-one}
-use native.Mathlib.Omega.{arith}
+use Rattle.std.proofs.Common.{arith}
 use Rattle.profile_search.proofs.longer.Goals as goal
 
 pub returns-then-a-b : goal.returns-then-a-b
-returns-then-a-b c =
-    longer-none c.args.store c.args.count c.args.area.now c.args.p c.args.q c.header_of-a.ensures c.header_of-b.ensures
-    c.requires.store_chained.room
-    c.requires.store_chained.chained c.if-a-b.true
+returns-then-a-b c = (
+  c.requires.store_chained.room,
+  longer-none c.args.store c.args.count c.args.area.now c.args.p c.args.q c.header_of-a.ensures c.header_of-b.ensures
+      c.requires.store_chained.room
+      c.requires.store_chained.chained c.if-a-b.true,
+)
 
 pub record_start-requires-2 : goal.record_start-requires-2
 record_start-requires-2 c = (
@@ -45,7 +47,7 @@ add-requires c =
 
 pub returns : goal.returns
 returns c =
-    longer-one c.args.store c.args.count c.args.area.now c.args.p c.args.q c.header_of-a.ensures c.header_of-b.ensures c.copied-x.result
+    longer-one c.args.store c.args.count c.args.area.now c.args.p c.args.q c.header_of-a.ensures c.header_of-b.ensures c.add.result c.add.new.area c.copied-x.result
     c.copied-y.result c.joined-t.result c.requires.store_chained.fits.next c.if-a-b.false c.record_start.ensures c.record_start-2.ensures
     c.copied-x.ensures
     c.copied-y.ensures c.joined-t.ensures c.add.ensures

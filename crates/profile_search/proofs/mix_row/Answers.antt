@@ -1,17 +1,12 @@
 -- `profile_search::mix_row` takes a row of bytes into a hash. The invariant: the first g are in their sum.
-use mathlib.Core.Path.{◌≡◌, refl, ap, ◌∙◌}
-use mathlib.Core.Bool.{Bool}
-use mathlib.Core.List.{List, foldl}
-use Prim.Native.Nat.{ℕ, ◌+◌, ◌*◌, ◌%◌, ◌^◌, ◌≤◌, ◌<◌}
-use native.Mathlib.Nat.{le_antisymm, pow-zero, pow-suc, pow-le-pow_right}
-use Rattle.base.proofs.WordLaws.{word_lt}
-use native.Mathlib.Numerals.{add-one}
-use lib.ListN.{length, get_or}
+use Rattle.std.proofs.Common.{◌≡◌, ℕ, ◌+◌, ◌*◌, ◌%◌, ◌^◌, ◌≤◌, ◌<◌, Bool, List, length, get_or, refl, ap, ◌∙◌, arith, add-one, pow-suc}
+use Rattle.std.proofs.Math.Nat.{pow-zero, pow-le-pow_right}
+use mathlib.Core.List.{foldl}
 use Rattle.base.specs.Bits.{bit, word}
 use Rattle.base.proofs.NumberLaws.{values_length}
+use Rattle.base.proofs.WordLaws.{word_lt}
 use Rattle.profile_search.specs.Stored.{bits_of, row_of, mixed}
 use Rattle.profile_search.proofs.BucketLaws.{fold_more}
-use native.Mathlib.Omega.{arith}
 use Rattle.profile_search.proofs.mix_row.Goals as goal
 
 -- for twelve bytes that is below 2^42
@@ -25,17 +20,15 @@ longer sum g x {r} e q k =
     omega arith
 
 pub loop-g-init : goal.loop-g-init
-loop-g-init c = record { turn = omega arith; small = omega (arith, pow-zero 8); sum_is = refl }
+loop-g-init c = record { small = omega (arith, pow-zero 8); sum_is = refl }
 
 pub mix-sum-requires : goal.mix-sum-requires
-mix-sum-requires c =
-    low c.loop-g.sum c.loop-g.g (omega (arith, c.requires.0, c.loop-g.invariant.turn)) c.loop-g.invariant.small
+mix-sum-requires c = low c.loop-g.sum c.loop-g.g (omega (arith, c.requires.0)) c.loop-g.invariant.small
 
 pub loop-g-preserved : goal.loop-g-preserved
 loop-g-preserved c =
     let x = bits_of (get_or c.args.t.now (c.args.f * 12 + c.loop-g.g) 0) in
     record {
-      turn = omega arith;
       small = longer c.loop-g.sum c.loop-g.g x (values_length (bit (get_or c.args.t.now (c.args.f * 12 + c.loop-g.g) 0)) 0 8)
           c.mix-sum.ensures
           c.loop-g.invariant.small;
@@ -45,11 +38,11 @@ loop-g-preserved c =
 
 pub overflow_add-result : goal.overflow_add-result
 overflow_add-result c =
-    let few = low c.loop-g.sum c.loop-g.g (omega (arith, c.requires.0, c.loop-g.invariant.turn)) c.loop-g.invariant.small in
+    let few = low c.loop-g.sum c.loop-g.g (omega (arith, c.requires.0)) c.loop-g.invariant.small in
     omega (arith, c.requires.1.1)
 
 pub returns : goal.returns
 returns c =
-    let all = le_antisymm c.loop-g.invariant.turn c.loop-g-test.false in
+    let all : c.loop-g.g ≡ c.args.n = omega arith in
     let sum_is = c.loop-g.invariant.sum_is ∙ ap (λ (k : ℕ). foldl mixed 0 (row_of c.args.t.now k c.args.f)) all in
     (omega arith, ap (λ (sum : ℕ). (c.args.h + sum) % 4294967296 * 2654435761 % 4294967296) sum_is)

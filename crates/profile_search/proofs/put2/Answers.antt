@@ -1,6 +1,5 @@
 -- `profile_search::put2` puts a number into two bytes of a record. What is read is what was put.
-use mathlib.Core.Path.{ap}
-use Prim.Native.Nat.{ℕ, ◌+◌}
+use Rattle.std.proofs.Common.{ap, ℕ, ◌+◌}
 use Rattle.profile_search.proofs.RecordLaws.{put_two, put-changed}
 use Rattle.profile_search.proofs.put2.Goals as goal
 

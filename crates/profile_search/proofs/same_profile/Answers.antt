@@ -1,5 +1,5 @@
 -- `profile_search::same_profile` compares a record's nodes, and then its triples.
-use mathlib.Core.Path.{sym, ap, ◌∙◌}
+use Rattle.std.proofs.Common.{sym, ap, ◌∙◌}
 use Rattle.profile_tables.specs.Triples.{Triples, same_triples}
 use Rattle.triples.specs.Inner.{triples_in}
 use Rattle.profile_search.specs.Stored.{record_of}

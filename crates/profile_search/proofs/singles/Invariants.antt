@@ -1,6 +1,5 @@
 -- `profile_search::singles` adds the profiles of one transition, node by node. The invariant: those of the nodes before i are done.
-use mathlib.Core.List.{List}
-use Prim.Native.Nat.{ℕ, ◌-◌, ◌≤◌, ◌<◌}
+use Rattle.std.proofs.Common.{ℕ, ◌≤◌, ◌<◌, List}
 use Rattle.tableau.specs.Inner.{table_of}
 use Rattle.profile_search.specs.declared.Store.{Store}
 use Rattle.profile_search.specs.Stored.{Grown}
@@ -10,12 +9,8 @@ use Rattle.profile_search.proofs.singles.Given as goal
 -- the profiles of the nodes before i are added
 pub record Turned (rows : List ℕ) (count : ℕ) (s : Store) (a : List ℕ) (nodes : ℕ) (b : List ℕ) (all i : ℕ) : Type 0 where
   pub some : 0 < i
-  pub turn : i ≤ nodes
+  pub room : all ≤ s.capacity
   pub grown : Grown s 0 a all b (all_first (table_of rows count) count nodes a i)
 
 abbrev pub invariant-loop-i : goal.invariant-loop-i
-invariant-loop-i l =
-    Turned l.rows l.subformulas l.store l.initial.area l.nodes l.area l.all l.i
-
-abbrev pub decreases-loop-i : goal.decreases-loop-i
-decreases-loop-i l = l.nodes - l.i
+invariant-loop-i l = Turned l.tableau.table.rows l.tableau.table.count l.store l.initial.area l.nodes l.area l.all l.i

@@ -1,52 +1,24 @@
 -- `profile_search::singles_of` adds the profiles of a node's transitions. The invariant: those of the choice words below `word` are done.
-use mathlib.Core.Path.{ap, ◌∙◌}
-use native.Mathlib.Omega.{arith}
-use Prim.Native.Nat.{ℕ, ◌^◌}
+use Rattle.std.proofs.Common.{ℕ, ◌+◌, ◌^◌, ap, ◌∙◌, arith}
 use Rattle.profile_search.proofs.GrowLaws.{grown-still}
 use Rattle.profile_search.proofs.SingleLaws.{given-kept, from-kept, of_turn, of_stop, of_done}
 use Rattle.profile_search.proofs.singles_of.Goals as goal
 
-pub core_of-core-requires : goal.core_of-core-requires
-core_of-core-requires c =
-    c.requires.given.limited.formed
-
-pub unmet-unmet-requires : goal.unmet-unmet-requires
-unmet-unmet-requires c =
-    c.requires.given.limited.formed
-
-pub ors-requires : goal.ors-requires
-ors-requires c =
-    c.requires.given.limited.formed
-
-pub power-end-requires : goal.power-end-requires
-power-end-requires c =
-    omega (arith, c.ors.ensures, c.requires.given.limited.formed.few_ors)
-
 pub loop-word-init : goal.loop-word-init
 loop-word-init c =
     record {
-      turn = omega arith;
+      room = c.requires.room;
       grown = grown-still c.args.store c.args.count c.args.area.now c.requires.room c.requires.chained;
     }
 
-pub shape_of-area-then-store-all : goal.shape_of-area-then-store-all
-shape_of-area-then-store-all c =
-    c.loop-word.invariant.grown.elsewhere.same_length
-
-pub returns-then-store-all : goal.returns-then-store-all
-returns-then-store-all c =
-    let end_is = c.power-end.ensures ∙ ap (λ (n : ℕ). 2 ^ n) c.ors.ensures in
-    of_stop c.requires.given c.args.number.0 c.args.count c.loop-word.word c.power-end.result end_is c.if-store-all.true
-    c.loop-word.invariant.turn c.loop-word.invariant.grown
-
-pub single-all-requires : goal.single-all-requires
-single-all-requires c =
+pub single-requires : goal.single-requires
+single-requires c =
     let end_is = c.power-end.ensures ∙ ap (λ (n : ℕ). 2 ^ n) c.ors.ensures in record {
       node_ready = record {
         given = given-kept c.requires.given c.loop-word.invariant.grown.elsewhere (omega arith);
         node = c.requires.node;
-        room = c.if-store-all.false;
-        chained = c.loop-word.invariant.grown.chained c.if-store-all.false;
+        room = c.loop-word.invariant.room;
+        chained = c.loop-word.invariant.grown.chained c.loop-word.invariant.room;
       };
       choice_ready = record {
         set_is = from-kept c.requires.given c.loop-word.invariant.grown.elsewhere (omega arith) c.args.number.0 c.requires.node
@@ -60,17 +32,26 @@ single-all-requires c =
 
 pub loop-word-preserved : goal.loop-word-preserved
 loop-word-preserved c =
+    let told = c.in_ok-all.ensures in
     record {
-      turn = omega (arith, c.loop-word-test.true);
-      grown = of_turn c.requires.given c.args.number.0 c.args.count c.loop-word.word c.requires.node c.if-store-all.false
-          c.loop-word.invariant.grown c.single-all.ensures;
+      room = told.0;
+      grown = of_turn c.requires.given c.args.number.0 c.args.count c.loop-word.word c.requires.node c.loop-word.invariant.room
+          c.loop-word.invariant.grown told.1;
     }
 
-pub shape_of-area : goal.shape_of-area
-shape_of-area c = c.loop-word.invariant.grown.elsewhere.same_length
+pub returns-in_err-all : goal.returns-in_err-all
+returns-in_err-all c =
+    let end_is = c.power-end.ensures ∙ ap (λ (n : ℕ). 2 ^ n) c.ors.ensures in
+    rw c.from_residual.ensures
+    (of_stop c.requires.given c.args.number.0 c.args.count (c.loop-word.word + 1) c.power-end.result end_is (omega arith)
+    (omega (arith, c.loop-word-test.true))
+    (of_turn c.requires.given c.args.number.0 c.args.count c.loop-word.word c.requires.node c.loop-word.invariant.room
+    c.loop-word.invariant.grown c.in_err-all.ensures))
 
 pub returns : goal.returns
 returns c =
-    let end_is = c.power-end.ensures ∙ ap (λ (n : ℕ). 2 ^ n) c.ors.ensures in
-    of_done c.requires.given c.args.number.0 c.args.count c.loop-word.word c.power-end.result end_is c.loop-word.invariant.turn
-    c.loop-word-test.false c.loop-word.invariant.grown
+    let end_is = c.power-end.ensures ∙ ap (λ (n : ℕ). 2 ^ n) c.ors.ensures in (
+      c.loop-word.invariant.room,
+      of_done c.requires.given c.args.number.0 c.args.count c.loop-word.word c.power-end.result end_is (omega arith)
+          c.loop-word-test.false c.loop-word.invariant.grown,
+    )

@@ -1,6 +1,5 @@
 -- `profile_search::singles_of` adds the profiles of a node's transitions. The invariant: those of the choice words below `word` are done.
-use mathlib.Core.List.{List}
-use Prim.Native.Nat.{ℕ, ◌-◌, ◌≤◌}
+use Rattle.std.proofs.Common.{ℕ, ◌≤◌, List}
 use Rattle.tableau.specs.Inner.{table_of}
 use Rattle.profile_search.specs.declared.Store.{Store}
 use Rattle.profile_search.specs.Stored.{Grown}
@@ -8,13 +7,9 @@ use Rattle.profile_search.proofs.SingleLaws.{of_first}
 use Rattle.profile_search.proofs.singles_of.Given as goal
 
 -- the profiles of the choice words below `word` are added
-pub record Turned (rows : List ℕ) (count : ℕ) (s : Store) (a : List ℕ) (nodes i had end : ℕ) (b : List ℕ) (all word : ℕ) : Type 0 where
-  pub turn : word ≤ end
+pub record Turned (rows : List ℕ) (count : ℕ) (s : Store) (a : List ℕ) (nodes i had : ℕ) (b : List ℕ) (all word : ℕ) : Type 0 where
+  pub room : all ≤ s.capacity
   pub grown : Grown s had a all b (of_first (table_of rows count) count s nodes a i had word)
 
 abbrev pub invariant-loop-word : goal.invariant-loop-word
-invariant-loop-word l =
-    Turned l.rows l.subformulas l.store l.initial.area l.nodes l.number.0 l.count l.end l.area l.all l.word
-
-abbrev pub decreases-loop-word : goal.decreases-loop-word
-decreases-loop-word l = l.end - l.word
+invariant-loop-word l = Turned l.tableau.table.rows l.tableau.table.count l.store l.initial.area l.nodes l.number.0 l.count l.area l.all l.word

@@ -1,5 +1,5 @@
 -- `relation::relate` puts one bit into one word.
-use native.Mathlib.Omega.{arith}
+use Rattle.std.proofs.Common.{arith}
 use Rattle.relation.proofs.RelationLaws.{related_more}
 use Rattle.relation.proofs.relate.Goals as goal
 

@@ -1,5 +1,4 @@
 -- `safety::first_least` goes through the rows, with the place of each operator's first byte.
-use Prim.Native.Nat.{◌-◌}
 use native.Mathlib.Omega.{arith}
 use Rattle.tableau.proofs.RowLaws.{placed}
 use Rattle.safety.proofs.SeekLaws.{seek_start, seek_found, seek_next, seek_end}
@@ -9,7 +8,7 @@ pub loop-e-init : goal.loop-e-init
 loop-e-init c = seek_start _ _
 
 pub operator_at-o-requires : goal.operator_at-o-requires
-operator_at-o-requires c = placed c.requires c.loop-e-test.true
+operator_at-o-requires c = placed c.args.t.now.formed c.loop-e-test.true
 
 pub returns-then-is_least : goal.returns-then-is_least
 returns-then-is_least c =
@@ -18,7 +17,7 @@ returns-then-is_least c =
 
 pub overflow_add-place : goal.overflow_add-place
 overflow_add-place c =
-    omega (arith, c.loop-e.invariant.low, c.loop-e.invariant.passed, c.width-place.ensures.1, c.requires.few)
+    omega (arith, c.loop-e.invariant.low, c.loop-e.invariant.passed, c.width-place.ensures.1, c.args.t.now.formed.few)
 
 pub loop-e-preserved : goal.loop-e-preserved
 loop-e-preserved c =

@@ -1,6 +1,5 @@
 -- `safety::from_many` goes on with the search, where the relation has all blocks; asks 14; and goes on from the nodes.
-use native.Mathlib.Omega.{arith}
-use Prim.Native.Nat.{ℕ}
+use Rattle.std.proofs.Common.{ℕ, ◌+◌, ◌<◌, arith}
 use lib.ListN.{length-replicate}
 use Rattle.relation.proofs.RelationLaws.{none_related}
 use Rattle.relation.specs.Relation.{relation_words}
@@ -18,29 +17,27 @@ widen-requires c =
       unrelated = none_related relation_words;
     }
 
-pub go_on-nodes-requires : goal.go_on-nodes-requires
-go_on-nodes-requires c =
+pub go_on-requires : goal.go_on-requires
+go_on-requires c =
     record {
-      formed = c.requires.formed;
       from_le_to = (omega (arith, c.requires.halfway.many, c.requires.halfway.growing.room.fits), c.requires.halfway.many);
       growing = c.requires.halfway.growing;
     }
 
-pub returns-then-node_capacity-nodes : goal.returns-then-node_capacity-nodes
-returns-then-node_capacity-nodes c =
-    λ a f. came_14 c.requires.formed (c.go_on-nodes.ensures.full c.if-node_capacity-nodes.true a f) c.if-node_capacity-nodes.true
+pub returns-in_default : goal.returns-in_default
+returns-in_default c =
+    let more : c.args.node_capacity < c.args.node_capacity + 1 = omega arith in
+    λ a f. came_14 c.args.t.now.formed (c.in_default.ensures.gone_on.full more a f) more
 
 pub from_nodes-requires : goal.from_nodes-requires
 from_nodes-requires c =
-    let widen = c.widen.ensures in
     let half = c.requires.halfway in
-    let few = half.growing.room.few in record {
-      formed = c.requires.formed;
-      nodes_ready = gone-ready c.requires.formed c.go_on-nodes.ensures half.found c.if-node_capacity-nodes.false
-          c.if-node_capacity-nodes.false (λ j h. omega arith) (steps_widened widen half.noted) few (search rules)
-          (search rules) (search rules) half.fits;
+    let fits = c.in-Some.ensures.fits in
+    record {
+      nodes_ready = gone-ready c.args.t.now.formed c.in-Some.ensures.gone_on half.found fits fits (λ j h. omega arith)
+          (steps_widened c.widen.ensures half.noted) half.growing.room.few (search rules) (search rules) (search rules) half.fits;
     }
 
 pub returns : goal.returns
 returns c =
-    λ a f. came_on c.requires.formed (gone_held c.go_on-nodes.ensures f (λ h. h)) c.if-node_capacity-nodes.false c.from_nodes.ensures
+    λ a f. came_on c.args.t.now.formed (gone_held c.in-Some.ensures.gone_on f (λ h. h)) c.in-Some.ensures.fits c.from_nodes.ensures

@@ -1,8 +1,7 @@
 -- `safety::from_root` has the search go from the root over the first 64 nodes, asks 14, and goes on from the nodes: from all, or from where
 -- the search is.
 use mathlib.Core.List.{List}
-use native.Mathlib.Omega.{arith}
-use Prim.Native.Nat.{ℕ}
+use Rattle.std.proofs.Common.{ℕ, ◌+◌, ◌<◌, arith}
 use lib.ListN.{replicate, length-replicate}
 use Rattle.relation.proofs.RelationLaws.{none_related}
 use Rattle.relation.specs.Relation.{block_words}
@@ -21,10 +20,9 @@ first_block j h = omega (arith, length-replicate {A = ℕ} block_words 0)
 first-none : (rows : List ℕ) (count : ℕ) (area : List ℕ) → StepsBefore rows count 0 1 area (replicate {A = ℕ} block_words 0)
 first-none rows count area = steps_start rows count 1 area _ (none_related block_words)
 
-pub search_from_root-nodes-requires : goal.search_from_root-nodes-requires
-search_from_root-nodes-requires c =
+pub search_from_root-requires : goal.search_from_root-requires
+search_from_root-requires c =
     record {
-      formed = c.requires.formed;
       node_room = record {
         fits = c.requires.lent.some_nodes;
         few = c.requires.lent.few_nodes;
@@ -34,52 +32,48 @@ search_from_root-nodes-requires c =
       in_bounds = omega arith;
     }
 
-pub returns-then-node_capacity-nodes : goal.returns-then-node_capacity-nodes
-returns-then-node_capacity-nodes c =
-    came_14 c.requires.formed (c.search_from_root-nodes.ensures.gone.full c.if-node_capacity-nodes.true c.args.area.now
-    c.search_from_root-nodes.ensures.begun) c.if-node_capacity-nodes.true
+pub returns-in_default : goal.returns-in_default
+returns-in_default c =
+    let more : c.args.node_capacity < c.args.node_capacity + 1 = omega arith in
+    let searched = c.in_default.ensures.searched in
+    came_14 c.args.t.now.formed (searched.gone.full more c.args.area.now searched.begun) more
 
 pub from_nodes-requires : goal.from_nodes-requires
 from_nodes-requires c =
+    let searched = c.in-Some.ensures.searched in
     record {
-      formed = c.requires.formed;
-      nodes_ready = gone-ready c.requires.formed c.search_from_root-nodes.ensures.gone c.search_from_root-nodes.ensures.begun
-          c.if-node_capacity-nodes.false c.if-nodes-le64.true first_block (first-none _ _ _) c.requires.lent.few_nodes (search rules)
-          (search rules) (search rules) c.requires.lent.buffer_fits;
+      nodes_ready = gone-ready c.args.t.now.formed searched.gone searched.begun c.in-Some.ensures.fits c.if-nodes-le64.true
+          first_block (first-none _ _ _) c.requires.lent.few_nodes (search rules) (search rules) (search rules) c.requires.lent.buffer_fits;
     }
 
 pub returns-then-nodes-le64 : goal.returns-then-nodes-le64
 returns-then-nodes-le64 c =
-    came_on c.requires.formed (gone_held c.search_from_root-nodes.ensures.gone c.search_from_root-nodes.ensures.begun
-    (λ h. c.if-nodes-le64.true)) c.if-node_capacity-nodes.false c.from_nodes.ensures
+    let searched = c.in-Some.ensures.searched in
+    came_on c.args.t.now.formed (gone_held searched.gone searched.begun (λ h. c.if-nodes-le64.true)) c.in-Some.ensures.fits
+    c.from_nodes.ensures
 
 pub from_many-requires : goal.from_many-requires
 from_many-requires c =
+    let searched = c.in-Some.ensures.searched in
+    let fits = c.in-Some.ensures.fits in
     record {
-      formed = c.requires.formed;
       halfway = record {
         many = omega arith;
         growing =
             record {
-              room = record {
-                fits = c.if-node_capacity-nodes.false;
-                few = c.requires.lent.few_nodes;
-                enough = search rules;
-              };
-              marked = c.search_from_root-nodes.ensures.gone.marked c.if-node_capacity-nodes.false;
+              room = record { fits = fits; few = c.requires.lent.few_nodes; enough = search rules };
+              marked = searched.gone.marked fits;
               notes = search rules;
             };
         was = c.args.area.now;
-        found = gone-found c.search_from_root-nodes.ensures.gone c.search_from_root-nodes.ensures.begun c.if-node_capacity-nodes.false
-            (omega arith);
+        found = gone-found searched.gone searched.begun fits (omega arith);
         long = search rules;
-        noted = gone_steps c.search_from_root-nodes.ensures.gone c.if-node_capacity-nodes.false (omega arith) first_block
-            (first-none _ _ _);
+        noted = gone_steps searched.gone fits (omega arith) first_block (first-none _ _ _);
         fits = c.requires.lent.buffer_fits;
       };
     }
 
 pub returns : goal.returns
 returns c =
-    c.from_many.ensures c.args.area.now (gone-found c.search_from_root-nodes.ensures.gone c.search_from_root-nodes.ensures.begun
-    c.if-node_capacity-nodes.false (omega arith))
+    let searched = c.in-Some.ensures.searched in
+    c.from_many.ensures c.args.area.now (gone-found searched.gone searched.begun c.in-Some.ensures.fits (omega arith))

@@ -1,40 +1,47 @@
 -- `substitution::splice`: one byte after another over zeros. Assumes nothing.
-use mathlib.Core.Path.{refl, ◌∙◌}
-use native.Mathlib.Omega.{arith}
-use lib.ListN.{set}
+use Rattle.std.proofs.Common.{◌≡◌, refl, ◌∙◌, ◌-◌, length, take, drop, length-drop, arith}
+use Rattle.std.proofs.Math.Seq.{take_all}
+use Rattle.std.proofs.lemmas.List.{length_push}
+use Rattle.std.proofs.lemmas.Iterator.{YieldsList-from_slice, YieldsList-from_take}
+use Rattle.std.proofs.lemmas.Iterator.Consumers.{YieldsList-from_chain, YieldsList-turn, YieldsList-end}
 use Rattle.substitution.specs.Inner.{spliced_at}
 use Rattle.substitution.proofs.SpliceLaws.{seen-length, written-more, written_all}
-use borrow.Author.Rules.{rules}
 use Rattle.substitution.proofs.splice.Goals as goal
 
-pub loop-i-init : goal.loop-i-init
-loop-i-init c = record { is = refl; below = omega arith }
-
-pub spliced_byte-requires : goal.spliced_byte-requires
-spliced_byte-requires c =
-    let few = seen-length (spliced_at c.args.span c.args.old.now c.args.new.now) in
-    record { spans = c.requires; i_in_bounds = omega (arith, few, c.spliced_count-count.ensures) }
-
-pub bounds-bytes-i : goal.bounds-bytes-i
-bounds-bytes-i c =
-    search (rules, seen-length (spliced_at c.args.span c.args.old.now c.args.new.now), c.spliced_count-count.ensures)
-
-pub loop-i-preserved : goal.loop-i-preserved
-loop-i-preserved c =
-    let bytes = spliced_at c.args.span c.args.old.now c.args.new.now in
-    let few = seen-length bytes in
+-- The iterator gives the three parts in their order, 97 bytes of them at most.
+pub loop-byte-init : goal.loop-byte-init
+loop-byte-init c =
+    let old = c.args.old.now in
+    let behind = drop c.args.span.to old in
+    let rest : take (length old - c.args.span.to) behind ≡ behind =
+    take_all (length old - c.args.span.to) behind (omega (arith, length-drop c.args.span.to old)) in
     record {
-      is =
-          (λ j. set (c.loop-i.invariant.is j) c.loop-i.i (c.spliced_byte.ensures j))
-          ∙ written-more bytes c.loop-i.i (omega (arith, few, c.spliced_count-count.ensures))
-          (omega (arith, few, c.spliced_count-count.ensures));
-      below = omega arith;
+      counts = refl;
+      is = refl;
+      road = YieldsList-from_take 97
+          (YieldsList-from_chain (YieldsList-from_slice (take c.args.span.from old) (cc))
+          (YieldsList-from_chain (YieldsList-from_slice c.args.new.now (cc)) (YieldsList-from_slice behind (cc)) (cc) (cc))
+          (cc) (cc)) (cc);
     }
+
+pub bounds-bytes-count : goal.bounds-bytes-count
+bounds-bytes-count c =
+    let t = YieldsList-turn c.loop-byte.invariant.road c.loop-byte.yielded _ c.loop-byte.yielded_by _ _ c.in-Some.byte c.in-Some.is
+    c.next.ensures.steps in
+    omega (arith, c.loop-byte.invariant.counts, seen-length (spliced_at c.args.span c.args.old.now c.args.new.now), t.0)
+
+pub loop-byte-preserved : goal.loop-byte-preserved
+loop-byte-preserved c =
+    let spliced = spliced_at c.args.span c.args.old.now c.args.new.now in
+    let t = YieldsList-turn c.loop-byte.invariant.road c.loop-byte.yielded _ c.loop-byte.yielded_by _ _ c.in-Some.byte c.in-Some.is
+    c.next.ensures.steps in
+    let more = written-more spliced t in
+    let n = length_push c.loop-byte.yielded c.in-Some.byte in
+    record { counts = omega (arith, c.loop-byte.invariant.counts, n); is = cc; road = c.loop-byte.invariant.road }
 
 pub returns : goal.returns
 returns c =
-    let bytes = spliced_at c.args.span c.args.old.now c.args.new.now in
-    record {
-      count = c.spliced_count-count.ensures;
-      is = c.loop-i.invariant.is ∙ written_all bytes c.loop-i.i (omega (arith, c.loop-i.invariant.below, c.spliced_count-count.ensures));
-    }
+    let spliced = spliced_at c.args.span c.args.old.now c.args.new.now in
+    let t = YieldsList-end c.loop-byte.invariant.road c.loop-byte.yielded _ c.loop-byte.yielded_by _ _ c.in-None.is
+    c.next.ensures.steps in
+    record { count = c.loop-byte.invariant.counts ∙ t.1; is = c.loop-byte.invariant.is ∙ written_all spliced t.1 }

@@ -1,25 +1,20 @@
 -- `substitution::substitute`: the old formula is read first. Assumes nothing.
-use mathlib.Core.Path.{ap, ◌∙◌}
+use mathlib.Core.Path.{◌∙◌}
 use Rattle.formula.proofs.RowLaws.{outcome-told}
-use Rattle.substitution.specs.Contract.{turned_away}
-use Rattle.substitution.specs.declared.Answer.TheVariants.{Unread}
-use Rattle.substitution.specs.declared.Source.TheVariants.{Old}
-use Rattle.substitution.proofs.OutcomeLaws.{accepted_as, refused-table, old_told}
+use Rattle.substitution.proofs.OutcomeLaws.{accepted_as, old_told}
 use Rattle.substitution.proofs.substitute.Goals as goal
 
 pub with_new-requires : goal.with_new-requires
 with_new-requires c =
-    accepted_as c.args.old.now c.read-r.result c.read-r.ensures.outcome c.read-r.ensures.determined c.in-Accepted.is
+    accepted_as c.args.old.now c.read.result c.read.ensures.outcome c.read.ensures.determined c.in-Ok.is
 
-pub returns-in-Refused : goal.returns-in-Refused
-returns-in-Refused c =
+pub returns-in-Err : goal.returns-in-Err
+returns-in-Err c =
     c.unread.ensures
-    ∙ ap (turned_away (Unread Old _)) (refused-table c.args.old.now c.read-r.result c.read-r.ensures.outcome
-    c.read-r.ensures.determined c.in-Refused.is)
-    ∙ old_told c.args.old.now c.args.e c.args.new.now (outcome-told c.args.old.now c.read-r.result c.read-r.ensures.outcome c.in-Refused.is)
+    ∙ old_told c.args.old.now c.args.e c.args.new.now (outcome-told c.args.old.now c.read.result c.read.ensures.outcome c.in-Err.is)
 
-pub returns-in-Accepted : goal.returns-in-Accepted
-returns-in-Accepted c =
+pub returns-in-Ok : goal.returns-in-Ok
+returns-in-Ok c =
     c.with_new.ensures
     ∙ old_told c.args.old.now c.args.e c.args.new.now
-    (outcome-told c.args.old.now c.read-r.result c.read-r.ensures.outcome c.in-Accepted.is)
+    (outcome-told c.args.old.now c.read.result c.read.ensures.outcome c.in-Ok.is)

@@ -1,8 +1,5 @@
 -- `tableau::closed_by` lets an or wait, and follows the moves of any other operator, for which any choice serves.
-use mathlib.Core.Path.{◌≡◌, refl, sym, ap, ◌∙◌}
-use Prim.Native.Nat.{ℕ}
-use native.Mathlib.Omega.{arith}
-use lib.Bits.{bit_or}
+use Rattle.std.proofs.Common.{◌≡◌, refl, sym, ap, ◌∙◌, ℕ, arith, bit_or}
 use Rattle.formula.specs.Rows.{operator_at}
 use Rattle.tableau.proofs.CoreLaws.{moves-none}
 use Rattle.tableau.proofs.closed_by.Goals as goal

@@ -1,18 +1,20 @@
--- `tableau::find` tells where a word stands among the first `known`, by looking at one after the other (`Looking`).
-use mathlib.Core.Path.{sym, ◌∙◌}
-use Rattle.tableau.proofs.AreaLaws.{look_start, look_next, look_found, look_absent}
+-- `tableau::find` tells where a word stands among the first `known`, by looking at one after the other.
+use Rattle.std.proofs.Common.{ℕ, ◌*◌, eqb, refl, sym, ap, ◌∙◌, zero-add, arith, rules, tests}
+use Rattle.std.proofs.lemmas.Iterator.{YieldsList-from_range, YieldsList-from_map}
+use Rattle.std.proofs.lemmas.Iterator.Adapters.{option_map_id}
+use Rattle.std.proofs.lemmas.Iterator.Consumers.{YieldsList-at}
+use Rattle.std.proofs.lemmas.Iterator.Search.{find_from_yields_List}
+use Rattle.tableau.specs.Area.{eight}
+use Rattle.tableau.specs.declared.NodeNumber.{NodeNumber}
+use Rattle.tableau.proofs.AreaLaws.{place, number_if, found_from}
 use Rattle.tableau.proofs.find.Goals as goal
 
-pub loop-i-init : goal.loop-i-init
-loop-i-init c = look_start _ _ _
-
-pub returns-then-node-set : goal.returns-then-node-set
-returns-then-node-set c =
-    look_found c.loop-i.invariant c.loop-i-test.true (sym c.node.ensures ∙ c.if-node-set.true)
-
-pub loop-i-preserved : goal.loop-i-preserved
-loop-i-preserved c =
-    look_next c.loop-i.invariant c.loop-i-test.true (λ q. c.if-node-set.false (c.node.ensures ∙ q))
-
 pub returns : goal.returns
-returns c = look_absent c.loop-i.invariant c.loop-i-test.false
+returns c =
+    sym (option_map_id c.find.result)
+    ∙ find_from_yields_List (λ (n : NodeNumber). eqb (eight c.args.area.now (8 * n.0)) c.args.set) _ _ c.find.result c.find.ensures.ran
+    (YieldsList-from_map _ (λ (i : ℕ). record { 0 = i }) (YieldsList-at c.map.ensures.source
+    (YieldsList-from_range 0 c.args.known c.args.known refl (omega arith))) c.map.ensures.closure (λ x r q k. search (rules, tests)))
+    (λ x b q k. search (rules, tests))
+    ∙ found_from c.args.area.now c.args.set 0 c.args.known
+    ∙ ap (λ (k : ℕ). number_if (place c.args.area.now c.args.known c.args.set) c.args.known k) (zero-add _)

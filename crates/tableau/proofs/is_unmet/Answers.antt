@@ -1,22 +1,11 @@
--- `tableau::is_unmet` is the definition's test: the word has none of the bits for its picks at the first j ors.
-use native.Mathlib.Omega.{arith}
-use Rattle.tableau.proofs.UnmetLaws.{none_more, some-unmet, none-unmet}
+-- `tableau::is_unmet` is the definition's test: `any` over the ors' numbers asks the same of each.
+use Rattle.std.proofs.Common.{refl, rules, tests}
+use Rattle.std.proofs.lemmas.Iterator.{YieldsList-from_range}
+use Rattle.std.proofs.lemmas.Iterator.Search.{any_from_yields_List}
+use Rattle.tableau.proofs.UnmetLaws.{hit}
 use Rattle.tableau.proofs.is_unmet.Goals as goal
-
-pub loop-j-init : goal.loop-j-init
-loop-j-init c = record { passed = omega arith; none = λ i h. absurd (omega arith) }
-
-pub returns-then-choice_word-unmet-ne0 : goal.returns-then-choice_word-unmet-ne0
-returns-then-choice_word-unmet-ne0 c =
-    some-unmet c.args.unmet.now c.args.choice_word c.loop-j-test.true c.if-choice_word-unmet-ne0.true
-
-pub loop-j-preserved : goal.loop-j-preserved
-loop-j-preserved c =
-    record {
-      passed = omega arith;
-      none = none_more c.args.unmet.now c.args.choice_word c.loop-j.invariant.none c.if-choice_word-unmet-ne0.false;
-    }
 
 pub returns : goal.returns
 returns c =
-    none-unmet c.args.unmet.now c.args.choice_word (λ i h. c.loop-j.invariant.none i (omega arith))
+    any_from_yields_List (hit c.args.unmet.now c.args.choice_word) _ _ _ c.any.ensures.ran
+    (YieldsList-from_range 0 12 12 refl refl) (λ x b q k. search (rules, tests))

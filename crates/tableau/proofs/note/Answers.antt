@@ -1,6 +1,5 @@
 -- `tableau::note` writes the two numbers of a note.
-use native.Mathlib.Omega.{arith}
-use lib.ListN.{length-set}
+use Rattle.std.proofs.Common.{arith, length-set}
 use Rattle.tableau.proofs.note.Goals as goal
 
 pub bounds-origins-j-2 : goal.bounds-origins-j-2

@@ -1,35 +1,24 @@
 -- `traces::passed` passes on row by row. The invariant: what is left of the definition's sweep leads to its end.
-use native.Mathlib.Omega.{arith}
-use Rattle.tableau.proofs.RowLaws.{placed}
+use Rattle.std.proofs.Common.{arith}
 use Rattle.traces.proofs.RankLaws.{fix-small}
 use Rattle.traces.proofs.MarkLaws.{swept-start, swept-more, swept_end}
 use Rattle.traces.proofs.passed.Goals as goal
 
 pub loop-e-init : goal.loop-e-init
-loop-e-init c =
-    record {
-      passed = omega arith;
-      sweeping = swept-start c.args.rows.now c.args.count c.args.choice c.args.marks.now;
-    }
+loop-e-init c = swept-start c.args.tableau.now.table.rows c.args.tableau.now.table.count c.args.choice c.args.marks.now
 
-pub passing-requires : goal.passing-requires
-passing-requires c =
-    let small = fix-small c.requires.limited c.loop-e.e c.loop-e-test.true in record {
-      placed = placed c.requires.limited.formed c.loop-e-test.true;
-      s_bound = λ o. omega (arith, c.requires.ranked c.loop-e.e c.loop-e-test.true, small o);
-    }
+pub passing-requires-clause-s_bound : goal.passing-requires-clause-s_bound
+passing-requires-clause-s_bound c =
+    let small = fix-small c.requires.limited c.loop-e.e c.loop-e-test.true in
+    λ o. omega (arith, c.requires.ranked c.loop-e.e c.loop-e-test.true, small o)
 
 pub loop-e-preserved : goal.loop-e-preserved
 loop-e-preserved c =
-    record {
-      passed = omega arith;
-      sweeping =
-          swept-more c.args.rows.now c.args.count c.args.choice c.args.marks.now c.loop-e.e _ c.loop-e.marks
-          c.passing.new.marks c.loop-e-test.true c.requires.limited.formed.few
-          (c.requires.ranked c.loop-e.e c.loop-e-test.true) c.loop-e.invariant.sweeping c.passing.ensures;
-    }
+    swept-more c.args.tableau.now.table.rows c.args.tableau.now.table.count c.args.choice c.args.marks.now c.loop-e.e _ c.loop-e.marks
+    c.passing.new.marks c.loop-e-test.true c.requires.limited.formed.few
+    (c.requires.ranked c.loop-e.e c.loop-e-test.true) c.loop-e.invariant c.passing.ensures
 
 pub returns : goal.returns
 returns c =
-    swept_end c.args.rows.now c.args.count c.args.choice c.args.marks.now c.loop-e.e c.loop-e.marks
-    c.loop-e-test.false c.loop-e.invariant.sweeping
+    swept_end c.args.tableau.now.table.rows c.args.tableau.now.table.count c.args.choice c.args.marks.now c.loop-e.e c.loop-e.marks
+    c.loop-e-test.false c.loop-e.invariant

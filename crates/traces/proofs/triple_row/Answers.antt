@@ -1,50 +1,36 @@
 -- `traces::triple_row` fills row f next by next. The invariant: the nexts passed are in their columns, and the other rows stay.
-use mathlib.Core.Path.{refl, sym, ◌∙◌}
-use native.Mathlib.Omega.{arith}
+use Rattle.std.proofs.Common.{◌+◌, refl, sym, subst, ◌∙◌, arith}
+use Rattle.traces.specs.Inner.{RowFilled}
 use Rattle.traces.proofs.RankLaws.{next_small}
-use Rattle.traces.proofs.NextLaws.{row_more}
+use Rattle.traces.proofs.NextLaws.{row-put, row-skip}
 use Rattle.traces.proofs.triple_row.Goals as goal
+use Rattle.traces.proofs.triple_row.Goals.{then-is_next, else-is_next}
 
 pub loop-e-init : goal.loop-e-init
-loop-e-init c =
-    record {
-      passed = omega arith;
-      row = record { filled = λ d h. absurd (omega arith); others = λ i. ((λ h. refl), λ h. refl) };
-    }
+loop-e-init c = record { filled = λ d h. absurd (omega arith); others = λ i. ((λ h. refl), λ h. refl) }
 
-pub is_next-on-requires : goal.is_next-on-requires
-is_next-on-requires c = omega (arith, c.requires.nexts_ranked.limited.formed.few)
-
-pub bounds-next-e : goal.bounds-next-e
-bounds-next-e c = omega (arith, c.requires.nexts_ranked.limited.formed.few)
-
-pub bounds-marks-e : goal.bounds-marks-e
-bounds-marks-e c = omega (arith, c.requires.nexts_ranked.limited.formed.few)
-
-pub put_if-requires : goal.put_if-requires
-put_if-requires c =
-    let small = next_small c.requires.nexts_ranked.limited c.loop-e.e c.loop-e-test.true in record {
-      f_bound = omega arith;
-      g_in_bounds = λ o. omega (
-        arith,
-        c.put_if-arg-1.given.0.1,
-        c.wide.ensures,
-        c.requires.nexts_ranked.ranked c.loop-e.e c.loop-e-test.true,
-        small (sym c.is_next-on.ensures ∙ o),
-      );
-    }
+pub bounds-t-f : goal.bounds-t-f
+bounds-t-f c =
+    let small = next_small c.requires.nexts_ranked.limited c.loop-e.e c.loop-e-test.true (sym c.is_next.ensures ∙ c.if-is_next.true) in
+    omega (arith, c.requires.nexts_ranked.ranked c.loop-e.e c.loop-e-test.true, small)
 
 pub loop-e-preserved : goal.loop-e-preserved
 loop-e-preserved c =
-    record {
-      passed = omega arith;
-      row =
-          row_more c.args.rows.now c.loop-e.e c.args.f c.args.marks.now c.args.t.now c.loop-e.t
-          c.loop-e.invariant.row c.wide.result c.put_if.new.t c.put_if-arg-1.given.0.1
-          (c.wide.ensures ∙ c.requires.nexts_ranked.ranked c.loop-e.e c.loop-e-test.true) c.requires.f_bound
-          (next_small c.requires.nexts_ranked.limited c.loop-e.e c.loop-e-test.true) c.is_next-on.ensures c.put_if.ensures;
-    }
+    let rows = c.args.tableau.now.table.rows in
+    let e = c.loop-e.e in
+    let marks = c.args.marks.now in
+    elim c.if-is_next.branch [
+      | then-is_next w ↦
+          let is = sym c.is_next.ensures ∙ w.if-is_next.true in
+          subst (RowFilled rows marks (e + 1) c.args.f c.args.t.now) (sym w.t-is)
+          (row-put rows e c.args.f marks c.args.t.now c.loop-e.t c.loop-e.invariant w.from.result
+          (w.from.ensures ∙ c.requires.nexts_ranked.ranked e c.loop-e-test.true) (omega arith) is c.requires.f_bound
+          (next_small c.requires.nexts_ranked.limited e c.loop-e-test.true is))
+      | else-is_next w ↦
+          subst (RowFilled rows marks (e + 1) c.args.f c.args.t.now) (sym w.t-is)
+          (row-skip rows e c.args.f marks c.args.t.now c.loop-e.t c.loop-e.invariant (sym c.is_next.ensures ∙ w.if-is_next.false))
+    ]
 
 pub returns : goal.returns
 returns c =
-    record { filled = λ d h. c.loop-e.invariant.row.filled d (omega arith); others = c.loop-e.invariant.row.others }
+    record { filled = λ d h. c.loop-e.invariant.filled d (omega arith); others = c.loop-e.invariant.others }

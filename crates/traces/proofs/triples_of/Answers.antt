@@ -1,14 +1,11 @@
 -- `traces::triples_of` goes over the rows. The invariant: the nexts passed have their rows, and the rows after these are empty.
-use native.Mathlib.Omega.{arith}
-use lib.ListN.{get_or-replicate}
+use Rattle.std.proofs.Common.{arith}
+use Rattle.std.proofs.Math.ListN.{get_or-replicate}
 use Rattle.traces.proofs.NextLaws.{all_done}
 use Rattle.traces.proofs.triples_of.Goals as goal
 
 pub loop-e-init : goal.loop-e-init
-loop-e-init c = record {
-  passed = omega arith;
-  done = record { done = λ v w nv cw i d h. absurd (omega arith); empty = λ i h k. get_or-replicate 144 i 0 0 k };
-}
+loop-e-init c = record { done = λ v w nv cw i d h. absurd (omega arith); empty = λ i h k. get_or-replicate 144 i 0 0 k }
 
 pub with_row-requires : goal.with_row-requires
 with_row-requires c =
@@ -16,13 +13,13 @@ with_row-requires c =
       nexts = record { limited = c.requires.rows_limited; ranked = c.requires.ranks_of.next_is };
       fixes = record { limited = c.requires.rows_limited; ranked = c.requires.ranks_of.fix_is };
       in_table = c.loop-e-test.true;
-      before = c.loop-e.invariant.done;
+      before = c.loop-e.invariant;
     }
 
 pub loop-e-preserved : goal.loop-e-preserved
-loop-e-preserved c = record { passed = omega arith; done = c.with_row.ensures }
+loop-e-preserved c = c.with_row.ensures
 
 pub returns : goal.returns
 returns c =
-    all_done c.args.rows.now c.args.count c.args.choice c.args.node c.loop-e.t c.requires.rows_limited
-    (λ v w nv cw i d h. c.loop-e.invariant.done.done v w nv cw i d (omega (arith, c.loop-e.invariant.passed)))
+    all_done c.args.tableau.now.table.rows c.args.tableau.now.table.count c.args.choice c.args.node c.loop-e.t c.requires.rows_limited
+    (λ v w nv cw i d h. c.loop-e.invariant.done v w nv cw i d (omega arith))

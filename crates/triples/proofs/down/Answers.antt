@@ -1,8 +1,5 @@
 -- `triples::down` puts under each priority all smaller ones: three shifts reach all eight.
-use mathlib.Core.Path.{refl}
-use Prim.Native.Nat.{◌/◌}
-use native.Mathlib.Omega.{arith}
-use lib.Bits.{bit_or}
+use Rattle.std.proofs.Common.{refl, ◌/◌, arith, bit_or}
 use Rattle.triples.proofs.ByteLaws.{down_bits}
 use Rattle.triples.proofs.down.Goals as goal
 

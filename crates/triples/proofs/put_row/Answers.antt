@@ -1,23 +1,13 @@
 -- `triples::put_row` writes 12 bytes. The invariant: the columns passed are the row's, and all else is as it was.
-use mathlib.Core.Path.{refl}
-use native.Mathlib.Omega.{arith}
-use native.Mathlib.Nat.{le_antisymm}
-use lib.ListN.{length-set}
+use Rattle.std.proofs.Common.{refl, arith, length-set}
 use Rattle.triples.proofs.JoinLaws.{put-start, put-more}
 use Rattle.triples.proofs.put_row.Goals as goal
 
 pub loop-g-init : goal.loop-g-init
-loop-g-init c = (omega arith, (refl, put-start c.args.t.now c.args.f c.args.row.now))
+loop-g-init c = (refl, put-start c.args.t.now c.args.f c.args.row.now)
 
 pub loop-g-preserved : goal.loop-g-preserved
 loop-g-preserved c = (
-  omega arith,
-  (
-    simp length-set c.loop-g.invariant.1.0,
-    put-more c.args.t.now c.loop-g.t c.args.row.now c.args.f c.loop-g.g _ _ refl (omega arith) refl
-        c.loop-g.invariant.1.1,
-  ),
+  simp length-set c.loop-g.invariant.0,
+  put-more c.args.t.now c.loop-g.t c.args.row.now c.args.f c.loop-g.g _ _ refl (omega arith) refl c.loop-g.invariant.1,
 )
-
-pub returns : goal.returns
-returns c = rw (le_antisymm c.loop-g.invariant.0 c.loop-g-test.false) at c.loop-g.invariant.1.1

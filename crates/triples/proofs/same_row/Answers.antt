@@ -1,19 +1,14 @@
--- `triples::same_row` compares row f. The invariant: the columns passed are the same.
-use native.Mathlib.Omega.{arith}
-use borrow.Author.Count.{below_more}
-use Rattle.triples.proofs.CellLaws.{decides_no, decides_yes}
+-- `triples::same_row` compares two parts of slices: row f at a place of the area, and row f of t.
+use Rattle.std.proofs.Common.{ℕ, ◌+◌, ◌*◌, get_or, ap, ◌∙◌, arith}
+use Rattle.triples.proofs.CellLaws.{parts_same}
 use Rattle.triples.proofs.same_row.Goals as goal
 
-pub loop-g-init : goal.loop-g-init
-loop-g-init c = (omega arith, λ i h. absurd (omega arith))
-
-pub returns-then-not-same_byte : goal.returns-then-not-same_byte
-returns-then-not-same_byte c =
-    decides_no (λ h. c.same_byte.ensures.fails c.if-not-same_byte.true (h c.loop-g.g (omega arith)))
-
-pub loop-g-preserved : goal.loop-g-preserved
-loop-g-preserved c =
-    (omega arith, below_more _ _ c.loop-g.invariant.1 (c.same_byte.ensures.holds c.if-not-same_byte.false))
-
 pub returns : goal.returns
-returns c = decides_yes (λ g h. c.loop-g.invariant.1 g (omega arith))
+returns c =
+    let l = c.args.area.now in
+    let at = c.args.at in
+    let from = c.args.f * 12 in
+    let same = parts_same l c.args.t.now (at + from) from c.args.n (omega arith) (omega arith) _ c.eq.ensures in (
+      λ e g h. ap (λ (i : ℕ). get_or l i 0) {x = at + (from + g)} {y = at + from + g} (omega arith) ∙ same.0 e g h,
+      λ p. same.1 (λ g h. ap (λ (i : ℕ). get_or l i 0) {x = at + from + g} {y = at + (from + g)} (omega arith) ∙ p g h),
+    )

@@ -1,22 +1,17 @@
--- `triples::same_triples` compares row by row. The invariant: the rows passed are the same.
-use native.Mathlib.Omega.{arith}
-use borrow.Author.Count.{below_more}
-use Rattle.triples.proofs.CellLaws.{all_same, not_same}
+-- `triples::same_triples` compares row by row.
+use Rattle.std.proofs.Common.{refl, arith, rules}
+use Rattle.std.proofs.lemmas.Iterator.{YieldsList-from_range, cases_from_all}
+use Rattle.triples.specs.Inner.{SameRow}
+use Rattle.triples.proofs.CellLaws.{rows_same}
 use Rattle.triples.proofs.same_triples.Goals as goal
-
-pub loop-f-init : goal.loop-f-init
-loop-f-init c = (omega arith, λ i h. absurd (omega arith))
-
-pub returns-then-not-same_row : goal.returns-then-not-same_row
-returns-then-not-same_row c =
-    not_same c.args.n c.args.area.now c.args.at c.args.t.now c.loop-f.f (omega arith)
-    (c.same_row.ensures.fails c.if-not-same_row.true)
-
-pub loop-f-preserved : goal.loop-f-preserved
-loop-f-preserved c =
-    (omega arith, below_more _ _ c.loop-f.invariant.1 (c.same_row.ensures.holds c.if-not-same_row.false))
 
 pub returns : goal.returns
 returns c =
-    all_same c.args.n c.args.area.now c.args.at c.args.t.now
-    (λ i h. c.loop-f.invariant.1 i (omega arith))
+    let l = c.args.area.now in
+    let t = c.args.t.now in
+    let n = c.args.n in
+    rows_same n l c.args.at t (λ i. search rules) (λ i. search rules) c.all.result
+    (cases_from_all _ _ c.all.result (λ f. SameRow l c.args.at t f n) (λ f. SameRow l c.args.at t f n → ⊥) c.all.ensures.ran
+    (YieldsList-from_range 0 n n refl (omega arith))
+    (λ f q k. search rules)
+    (λ f q k p. search rules))

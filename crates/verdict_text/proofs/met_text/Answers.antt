@@ -4,4 +4,4 @@ use Rattle.verdict_text.proofs.met_text.Goals as goal
 
 pub returns : goal.returns
 returns c =
-    then (then (then c.worded-a.ensures c.number-b.ensures) c.number-c.ensures) c.number.ensures
+    then (then (then c.worded.ensures c.number.ensures) c.number-2.ensures) c.number-3.ensures

@@ -3,5 +3,4 @@ use Rattle.text.proofs.Writing.{then}
 use Rattle.verdict_text.proofs.not_text.Goals as goal
 
 pub returns : goal.returns
-returns c =
-    then c.worded-a.ensures c.number.ensures
+returns c = then c.worded.ensures c.number.ensures

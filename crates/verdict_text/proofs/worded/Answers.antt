@@ -3,5 +3,4 @@ use Rattle.text.proofs.Writing.{then}
 use Rattle.verdict_text.proofs.worded.Goals as goal
 
 pub returns : goal.returns
-returns c =
-    then c.put_all-a.ensures c.number.ensures
+returns c = then c.put_all.ensures c.number.ensures

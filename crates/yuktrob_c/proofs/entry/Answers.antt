@@ -1,6 +1,5 @@
 -- `yuktrob_c::entry`: 0 past the last subformula, else its operator and its end. Assumes nothing.
-use mathlib.Core.Path.{refl, subst}
-use native.Mathlib.Omega.{arith}
+use Rattle.std.proofs.Common.{refl, subst, arith}
 use Rattle.formula.specs.Table.{Operator}
 use Rattle.formula.specs.Access.{Fits}
 use Rattle.yuktrob_c.proofs.EntryLaws.{entry-none, entry-there}

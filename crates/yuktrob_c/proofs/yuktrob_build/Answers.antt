@@ -1,5 +1,5 @@
 -- `yuktrob_c::yuktrob_build`: the answer of building becomes its number, and the area is as it left it. Assumes nothing.
-use mathlib.Core.Path.{ap, ◌∙◌}
+use Rattle.std.proofs.Common.{ap, ◌∙◌}
 use Rattle.yuktrob_c.specs.Numbers.{construction_number}
 use Rattle.yuktrob_c.proofs.VerdictFit.{constructed_fits}
 use Rattle.yuktrob_c.proofs.yuktrob_build.Goals as goal

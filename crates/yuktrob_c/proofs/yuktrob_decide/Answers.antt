@@ -1,5 +1,5 @@
 -- `yuktrob_c::yuktrob_decide`: the answer of the decision becomes its number, and the areas are as it left them. Assumes nothing.
-use mathlib.Core.Path.{ap, ◌∙◌}
+use Rattle.std.proofs.Common.{ap, ◌∙◌}
 use Rattle.yuktrob_c.specs.Numbers.{verdict_number}
 use Rattle.yuktrob_c.proofs.VerdictFit.{decided-fits}
 use Rattle.yuktrob_c.proofs.yuktrob_decide.Goals as goal

@@ -1,6 +1,6 @@
 -- `yuktrob_c::yuktrob_decide_safety`: the answer of the safety decision becomes its number, and the areas are as it left them. Assumes
 -- nothing.
-use mathlib.Core.Path.{ap, ◌∙◌}
+use Rattle.std.proofs.Common.{ap, ◌∙◌}
 use Rattle.yuktrob_c.specs.Numbers.{safety_number}
 use Rattle.yuktrob_c.proofs.VerdictFit.{safety_fits}
 use Rattle.yuktrob_c.proofs.yuktrob_decide_safety.Goals as goal

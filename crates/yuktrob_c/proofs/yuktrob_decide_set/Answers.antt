@@ -1,6 +1,6 @@
 -- `yuktrob_c::yuktrob_decide_set`: the answer becomes its number, the place of a fault goes into its word, and the areas are as they were
 -- left. Assumes nothing.
-use mathlib.Core.Path.{ap, ◌∙◌}
+use Rattle.std.proofs.Common.{ap, ◌∙◌}
 use Rattle.joint.specs.Contract.{fault_told}
 use Rattle.yuktrob_c.specs.Numbers.{joint_number}
 use Rattle.yuktrob_c.proofs.JointFit.{jointly_fits}

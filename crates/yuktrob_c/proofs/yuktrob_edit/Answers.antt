@@ -1,5 +1,5 @@
 -- `yuktrob_c::yuktrob_edit`: the answer becomes its number, and bytes and rows go where the caller lent room. Assumes nothing.
-use mathlib.Core.Path.{ap, ◌∙◌}
+use Rattle.std.proofs.Common.{ap, ◌∙◌}
 use Rattle.substitution.specs.declared.Substitution as result
 use Rattle.yuktrob_c.specs.Numbers.{edit_number}
 use Rattle.yuktrob_c.proofs.EditFit.{edit_fits}

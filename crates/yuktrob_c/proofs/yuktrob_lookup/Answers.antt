@@ -1,5 +1,5 @@
 -- `yuktrob_c::yuktrob_lookup`: the location becomes its number, its place and its size. Assumes nothing.
-use mathlib.Core.Path.{ap, ◌∙◌}
+use Rattle.std.proofs.Common.{ap, ◌∙◌}
 use Rattle.catalogue.specs.Contract.{place_told, size_told}
 use Rattle.yuktrob_c.specs.Numbers.{location_number}
 use Rattle.yuktrob_c.proofs.yuktrob_lookup.Goals as goal

@@ -1,5 +1,5 @@
 -- `yuktrob_c::yuktrob_search`: the answer of the search becomes its number, and the areas are as it left them. Assumes nothing.
-use mathlib.Core.Path.{ap, ◌∙◌}
+use Rattle.std.proofs.Common.{ap, ◌∙◌}
 use Rattle.yuktrob_c.specs.Numbers.{verdict_number}
 use Rattle.yuktrob_c.proofs.VerdictFit.{searched-fits}
 use Rattle.yuktrob_c.proofs.yuktrob_search.Goals as goal

@@ -1,5 +1,5 @@
 -- `yuktrob_c::yuktrob_truth`: the answer of the truth operation becomes its number, and the words are as it left them. Assumes nothing.
-use mathlib.Core.Path.{ap, ◌∙◌}
+use Rattle.std.proofs.Common.{ap, ◌∙◌}
 use Rattle.yuktrob_c.specs.Numbers.{truth_number}
 use Rattle.yuktrob_c.proofs.TruthFit.{told-fits}
 use Rattle.yuktrob_c.proofs.yuktrob_truth.Goals as goal

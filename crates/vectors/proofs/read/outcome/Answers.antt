@@ -2,5 +2,5 @@
 use Rattle.formula.proofs.FitLaws.{accepted_readable}
 use Rattle.vectors.proofs.read.outcome.Goals as goal
 
-pub told-requires : goal.told-requires
-told-requires c = λ q. accepted_readable _ c.read.result c.read.ensures.outcome q
+pub accepted-requires : goal.accepted-requires
+accepted-requires c = accepted_readable _ c.read.result c.read.ensures.outcome c.in-Ok.is

@@ -1,0 +1,14 @@
+-- `witness::write_chain` writes the letters from the last to the first. The invariant: those up to the item where it stands are to be
+-- written, and the others are.
+use Rattle.std.proofs.Common.{refl, arith}
+use Rattle.witness.proofs.WriteLaws.{turning, turn_some, turn_next}
+use Rattle.witness.proofs.write_chain.Goals as goal
+
+pub overflow_sub-left : goal.overflow_sub-left
+overflow_sub-left g c =
+    turn_some (turning c.requires.chain_noted.linked c.requires.letters_fit (omega arith) c.loop-at.invariant)
+
+pub loop-at-preserved : goal.loop-at-preserved
+loop-at-preserved g c =
+    turn_next (turning c.requires.chain_noted.linked c.requires.letters_fit (omega arith) c.loop-at.invariant) refl
+    c.note-note.ensures.parent c.note-note.ensures.letter refl
