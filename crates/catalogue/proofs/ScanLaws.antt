@@ -54,7 +54,8 @@ one_more : (b : Bool) (r : Record) (o : Option Record) → cond b (Some r) o ≡
 one_more true r o = refl
 one_more false r o = refl
 
-gone-behind : (n : ℕ) (found : Option Record) (r : Record) (rest : Records) → gone_on n found (behind r rest) ≡ gone_on n (kept n found r) rest
+gone-behind : (n : ℕ) (found : Option Record) (r : Record) (rest : Records)
+    → gone_on n found (behind r rest) ≡ gone_on n (kept n found r) rest
 gone-behind n found r (Records.damaged place) = refl
 gone-behind n None r (Records.whole rs) = ap Ok (one_more (r.number == n) r (numbered n rs))
 gone-behind n (Some s) r (Records.whole rs) = refl
@@ -64,9 +65,6 @@ pub record Scanning (bytes : List ℕ) (n at least : ℕ) (found : Option Record
   pub is : gone_on n found (records_from bytes at least) ≡ scanned n (records bytes)
 
 module _ (bytes : List ℕ) (n : ℕ) where
-  pub scan_none : Scanning bytes n 0 0 None
-  scan_none = record { is = gone-nothing n (records bytes) }
-
   pub scan_end : {at least : ℕ} {found : Option Record} → Scanning bytes n at least found → record_at bytes at least ≡ Ok None
       → Ok found ≡ scanned n (records bytes)
   scan_end {at} {least} {found} s e =

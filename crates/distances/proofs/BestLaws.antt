@@ -1,5 +1,5 @@
--- What the answer says of the shortest closed walk of all vertices (`through`): one more search from its vertex finds the same walk, and its
--- distances. A closed walk begins with a step, so its vertex is one below the count. Assumes nothing.
+-- What the answer says of the shortest closed walk of all vertices (`through`): one more search from its vertex finds the same walk, and
+-- its distances. A closed walk begins with a step, so its vertex is one below the count. Assumes nothing.
 use Rattle.std.proofs.Common.{◌≡◌, subst, List, ℕ, ◌+◌, ◌≤◌, ◌<◌, length, Option, None, Some, arith}
 use Rattle.distances.specs.Walks.{Walk, Steps, Distances, Shortest}
 use Rattle.distances.specs.Inner.{ShortestOf, FirstOf}

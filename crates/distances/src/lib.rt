@@ -16,7 +16,8 @@ pub struct Cycle {
     pub length: usize,
 }
 
-// What stands where no distance is noted.
+// What stands where no distance is noted. A number and no Option: 1,024 of these would take twice the room on the stack, which is fixed
+// (docs/DECISIONS.md).
 pub const UNREACHED: u16 = 1024;
 
 // A set of vertices: vertex x is bit x % 64 of word x / 64.

@@ -165,7 +165,9 @@ module _ (P : Refusal → Type 0) where
       operands-alike scope (Opcode.signal p) h l e r =
           byte-alike MissingOperand _ _ AtEnd.operand (near-more r) λ s x y r.
           fault_alike h (leb s 15) UnknownSignal _ _ OfByte.signal r λ t. Alike.got r
-      operands-alike scope Opcode.variable h l e r = byte-alike MissingOperand _ _ AtEnd.operand (near-more r) λ d x y r. depth-alike scope d h x y r
+      operands-alike scope Opcode.variable h l e r =
+          byte-alike MissingOperand _ _ AtEnd.operand (near-more r) λ d x y r.
+          depth-alike scope d h x y r
       operands-alike scope (Opcode.pair o) h l e r =
           then_alike _ _ (agree scope h l (near-fewer r)) λ a h l r.
           then_alike _ _ (agree scope h l r) λ b h l r. Alike.got r
@@ -185,7 +187,8 @@ module _ (P : Refusal → Type 0) where
 
       -- the question about the limits, and what follows
       limits-alike : (scope : Scope) (op : Opcode) (h : Head) (x y : List ℕ) → h.commands < 48 → Near R n m 0 (behind h x) y
-          → Agree (and_then (λ u k. operands self scope op (counted op k)) (answered (within op (behind h x)) (at_byte TooManyOfKind) (behind h x)))
+          → Agree (and_then (λ u k. operands self scope op (counted op k))
+          (answered (within op (behind h x)) (at_byte TooManyOfKind) (behind h x)))
           (and_then (λ u k. operands other (moved_scope place scope) op (counted op k))
           (answered (within op (moved place (behind h x) y)) (at_byte TooManyOfKind) (moved place (behind h x) y)))
       limits-alike scope op h x y c r =
@@ -209,7 +212,8 @@ module _ (P : Refusal → Type 0) where
     none_left : {n m : ℕ} {h : Head} {x y : List ℕ} (d e : ℕ) (scope : Scope) → Look (R 0) h x y → length x ≤ 0 ⊎ length y ≤ 0
         → Alike place (Near R n m 1) (formula d scope (over h x)) (formula e (moved_scope place scope) (moved place h y))
     none_left {h = h} d e scope (Look.none p) z =
-        rw (no_byte d scope (over h []), no_byte e (moved_scope place scope) (moved place h [])) (Alike.refused (p MissingOperator AtEnd.command))
+        rw (no_byte d scope (over h []), no_byte e (moved_scope place scope) (moved place h []))
+        (Alike.refused (p MissingOperator AtEnd.command))
     none_left d e scope (Look.some q) z = absurd (⊎_elim (λ i. omega arith) (λ i. omega arith) z)
 
     pub formula-alike : (d e : ℕ) (scope : Scope) (h : Head) (l : List ℕ) → Near R d e 1 h l

@@ -97,7 +97,8 @@ pub unary : {s : List ℕ} {e : ℕ} {from h x : Head} {bs rows p q : List ℕ} 
     Written x p e op 0 q → Got s e from bs rows (and_then (λ a. done (w.make a)) answer) q x
 unary {e = e} {bs = bs} w f g written =
     let shape = w.shape e bs g.got in
-    got (ap (and_then (λ a. done (w.make a))) g.is) shape g.written (g.count ∙ omega (arith, shape.rows)) (further_trans f g.further) written
+    got (ap (and_then (λ a. done (w.make a))) g.is) shape g.written (g.count ∙ omega (arith, shape.rows)) (further_trans f g.further)
+    written
 
 -- a formula of two: the second operand is read from y, where the first one ended
 pub binary : {s : List ℕ} {e : ℕ} {from h y x : Head} {bs rows p q r : List ℕ} {op : code.Opcode} {answer : Read Formula}

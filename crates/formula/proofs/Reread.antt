@@ -172,8 +172,8 @@ module _ (C : Type 0) (scope : Scope) (op : Opcode) (f : Formula) (h : Head) (by
 
   module _ (n : Load) (first : Fits h n → Fits h (load_of op)) where
     -- the questions 3 and 4
-    limited : (fault : Fault) → (fault_code fault ≡ 3) ⊎ (fault_code fault ≡ 4) → (t : Bool) → (Fits h (load_of op) → T t) → (go : Unit {0} → Reader Formula) (k : Head)
-        → Comes n C f h rest (go tt k) → Comes n C f h rest (and_then go (answered t (at_byte fault) k))
+    limited : (fault : Fault) → (fault_code fault ≡ 3) ⊎ (fault_code fault ≡ 4) → (t : Bool) → (Fits h (load_of op) → T t)
+        → (go : Unit {0} → Reader Formula) (k : Head) → Comes n C f h rest (go tt k) → Comes n C f h rest (and_then go (answered t (at_byte fault) k))
     limited fault c true r go k p = p
     limited fault c false r go k p = Comes.too_large fault (k.at - 1) c (λ s. r (first s))
 
@@ -195,7 +195,8 @@ module _ (C : Type 0) (scope : Scope) (op : Opcode) (f : Formula) (h : Head) (by
       (Comes.got (moved place (stepped op h) rest) (stepped_grown place op h rest)))
 
   -- or names no fixpoint that the reader has seen
-  unnamed : (place : ℕ) → operands_read ≡ Read.refused (at_byte UnboundVariable place) → (C → ⊥) → Comes (load_of op) C f h rest formula_read
+  unnamed : (place : ℕ) → operands_read ≡ Read.refused (at_byte UnboundVariable place) → (C → ⊥)
+      → Comes (load_of op) C f h rest formula_read
   unnamed place e o = asked (load_of op) (λ r. r) (subst⁻¹ (Comes (load_of op) C f h rest) e (Comes.unbound place o))
 
   -- its operand formulas are read behind it

@@ -6,7 +6,7 @@ use Rattle.formula.specs.Rows.{encoded}
 use Rattle.formula.specs.declared.Table.{Table}
 use Rattle.formula.specs.declared.Refusal.{Refusal}
 
--- What stands for no table, where something that has room for one comes without.
+-- The table that stands where there is none: what has room for one, and has none, holds this.
 abbrev pub no_table : Table
 no_table = record { count = 0; rows = replicate {A = ℕ} 144 0 }
 

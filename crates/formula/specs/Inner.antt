@@ -12,6 +12,7 @@ use Rattle.formula.specs.declared.Opcode as code
 use Rattle.formula.specs.declared.Opcode.TheVariants as opcodes
 use Rattle.formula.specs.declared.Fault.{Fault}
 use Rattle.formula.specs.declared.Fault.TheVariants.{UnknownOpcode}
+use Rattle.formula.specs.declared.Binder.{Binder as Kept}
 use Rattle.formula.specs.declared.Head.{Head}
 use Rattle.formula.specs.declared.Scope.{Scope}
 use Rattle.formula.specs.declared.Table.{Table}
@@ -53,9 +54,13 @@ abbrev pub inward : {A : Type 0} → (ℕ → A) → ℕ → List A
 inward of zero = []
 inward of (suc d) = of d ∷ inward of d
 
+-- What is kept of fixpoint d, counted from outside.
+abbrev pub kept_at : List Kept → ℕ → Kept
+kept_at bs d = get_or bs d (record { number = 0; place = 0 })
+
 -- A fixpoint of the scope, counted from outside: those with a next between them and here are the outer ones.
 abbrev pub enclosing_at : Scope → ℕ → Binder
-enclosing_at x d = record { place = get_or x.places d 0; guarded = ltb d x.guarded }
+enclosing_at x d = record { place = (kept_at x.binders d).place; guarded = ltb d x.guarded }
 
 -- The enclosing fixpoints.
 abbrev pub enclosing : Scope → Enclosing
@@ -63,7 +68,7 @@ enclosing x = inward (enclosing_at x) x.depth
 
 -- The numbers of the enclosing fixpoints, innermost first.
 abbrev pub binders : Scope → List ℕ
-binders x = inward (λ d. get_or x.binders d 0) x.depth
+binders x = inward (λ d. (kept_at x.binders d).number) x.depth
 
 -- The counts are within the limits of MEANING 1.4.
 pub record Limits (h : Head) : Type 0 where

@@ -13,19 +13,19 @@ ghost use Rattle.formula.specs.Inner.{named, Decodes, point, Limits, RoomFor, Op
 ghost use Rattle.formula.specs.Inner.{InsideReady, OperandScope, ReadBehind, Written, Command, ReadFrom};
 
 // The number of a subformula (document 01: an entry), kept apart from positions on a lasso.
-#[derive(Clone, Copy)]
+#[derive(Clone, Copy, PartialEq, Eq, Debug)]
 pub struct Subformula(pub usize);
 
 // The subformulas: how many, and their rows. The layout of the rows is said above `written`; code elsewhere asks `operator_at`, `is_or`,
 // `is_next`, `is_fixpoint` and `end`.
-#[derive(Clone, Copy)]
+#[derive(Clone, Copy, PartialEq, Eq, Debug)]
 pub struct Table {
     pub count: usize,
     pub rows: [u8; 144],
 }
 
 // What a subformula is: its operator with the numbers of its operands, a signal's number, or the number of a variable's binder.
-#[derive(Clone, Copy)]
+#[derive(Clone, Copy, PartialEq, Eq, Debug)]
 pub enum Operator {
     Constant(bool),
     Signal {
@@ -83,7 +83,7 @@ impl Fault {
     }
 }
 
-// What is told of any refusal: its code, and its place.
+// The code that is told of any refusal.
 pub fn code_of(why: Refusal) -> u8
     ensures { result ≡ code_of why }
 {
@@ -93,18 +93,18 @@ pub fn code_of(why: Refusal) -> u8
     }
 }
 
+// The place of the byte that stopped it: of an unguarded variable the one of its operand.
 pub fn place_of(why: Refusal) -> usize
     ensures { result ≡ place_of why }
 {
     match why {
-        Refusal::AtByte { at, .. } => at,
-        Refusal::Unguarded { at, .. } => at,
+        Refusal::AtByte { at, .. } | Refusal::Unguarded { at, .. } => at,
     }
 }
 
 // The operators by their opcodes: MEANING 1.1.
-#[derive(Clone, Copy)]
-enum Opcode {
+#[derive(Clone, Copy, PartialEq, Eq, Debug)]
+pub enum Opcode {
     True = 1,
     False = 2,
     Present = 3,
@@ -150,13 +150,19 @@ struct Head {
     fixpoints: usize,
 }
 
-// The enclosing fixpoints, outermost first, by their numbers and by the places of their bytes, and how many of them have a next inside.
+// An enclosing fixpoint: its number, and the place of its byte.
+#[derive(Clone, Copy)]
+struct Binder {
+    number: u8,
+    place: usize,
+}
+
+// The enclosing fixpoints, outermost first: how many they are, and how many of them have a next inside.
 #[derive(Clone, Copy)]
 struct Scope {
     depth: usize,
     guarded: usize,
-    binders: [u8; 7],
-    places: [usize; 7],
+    binders: [Binder; 7],
 }
 
 // Whether there is room for one more operator: question 4.
@@ -203,9 +209,7 @@ fn opcode_at(s: &[u8], h: Head) -> Result<(Opcode, Head), Refusal>
     ensures { Opening s.now h result }
 {
     let (byte, after) = byte_at(s, h, Fault::MissingOperator)?;
-    let Ok(op) = Opcode::try_from(byte) else {
-        return Err(Fault::UnknownOpcode.at(h.at));
-    };
+    let op = Opcode::try_from(byte).map_err(|fault| fault.at(h.at))?;
     if 48 <= h.count {
         return Err(Fault::TooManyOperators.at(h.at));
     }
@@ -239,14 +243,12 @@ fn binder_at(s: &[u8], h: Head, scope: Scope) -> Result<(u8, Head), Refusal>
     }
     let outer = scope.depth - 1 - up;
     if scope.guarded <= outer {
-        let binder_at = scope.places[outer];
         return Err(Refusal::Unguarded {
             at: h.at,
-            binder_at,
+            binder_at: scope.binders[outer].place,
         });
     }
-    let binder = scope.binders[outer];
-    Ok((binder, after))
+    Ok((scope.binders[outer].number, after))
 }
 
 // The scope of the operands of subformula me, whose byte is at a place.
@@ -260,8 +262,10 @@ fn inside(scope: Scope, me: Subformula, at: usize, op: Opcode) -> Scope
     match op {
         Opcode::Next => inner.guarded = depth,
         Opcode::Least | Opcode::Greatest => {
-            inner.binders[depth] = (e % 256) as u8;
-            inner.places[depth] = at;
+            inner.binders[depth] = Binder {
+                number: (e % 256) as u8,
+                place: at,
+            };
             inner.depth = depth + 1;
         }
         _ => {}
@@ -305,11 +309,14 @@ fn read_at(s: &[u8], at: usize) -> Result<Table, Refusal>
         nexts: 0,
         fixpoints: 0,
     };
+    let nowhere = Binder {
+        number: 0,
+        place: 0,
+    };
     let outside = Scope {
         depth: 0,
         guarded: 0,
-        binders: [0u8; 7],
-        places: [0usize; 7],
+        binders: [nowhere; 7],
     };
     let mut rows = [0u8; 144];
     let h = command(s, start, &mut rows, outside)?;
@@ -354,7 +361,8 @@ pub fn read(s: &[u8]) -> Result<Table, Refusal>
 
 // The layout of the rows, known to the functions from here on and to no others. Of subformula e byte e is the opcode; byte 48 + e is what
 // the operand byte stands for, a signal or the binder of a variable, and 0 where there is none; byte 96 + e is the length, the number of
-// operators in it. Its first operand is e + 1, and a right one begins where that ends. What belongs to no subformula is 0.
+// operators in it. Its first operand is e + 1, and a right one begins where that ends. What belongs to no subformula is 0. MEANING 11 gives
+// this layout to callers, so it stays.
 
 // Subformula me, read up to h, comes into the rows.
 fn written(rows: &mut [u8; 144], me: Subformula, op: Opcode, operand: u8, h: Head)
@@ -425,9 +433,9 @@ fn pair(rows: &[u8; 144], s: Subformula, either: bool) -> Operator
     let left = Subformula(s.0 + 1);
     let right = Subformula(end(rows, left));
     Operator::Pair {
-        either: either,
-        left: left,
-        right: right,
+        either,
+        left,
+        right,
     }
 }
 
@@ -495,11 +503,8 @@ pub fn width(operator: Operator) -> usize
     ensures { (result ≡ width (decoded operator)) × (result ≤ 2) }
 {
     match operator {
-        Operator::Signal { .. } => 2,
-        Operator::Variable(_) => 2,
-        Operator::Constant(_) => 1,
-        Operator::Pair { .. } => 1,
+        Operator::Signal { .. } | Operator::Variable(_) => 2,
+        Operator::Constant(_) | Operator::Pair { .. } | Operator::Fixpoint { .. } => 1,
         Operator::Next(_) => 1,
-        Operator::Fixpoint { .. } => 1,
     }
 }

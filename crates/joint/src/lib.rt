@@ -32,8 +32,8 @@ pub enum Verdict {
     },
 }
 
-// Why there is no verdict: 30 with its place, 34, a formula's refusal of reading with its position, 11 to 13, or 35 with the subset that was
-// tried.
+// Why there is no verdict: 30 with its place, 34, a formula's refusal of reading with its position, 11 to 13, or 35 with the
+// subset that was tried.
 #[derive(Clone, Copy)]
 pub enum Refusal {
     Damaged(usize),

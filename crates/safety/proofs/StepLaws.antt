@@ -1,24 +1,20 @@
--- A step of the cycle. The node that a transition leads to has one number in the area, so whether it is so far away is told by one element
--- (`reached-some`, `reached_other`, `reached-nowhere`, `reached_absent`); the first choice word that leads to such a node is found by
--- trying one after another (`strays`, `goes`). Assumes nothing.
+-- A step of the cycle. A transition to a set that is no node leads to no node that is so far away (`reached_absent`); the first choice word
+-- that leads to such a node is found by trying one after another (`strays`, `goes`). Assumes nothing.
 use mathlib.Core.Path.{◌≡◌, refl, sym, ap, subst, subst⁻¹, ◌∙◌}
 use mathlib.Core.Logic.{inl, inr}
 use mathlib.Core.Bool.{Bool, true, false}
 use mathlib.Core.List.Memᴰ
 use mathlib.Core.List.{List, [], ◌∷◌, Memᴰ}
-use Prim.Native.Nat.{ℕ, ◌*◌, ◌<◌}
-use native.Mathlib.Omega.{arith}
-use lib.ListN.{length, get_or}
+use Prim.Native.Nat.{ℕ}
+use lib.ListN.{length}
 use Rattle.std.specs.Prelude.{Option, None, Some}
 use Rattle.base.specs.Lists.{member}
 use Rattle.base.specs.Bits.{word}
-use Rattle.base.proofs.At.{at_of, at_get}
 use Rattle.letters.specs.Requirements.{letter_of}
 use Rattle.tableau.specs.Saturation.{Subset, saturate}
 use Rattle.tableau.specs.Transition.{Transition, choice_of, by_word}
 use Rattle.tableau.specs.Inner.{table_of, target, TargetBy}
-use Rattle.tableau.specs.Area.{eight, words_at}
-use Rattle.tableau.specs.declared.NodeNumber.{NodeNumber}
+use Rattle.tableau.specs.Area.{words_at}
 use Rattle.tableau.specs.declared.Target.{Target}
 use Rattle.tableau.proofs.TransitionLaws.{one_or_none, transition_with}
 use Rattle.tableau.proofs.TargetLaws.{a_target}
@@ -26,30 +22,7 @@ use Rattle.tableau.proofs.SlotLaws as slots
 use Rattle.safety.specs.Inner.{NodesThere, FarAt, OnwardOf, Goes, Strays}
 use Rattle.safety.specs.declared.Step.{Step}
 
--- an element that is there, whatever stands for those that are not
-same_element : (l : List ℕ) (i d e : ℕ) → i < length l → get_or l i d ≡ get_or l i e
-same_element l i d e h = sym (at_get (at_of l i d h) e)
-
-module _ {known : ℕ} {area marks : List ℕ} (steps : List ℕ) (there : NodesThere known area marks) (long : length steps ≡ 1024)
-    {t : Option Target} (far : ℕ) where
-  -- a transition to node n, whose element is f
-  module _ {x : Target} (leads : t ≡ Some x) (n : NodeNumber) (below : n.0 < known)
-      (stands : eight area (8 * n.0) ≡ x.to) {f : ℕ} (is : f ≡ get_or steps n.0 0) where
-    element : get_or steps n.0 1024 ≡ f
-    element = same_element steps n.0 1024 0 (omega (arith, there.few)) ∙ sym is
-
-    pub reached-some : f ≡ far → {p : ℕ} → p ≡ letter_of x.required → OnwardOf area steps known t far (Some (record { to = n; letter = p }))
-    reached-some e q = (x, leads, q, record { below = below; stands = stands; far_is = element ∙ e })
-
-    pub reached_other : (f ≡ far → ⊥) → OnwardOf area steps known t far None
-    reached_other d y e m a =
-        let q : x ≡ y = cc in
-        let same = there.apart n.0 m below a.below (stands ∙ ap (λ (z : Target). z.to) q ∙ sym a.stands) in
-        d (sym element ∙ ap (λ (i : ℕ). get_or steps i 1024) same ∙ a.far_is)
-
-  pub reached-nowhere : t ≡ None → OnwardOf area steps known t far None
-  reached-nowhere e y q m a = cc
-
+module _ {known : ℕ} {area marks : List ℕ} (steps : List ℕ) (there : NodesThere known area marks) {t : Option Target} (far : ℕ) where
   pub reached_absent : {x : Target} → t ≡ Some x → member x.to (words_at area 0 known) ≡ false → OnwardOf area steps known t far None
   reached_absent {x} e h y q m a =
       let s : x ≡ y = cc in
@@ -58,7 +31,8 @@ module _ {known : ℕ} {area marks : List ℕ} (steps : List ℕ) (there : Nodes
       cc
 
 -- a choice word, by what the code says of its transition
-module _ (rows : List ℕ) {count x from : ℕ} (area steps : List ℕ) (known far : ℕ) {r : Option Target} (st : TargetBy rows count x from r) where
+module _ (rows : List ℕ) {count x from : ℕ} (area steps : List ℕ) (known far : ℕ) {r : Option Target}
+    (st : TargetBy rows count x from r) where
   -- the transition that it has
   has : (v : Subset) → length v ≡ count → from ≡ word v → {s : Transition} → Memᴰ s (by_word (table_of rows count) x v)
       → r ≡ Some (record { to = word s.to; required = s.required })

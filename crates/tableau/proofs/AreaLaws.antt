@@ -1,6 +1,6 @@
 -- Words in a byte area: what is put is what is read (`eight-stored`, `words-stored`), one word more (`put-store`), and where a word
--- is found by looking at one after the other (`found_from`), with what it tells that none is (`absent_member`). A number below 2^64 is the sum of its eight bytes;
--- past eight bytes, the rest of an area is an area. Assumes nothing.
+-- is found by looking at one after the other (`found_from`), with what it tells that none is (`absent_member`). A number below 2^64 is the
+-- sum of its eight bytes; past eight bytes, the rest of an area is an area. Assumes nothing.
 use Rattle.std.proofs.Common.{Option, Some, None, ◌≡◌, refl, sym, ap, ◌∙◌, Bool, true, false, cond, List, [], ◌∷◌, ◌++◌, map}
 use Rattle.std.proofs.Common.{append_assoc, ℕ, zero, suc, ◌+◌, ◌*◌, ◌^◌, ◌<◌, arith, add-one, eqb, ltb, length, get_or, drop}
 use Rattle.std.proofs.Common.{length-append, take_at, drop-drop, lt-ltb}

@@ -42,7 +42,8 @@ index_word a x i (suc n) h =
     ∙ index_word a x (suc i) n (omega arith))
     h
 
-pub found_at : (a : List ℕ) (known x : ℕ) {r : Option NodeNumber} → r ≡ lookup known (index (eqb x) (words_at a 0 known)) → Located known a x r
+pub found_at : (a : List ℕ) (known x : ℕ) {r : Option NodeNumber} → r ≡ lookup known (index (eqb x) (words_at a 0 known))
+    → Located known a x r
 found_at a known x e =
     subst⁻¹ (Located known a x) e
     (by (ltb place known) refl)

@@ -68,7 +68,8 @@ module _ {rows : List ℕ} {count choice node set : ℕ} {r : Gathered} (f : For
   abbrev test : Bool
   test = eqb (bit_and choice set) choice && (not r.falsum && not (clash r.required))
 
-  answer : (x : Option Target) (b : Bool) → test ≡ b → x ≡ cond b (Some (record { to = r.to; required = r.required })) None → TargetIs rows count choice node x
+  answer : (x : Option Target) (b : Bool) → test ≡ b → x ≡ cond b (Some (record { to = r.to; required = r.required })) None
+      → TargetIs rows count choice node x
   answer x b h e = record { is = λ w v l c n. go w v l c n }
     where
       t : Table
@@ -84,7 +85,8 @@ module _ {rows : List ℕ} {count choice node set : ℕ} {r : Gathered} (f : For
         where
           by : (b : Bool) → r.required ≡ requirement (operators_in t (saturate t w v))
               → r.to ≡ word (transition_with t w (saturate t w v)).to
-              → cond b (Some (record { to = r.to; required = r.required })) None ≡ target (cond b (transition_with t w (saturate t w v) ∷ []) [])
+              → cond b (Some (record { to = r.to; required = r.required })) None
+              ≡ target (cond b (transition_with t w (saturate t w v) ∷ []) [])
           by true p t = rw (p, t)
           by false p t = refl
 
@@ -94,7 +96,8 @@ module _ {rows : List ℕ} {count choice node set : ℕ} {r : Gathered} (f : For
   pub target-some : bit_and choice set ≡ choice → (r.falsum || clash r.required) ≡ false
       → TargetIs rows count choice node (Some (record { to = r.to; required = r.required }))
   target-some m h =
-      answer (Some (record { to = r.to; required = r.required })) true (rw (eq-eqb (bit_and choice set) choice m) (dead-false r.falsum (clash r.required) h)) refl
+      answer (Some (record { to = r.to; required = r.required })) true
+      (rw (eq-eqb (bit_and choice set) choice m) (dead-false r.falsum (clash r.required) h)) refl
 
 -- what the code's answer says of the definition's transition
 no_target : (t : Table) (w s : Subset) → None ≡ target (transition_of t w s) → transition_of t w s ≡ []
@@ -112,8 +115,8 @@ module _ {rows : List ℕ} {count x node : ℕ} where
   pub stepped_none : LeadsNowhere rows count node x → TargetBy rows count x node None
   stepped_none h = record { is = λ v l n. ap target (sym (h.is v l n)) }
 
-  pub stepped_choice : {choice : ℕ} {r : Option Target} → choice ≡ word (choice_of (table_of rows count) x) → TargetIs rows count choice node r
-      → TargetBy rows count x node r
+  pub stepped_choice : {choice : ℕ} {r : Option Target} → choice ≡ word (choice_of (table_of rows count) x)
+      → TargetIs rows count choice node r → TargetBy rows count x node r
   stepped_choice c st = record { is = λ v l n. st.is (choice_of (table_of rows count) x) v l c n }
 
   pub target-nowhere : {r : Option Target} → TargetBy rows count x node r → r ≡ None → LeadsNowhere rows count node x

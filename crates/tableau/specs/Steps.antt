@@ -22,7 +22,7 @@ Located known area x None = member x (words_at area 0 known) ≡ false
 pub record Stay (known : ℕ) (area area' : List ℕ) : Type 0 where
   pub is : (j : ℕ) → j < known → eight area' (8 * j) ≡ eight area (8 * j)
 
--- how many nodes are known once a node was to come in, one more than there is room for where it did not
+-- How many nodes are counted once a node was to come in: one more than there is room for if it had no room.
 abbrev pub known_then : (capacity : ℕ) → Option Added → ℕ
 known_then capacity None = capacity + 1
 known_then capacity (Some r) = r.known

@@ -14,6 +14,7 @@ pub struct Tableau {
 }
 
 impl Tableau {
+    // The tableau of a table whose rows are as asked.
     pub fn new(table: Table) -> Tableau
         requires { Formed table.rows table.count }
         ensures { result.table ≡ table }

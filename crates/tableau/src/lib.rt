@@ -9,7 +9,7 @@ ghost use Rattle.formula.specs.Rows.{operator_at};
 ghost use Rattle.formula.specs.Access.{Placed};
 ghost use Rattle.tableau.specs.Saturation.{moves};
 ghost use Rattle.tableau.specs.Transition.{ors, choice_of};
-ghost use Rattle.tableau.specs.Operators.{operators};
+ghost use Rattle.tableau.specs.Operators.{operators, on};
 ghost use Rattle.tableau.specs.Inner.{with_bits, Saturated, RequiresMore, RequiredBy, TargetIs};
 ghost use Rattle.tableau.specs.Fringe.{Spread, Follows, moves_both, ClosesBy, ClosingOf, Joined, CoreOf};
 ghost use Rattle.tableau.specs.Inner.{TargetBy, Widest, UnmetBetween, is_unmet, UnmetOrs};
@@ -28,7 +28,7 @@ use formula::{Operator, Subformula};
 use letters::Requirement;
 
 // The number of a node, kept apart from subformulas and positions.
-#[derive(Clone, Copy)]
+#[derive(Clone, Copy, PartialEq, Eq)]
 pub struct NodeNumber(pub usize);
 
 // A node that a transition leads to: its set, the number of the node that it leads from, and its letter.
@@ -205,6 +205,7 @@ fn is_dead_end(all: Gathered) -> bool
     all.falsum | letters::clashes(all.required)
 }
 
+// The node with this number: its set.
 pub fn node(area: &[u8], number: NodeNumber) -> u64
     requires { (number.0 < 1024) × (8 * number.0 + 8 ≤ length area.now) }
     ensures { result ≡ eight area.now (8 * number.0) }
@@ -224,7 +225,8 @@ pub fn find(area: &[u8], known: usize, set: u64) -> Option<NodeNumber>
 }
 
 // The slot of a set; every bit of the set counts in the remainder by a prime. The mark that a slot has is 1 + the number of the last known
-// node with this slot, or 0 if there is none: it tells at once that most new sets are new, and where most known ones are.
+// node with this slot, or 0 if there is none: it tells at once that most new sets are new, and where most known ones are. It is a number
+// and no Option, of which 2,048 would take twice the room on the stack, which is fixed (docs/DECISIONS.md).
 fn slot(set: u64) -> usize
     ensures { result ≡ slot_of set }
 {
@@ -245,7 +247,7 @@ pub fn located(area: &[u8], slots: &[u16; 2048], known: usize, set: u64) -> Opti
     find(area, known, set)
 }
 
-// Notes where the search came to a node from.
+// Notes where the search came to a node from. The notes lie in 4,096 bytes of the caller, two numbers for each node (docs/DECISIONS.md).
 fn note(origins: &mut [u16], number: NodeNumber, from: NodeNumber, letter: u16)
     requires { (number.0 < 1024) × ((from.0 < 1024) × (2 * number.0 + 2 ≤ length origins.old)) }
     ensures { origins.new ≡ with_note origins.old number.0 from.0 letter }
@@ -255,8 +257,9 @@ fn note(origins: &mut [u16], number: NodeNumber, from: NodeNumber, letter: u16)
     origins[2 * j + 1] = letter;
 }
 
-// The node of an arrival, which is not known, as the last of those known, if there is room for it. Area, slots and origins stay apart: of
-// references in one struct each function would have to promise that they are still the same, one by one.
+// The node of an arrival, which is not known, as the last of those known, if there is room for it. Area, slots and origins stay apart. As
+// references in one struct g they were tried: each function promises of each that it is still the same, as in
+// `g.new.area.ghost_name ≡ g.old.area.ghost_name`, and `add` gets no proof, since it lends two of them to `located` at once.
 fn append(
     area: &mut [u8],
     slots: &mut [u16; 2048],
@@ -403,7 +406,7 @@ impl Tableau {
     // The least set around the node that no move leaves, but those of the ors. A node has no bit from count on: `low` changes none, and
     // bounds e for any word. No call of `followed` serves: a step there answers one set, and here the ors go to another, where they wait.
     fn closed(&self, node: u64) -> Closing
-        ensures closing_of { ClosingOf self.now.table.rows self.now.table.count node result }
+        ensures closing_of { on self.now ClosingOf node result }
         ensures fringe_value { result.fringe ≡ 0 }
     {
         let mut c = Closing {
@@ -420,8 +423,8 @@ impl Tableau {
 
     // The least set around the core's node that no move leaves.
     fn saturated(&self, choice: u64, core: Core) -> u64
-        requires core_of { CoreOf self.now.table.rows self.now.table.count core }
-        ensures { Saturated self.now.table.rows self.now.table.count choice core.node result }
+        requires core_of { on self.now CoreOf core }
+        ensures { on self.now Saturated choice core.node result }
     {
         followed(self.table.count, core.set, core.fringe, |s, set| {
             moved(&self.table.rows, choice, s, set)
@@ -431,7 +434,7 @@ impl Tableau {
     // A set that holds every saturation of the node under a choice word with the bits of low, and no others than those of high: it follows
     // the moves of both at once.
     fn widest(&self, low: u64, high: u64, node: u64) -> u64
-        ensures { Widest self.now.table.rows self.now.table.count low high node result }
+        ensures { on self.now Widest low high node result }
     {
         let lower = self.choice_of(low);
         let upper = self.choice_of(high);
@@ -445,7 +448,7 @@ impl Tableau {
 
     // The bits of a choice word at the ors that no saturation of the node meets under a choice word between low and high.
     fn unmet_between(&self, low: u64, high: u64, node: u64) -> u64
-        ensures { UnmetBetween self.now.table.rows self.now.table.count low high node result }
+        ensures { on self.now UnmetBetween low high node result }
     {
         let wide = self.widest(low, high, node);
         let mut bits = 0u64;
@@ -461,9 +464,10 @@ impl Tableau {
 
     // The bits of a choice word at the ors that no saturation of the node meets: entry 2 j for the words that pick left at or j, 2 j + 1
     // for those that pick right there. Of an or that is never met, and where there are so few words that to try them is cheaper, both
-    // entries have only the bits at the ors that are never met.
+    // entries have only the bits at the ors that are never met. It is a list and no pair for each or: a pick is a number, which would only
+    // go from one index to the other.
     pub fn unmet(&self, node: u64) -> [u64; 24]
-        ensures { UnmetOrs self.now.table.rows self.now.table.count node result }
+        ensures { on self.now UnmetOrs node result }
     {
         let n = self.ors();
         let all = base::power(n) - 1;
@@ -483,7 +487,7 @@ impl Tableau {
 
     // What the subformulas of a set require, in one pass over it.
     fn required_by(&self, set: u64) -> Gathered
-        ensures { RequiredBy self.now.table.rows self.now.table.count set result }
+        ensures { on self.now RequiredBy set result }
     {
         let mut all = Gathered {
             required: Requirement {
@@ -504,7 +508,7 @@ impl Tableau {
 
     // The core of a node.
     pub fn core_of(&self, node: u64) -> Core
-        ensures { CoreOf self.now.table.rows self.now.table.count result × (result.node ≡ node) }
+        ensures { on self.now CoreOf result × (result.node ≡ node) }
     {
         let c = self.closed(node);
         let gathered = self.required_by(c.set);
@@ -520,8 +524,8 @@ impl Tableau {
     // The transition of the core's node under a choice, which picks nothing at an or that is not met, if it exists. What the core gathers
     // need not be gathered again.
     fn transition(&self, choice: u64, core: Core) -> Option<Target>
-        requires core_of { CoreOf self.now.table.rows self.now.table.count core }
-        ensures { TargetIs self.now.table.rows self.now.table.count choice core.node result }
+        requires core_of { on self.now CoreOf core }
+        ensures { on self.now TargetIs choice core.node result }
     {
         let set = self.saturated(choice, core);
         if choice & set != choice {
@@ -541,9 +545,9 @@ impl Tableau {
     // The transition of the core's node under a choice word, if it exists. Most words that pick at an or that they do not meet are known by
     // `unmet`.
     pub fn by_word(&self, unmet: &[u64; 24], core: Core, choice_word: u64) -> Option<Target>
-        requires core_of { CoreOf self.now.table.rows self.now.table.count core }
-        requires unmet_ors { UnmetOrs self.now.table.rows self.now.table.count core.node unmet.now }
-        ensures { TargetBy self.now.table.rows self.now.table.count choice_word core.node result }
+        requires core_of { on self.now CoreOf core }
+        requires unmet_ors { on self.now UnmetOrs core.node unmet.now }
+        ensures { on self.now TargetBy choice_word core.node result }
     {
         if core.fails || is_unmet(unmet, choice_word) {
             return None;
@@ -566,11 +570,11 @@ impl Tableau {
     ) -> Option<usize>
         requires number_lt_known { number.0 < known }
         requires growing { Growing known capacity area.old slots.old origins.old }
-        ensures expanded { Expanded self.now.table.rows self.now.table.count number.0 known capacity area.old origins.old
+        ensures expanded { on self.now Expanded number.0 known capacity area.old origins.old
             area.new origins.new (counted capacity result) }
         ensures bounds { IfSome result (λ n. (known ≤ n) × (n ≤ capacity)) }
         ensures slots_marked { IfSome result (λ n. SlotsMarked n area.new slots.new) }
-        ensures steps_of { HasBlock relation.old number.0 → IfSome result (λ n. StepsOf self.now.table.rows self.now.table.count number.0
+        ensures steps_of { HasBlock relation.old number.0 → IfSome result (λ n. on self.now StepsOf number.0
             known area.old area.new relation.old relation.new n) }
     {
         let from = node(area, number);
@@ -603,7 +607,7 @@ impl Tableau {
     ) -> Option<usize>
         requires from_le_to { (from ≤ to) × (from ≤ known) }
         requires growing { Growing known capacity area.old slots.old origins.old }
-        ensures gone_on { GoneOn self.now.table.rows self.now.table.count from to known capacity area.old origins.old
+        ensures gone_on { on self.now GoneOn from to known capacity area.old origins.old
             relation.old area.new slots.new origins.new relation.new (counted capacity result) }
         ensures fits { IfSome result (λ n. n ≤ capacity) }
     {
@@ -631,7 +635,7 @@ impl Tableau {
         requires node_room { NodeRoom 1 capacity (length area.old) }
         requires capacity_in_bounds { 2 * capacity ≤ length origins.old }
         requires in_bounds { 2048 ≤ length slots.old }
-        ensures searched { Searched self.now.table.rows self.now.table.count to capacity area.old relation.old area.new
+        ensures searched { on self.now Searched to capacity area.old relation.old area.new
             slots.new origins.new relation.new (counted capacity result) }
         ensures fits { IfSome result (λ n. n ≤ capacity) }
     {

@@ -10,4 +10,4 @@ returns-in-Next c = inside-next c.args.scope c.args.me.0 c.args.at c.args.op c.r
 pub returns-in-Least : goal.returns-in-Least
 returns-in-Least c =
     inside-fixpoint c.args.scope c.args.me.0 c.args.at c.args.op c.requires.guarded c.in-Least.is c.requires.number c.requires.room
-    (search rules) (search rules)
+    (search rules)

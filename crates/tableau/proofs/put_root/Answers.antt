@@ -14,4 +14,5 @@ add-requires c =
 
 pub returns : goal.returns
 returns c =
-    find_begun _ c.requires.node_room.fits refl c.add.ensures.node_added (came_marked 0 1 c.args.area.now c.add.result c.add.ensures.came_in)
+    find_begun _ c.requires.node_room.fits refl c.add.ensures.node_added
+    (came_marked 0 1 c.args.area.now c.add.result c.add.ensures.came_in)

@@ -5,5 +5,5 @@ use Rattle.distances.proofs.Graph.with_row.Goals as goal
 
 pub returns : goal.returns
 returns c =
-    row-joined (rows_of c.args.self.now.steps c.args.self.now.all_blocks) c.args.row c.requires c.told-set c.loop-i.invariant c.loop-i.auto.i-end
-    c.loop-i-test.false
+    row-joined (rows_of c.args.self.now.steps c.args.self.now.all_blocks) c.args.row c.requires c.told-set c.loop-i.invariant
+    c.loop-i.auto.i-end c.loop-i-test.false

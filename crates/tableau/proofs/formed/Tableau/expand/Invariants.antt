@@ -21,5 +21,5 @@ pub record Turned (rows : List ℕ) (count i from known capacity : ℕ) (area₀
 
 abbrev pub invariant-loop-word : goal.invariant-loop-word
 invariant-loop-word l =
-    Turned l.self.table.rows l.self.table.count l.number.0 l.core.node l.known l.capacity l.initial.area l.initial.origins l.initial.relation l.all
-    l.word l.area l.slots l.origins l.relation
+    Turned l.self.table.rows l.self.table.count l.number.0 l.core.node l.known l.capacity l.initial.area l.initial.origins l.initial.relation
+    l.all l.word l.area l.slots l.origins l.relation

@@ -20,5 +20,5 @@ pub record Turned (rows : List ℕ) (count from to known capacity : ℕ) (area�
 
 abbrev pub invariant-loop-i : goal.invariant-loop-i
 invariant-loop-i l =
-    Turned l.self.table.rows l.self.table.count l.from l.to l.known l.capacity l.initial.area l.initial.origins l.initial.relation l.i l.total l.area l.slots
-    l.origins l.relation
+    Turned l.self.table.rows l.self.table.count l.from l.to l.known l.capacity l.initial.area l.initial.origins l.initial.relation
+    l.i l.total l.area l.slots l.origins l.relation

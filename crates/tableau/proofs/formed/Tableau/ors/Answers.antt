@@ -12,7 +12,8 @@ use Rattle.tableau.proofs.formed.Tableau.ors.Goals as goal
 -- the definition counts by recursion
 counted : (rows : List ℕ) (i n : ℕ) → length (filter (λ e. is_or (operator_at rows e)) (range_with_len i n)) ≡ ors (operators_of rows i n)
 counted rows i zero = refl
-counted rows i (suc n) = by (is_or (operator_at rows i)) _ (ap (λ j. length (kept (range_with_len j n))) (add-one i) ∙ counted rows (suc i) n)
+counted rows i (suc n) =
+    by (is_or (operator_at rows i)) _ (ap (λ j. length (kept (range_with_len j n))) (add-one i) ∙ counted rows (suc i) n)
   where
     kept : List ℕ → List ℕ
     kept = filter (λ e. is_or (operator_at rows e))
@@ -25,5 +26,6 @@ pub returns : goal.returns
 returns c =
     count_from_yields_List c.filter.result _ c.count.ensures.ran
     (YieldsList-from_filter _ (λ e. is_or (operator_at c.args.self.now.table.rows e)) (YieldsList-at c.filter.ensures.source
-    (YieldsList-from_range 0 c.args.self.now.table.count c.args.self.now.table.count refl (omega arith))) c.filter.ensures.closure (λ x b q k. search (rules, tests)))
+    (YieldsList-from_range 0 c.args.self.now.table.count c.args.self.now.table.count refl (omega arith))) c.filter.ensures.closure
+    (λ x b q k. search (rules, tests)))
     ∙ counted c.args.self.now.table.rows 0 c.args.self.now.table.count

@@ -20,7 +20,7 @@ loop-j-preserved c =
     elim c.if-not-has.branch [
       | then-not-has w ↦
           rw w.bits-is
-          (unmet_turn _ _ c.ors-n.ensures all c.loop-j.j (omega (arith, c.ors-n.ensures, c.args.self.now.formed.few_ors)) refl refl w.with.ensures
-          w.unmet_between.ensures w.power.ensures w.unmet_between-then-not-has.ensures c.loop-j.invariant)
+          (unmet_turn _ _ c.ors-n.ensures all c.loop-j.j (omega (arith, c.ors-n.ensures, c.args.self.now.formed.few_ors)) refl refl
+          w.with.ensures w.unmet_between.ensures w.power.ensures w.unmet_between-then-not-has.ensures c.loop-j.invariant)
       | else-not-has w ↦ rw w.bits-is c.loop-j.invariant
     ]

@@ -15,7 +15,8 @@ reach κ a r p q = ⊑_meet κ (a ++ []) r (⊑_meet κ a [] p (⊑_static κ)) 
 pub followed-requires : goal.followed-requires
 followed-requires c κs within =
     let go = moves_both c.args.self.now.table.rows c.choice_of-lower.result c.choice_of-upper.result in (
-      (let three = reach κs.0 κs.1.0 _ within.0 (reach κs.0 κs.1.1.0 _ within.1.0 (reach κs.0 κs.1.1.1.0 [] within.1.1.0 (⊑_static κs.0))) in
+      (let two = reach κs.0 κs.1.1.0 _ within.1.0 (reach κs.0 κs.1.1.1.0 [] within.1.1.0 (⊑_static κs.0)) in
+          let three = reach κs.0 κs.1.0 _ within.0 two in
           ⊑_meet κs.0 _ _ three three),
       (
         (spread-start go c.args.node c.low.ensures).few,
@@ -30,4 +31,5 @@ followed-requires c κs within =
 pub returns : goal.returns
 returns c =
     let go = moves_both c.args.self.now.table.rows c.choice_of-lower.result c.choice_of-upper.result in
-    widest_rest c.choice_of-lower.ensures c.choice_of-upper.ensures (c.followed.ensures c.args.node (spread-start go c.args.node c.low.ensures)) refl
+    widest_rest c.choice_of-lower.ensures c.choice_of-upper.ensures
+    (c.followed.ensures c.args.node (spread-start go c.args.node c.low.ensures)) refl
