@@ -2,14 +2,14 @@
 -- profile. It begins with the profiles of one transition, the first layer (`search-start`). Where its last layer has none either, the next
 -- one is made (`search-next`), unless there is no room for it (`search-full`); a layer that adds nothing is the last (`search_end`), and
 -- one with an accepting profile too (`search-found`). Assumes nothing.
-use Rattle.std.proofs.Common.{◌≡◌, refl, sym, ap, subst, ◌∙◌, Bool, false, List, ℕ, suc, ◌≤◌, ◌<◌, length, arith}
+use Rattle.std.proofs.Common.{◌≡◌, refl, sym, ap, subst, ◌∙◌, Bool, false, List, Option, Some, None, ℕ, suc, ◌≤◌, ◌<◌, length, arith}
 use Rattle.std.proofs.Math.Decide.{dec_lt}
 use Rattle.base.specs.Lists.{At}
 use Rattle.base.proofs.At.{at_one, at_before}
 use Rattle.profile_tables.specs.Runs.{FoundProfile, profiles_from, layer, count_within}
 use Rattle.profile_tables.proofs.LayerLaws.{layer-on, found_begin}
 use Rattle.profile_search.specs.Stored.{record_start, record_of, stored, BytesBetween, Chained, StoreChained, Grown}
-use Rattle.profile_search.specs.declared.Store.{Store}
+use Rattle.profile_search.specs.declared.placed.Store.{Store}
 use Rattle.profile_search.proofs.RecordLaws.{changed-none, changed_then}
 use Rattle.profile_search.proofs.GrowLaws.{stored-length, record_at, stored-kept}
 use Rattle.cycle_search.specs.Layers.{First, Layers, ComesTo}
@@ -57,7 +57,7 @@ module _ (test : FoundProfile → Bool) (s : Store) (singles : ℕ) (a : List �
     tested p = test (record_of s b p)
 
     -- the accepting profile that is found first in the last layer is the first of all
-    pub search-found : {p : ℕ} → First tested from all p → ComesTo test s ones b (sought.Accepting p all)
+    pub search-found : {p : ℕ} → First tested from all p → ComesTo test s ones b (Some (sought.Accepting p all))
     search-found {p} f =
         ComesTo.accepting {p = p} k.number k.layers f.below f.passes
         (λ i h. elim (dec_lt i from) [ yes l ↦ k.layers.none_passes i l | no n ↦ f.before i (omega arith) h ]) f.from
@@ -112,25 +112,25 @@ module _ (test : FoundProfile → Bool) (s : Store) (singles : ℕ) (a : List �
           elsewhere = changed_then k.elsewhere (omega arith) (omega arith) grown.elsewhere;
         }
 
-        pub search-full : s.capacity < more → ComesTo test s ones d sought.NoRoom
+        pub search-full : s.capacity < more → ComesTo test s ones d None
         search-full h =
             ComesTo.no_room next (omega (arith, grown.count_is, next-length))
             (λ i x c l. none-listed i x (subst (λ (n : ℕ). At (profiles_from n s.n ones) i x) (sym k.layers.all_is) c)
             (omega (arith, k.layers.all_is)))
 
-    pub search_end : all ≤ from → ComesTo test s ones b (sought.Nowhere all)
+    pub search_end : all ≤ from → ComesTo test s ones b (Some (sought.Nowhere all))
     search_end h =
         ComesTo.nowhere k.number
         (subst (λ (n : ℕ). Layers test s ones b k.number n all) {x = from} {y = all} (omega (arith, k.low)) k.layers)
 
 -- where there is no room for the first layer
 pub none-fits : (test : FoundProfile → Bool) {s : Store} {a b : List ℕ} {r : ℕ} {ones : List FoundProfile} → Grown s 0 a r b ones
-    → s.capacity < r → ComesTo test s ones b sought.NoRoom
+    → s.capacity < r → ComesTo test s ones b None
 unfolding profiles_from
 none-fits test g h = ComesTo.no_room 0 (omega (arith, g.count_is)) (λ i x c l. absurd (omega arith))
 
 -- the same search by an equal test, from equal profiles
-pub comes_same : {test test' : FoundProfile → Bool} {s : Store} {xs ys : List FoundProfile} {b : List ℕ} {r : Sought}
+pub comes_same : {test test' : FoundProfile → Bool} {s : Store} {xs ys : List FoundProfile} {b : List ℕ} {r : Option Sought}
     → ((x : FoundProfile) → test x ≡ test' x) → xs ≡ ys → ComesTo test s xs b r → ComesTo test' s ys b r
 comes_same {s = s} {b = b} {r = r} f e k =
     subst (λ (q : (FoundProfile → Bool) × List FoundProfile). ComesTo q.0 s q.1 b r)

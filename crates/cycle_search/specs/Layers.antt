@@ -5,7 +5,7 @@ use Rattle.base.specs.Lists.{At}
 use Rattle.profile_tables.specs.Triples.{rejecting}
 use Rattle.profile_tables.specs.Runs.{FoundProfile, profiles_from, count_within}
 use Rattle.profile_search.specs.Stored.{record_of, stored}
-use Rattle.profile_search.specs.declared.Store.{Store}
+use Rattle.profile_search.specs.declared.placed.Store.{Store}
 use Rattle.cycle_search.specs.declared.Sought.{Sought}
 use Rattle.cycle_search.specs.declared.Sought.TheVariants as sought
 
@@ -39,12 +39,12 @@ abbrev pub found_by : Store → List FoundProfile → (l : ℕ) → List FoundPr
 found_by s ones l = profiles_from (count_within s.n ones l) s.n ones
 
 -- What the search comes to, from the profiles of one transition. Accepting: the store has all layers up to that of the profile, which is
--- the first that passes. Nowhere: it has all profiles, and none passes. NoRoom: there is no room for the first l + 1 layers, and in the
+-- the first that passes. Nowhere: it has all profiles, and none passes. None: there is no room for the first l + 1 layers, and in the
 -- first l none passes.
-pub data ComesTo (test : FoundProfile → Bool) (s : Store) (ones : List FoundProfile) (area : List ℕ) : Sought → Type 0 where
+pub data ComesTo (test : FoundProfile → Bool) (s : Store) (ones : List FoundProfile) (area : List ℕ) : Option Sought → Type 0 where
   accepting : {from all p : ℕ} (l : ℕ) → Layers test s ones area l from all → p < all → test (record_of s area p) ≡ true
-      → ((i : ℕ) → i < p → test (record_of s area i) ≡ false) → from ≤ p → ComesTo test s ones area (sought.Accepting p all)
-  nowhere : {all : ℕ} (l : ℕ) → Layers test s ones area l all all → ComesTo test s ones area (sought.Nowhere all)
+      → ((i : ℕ) → i < p → test (record_of s area i) ≡ false) → from ≤ p → ComesTo test s ones area (Some (sought.Accepting p all))
+  nowhere : {all : ℕ} (l : ℕ) → Layers test s ones area l all all → ComesTo test s ones area (Some (sought.Nowhere all))
   no_room : (l : ℕ) → s.capacity < count_within s.n ones (suc l)
       → ((i : ℕ) (x : FoundProfile) → At (found_by s ones l) i x → i < count_within s.n ones l → test x ≡ false)
-      → ComesTo test s ones area sought.NoRoom
+      → ComesTo test s ones area None

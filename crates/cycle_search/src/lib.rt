@@ -11,17 +11,14 @@ ghost use Rattle.profile_search.specs.Singles.{SearchInput, nodes_in};
 ghost use Rattle.cycle_search.specs.Layers.{accepts, FirstOf, ComesTo};
 
 use profile_search::Store;
-use tableau::Tableau;
-use traces::Ranks;
+use traces::RankedTableau;
 
-// The first accepting profile, and how many there are of runs that are no longer; none among all profiles, and how many these are; or a
-// layer that there is no room for before that is known. These are three answers with values of their own, so neither Option nor Result
-// is plainer.
+// The first accepting profile, and how many there are of runs that are no longer; or that none is accepting, and how many there are of all
+// runs.
 #[derive(Clone, Copy)]
 pub enum Sought {
     Accepting { profile: usize, count: usize },
     Nowhere(usize),
-    NoRoom,
 }
 
 // Whether profile p is that of an accepting cycle, where the mask has the least fixpoints.
@@ -44,8 +41,8 @@ fn accepting(area: &[u8], store: Store, from: usize, to: usize, mask: u8) -> Opt
     (from..to).find(|&p| is_accepting(area, store, p, mask))
 }
 
-// The search on from the profiles of one transition.
-fn by_layers(area: &mut [u8], store: Store, singles: usize, mask: u8) -> Sought
+// The search on from the profiles of one transition, or `None` where there is no room for a layer before its end is known.
+fn by_layers(area: &mut [u8], store: Store, singles: usize, mask: u8) -> Option<Sought>
     requires store_chained { StoreChained store area.old singles }
     requires rising { Rising store area.old singles }
     ensures comes_to { ComesTo (accepts (bit mask) store.n) store (stored store area.old singles) area.new result }
@@ -56,31 +53,26 @@ fn by_layers(area: &mut [u8], store: Store, singles: usize, mask: u8) -> Sought
     let mut all = singles;
     while from < all {
         if let Some(profile) = accepting(area, store, from, all, mask) {
-            return Sought::Accepting {
+            return Some(Sought::Accepting {
                 profile,
                 count: all,
-            };
+            });
         }
-        let longer = profile_search::layer(area, store, from, all, singles);
-        let Some(more) = longer else {
-            return Sought::NoRoom;
-        };
+        let more = profile_search::layer(area, store, from, all, singles)?;
         from = all;
         all = more;
     }
-    Sought::Nowhere(all)
+    Some(Sought::Nowhere(all))
 }
 
-// The search over the nodes in the area.
-pub fn search(t: &Tableau, r: Ranks, store: Store, area: &mut [u8], nodes: usize) -> Sought
-    requires { SearchInput t.now.table.rows t.now.table.count r store nodes area.old }
-    ensures comes_to { ComesTo (accepting (operators t.now)) store
-        (singles (operators t.now) (nodes_in t.now.table.count area.old nodes)) area.new result }
+// The search over the nodes in the area, or `None` where there is no room for the profiles.
+pub fn search(ranked: &RankedTableau, store: Store, area: &mut [u8], nodes: usize) -> Option<Sought>
+    requires { SearchInput ranked.now.tableau.now.table.rows ranked.now.tableau.now.table.count store nodes area.old }
+    ensures comes_to { ComesTo (accepting (operators ranked.now.tableau.now)) store
+        (singles (operators ranked.now.tableau.now) (nodes_in ranked.now.tableau.now.table.count area.old nodes)) area.new result }
     ensures bytes_between { BytesBetween store.base (record_start store store.capacity) area.old area.new }
 {
-    let Some(singles) = profile_search::singles(t, r, store, area, nodes) else {
-        return Sought::NoRoom;
-    };
-    let mask = traces::least_mask(t, &r.fix);
+    let singles = profile_search::singles(ranked, store, area, nodes)?;
+    let mask = ranked.least_mask();
     by_layers(area, store, singles, mask)
 }

@@ -4,7 +4,8 @@
 use Rattle.std.proofs.Common.{◌≡◌, refl, sym, ◌∙◌, inl, inr, List, [], ◌∷◌, ◌++◌, map, ℕ, ◌≤◌, ◌<◌, Ok, Err, arith, length}
 use Rattle.std.proofs.Math.ListN.{length-map}
 use Rattle.std.proofs.Math.Path.{subst⁻¹}
-use mathlib.Core.List.{map-append, Memᴰ}
+use mathlib.Core.List.{Memᴰ}
+use Rattle.std.proofs.lemmas.List.{map-append}
 use mathlib.Core.List.Memᴰ
 use Rattle.base.proofs.AskLaws.{Asked, every_outcome}
 use Rattle.formula.specs.Formula.{Formula}

@@ -6,9 +6,10 @@
 use Rattle.std.proofs.Common.{◌≡◌, refl, sym, ap, ◌∙◌, Bool, true, false, List, [], ◌++◌, map, ℕ, suc, ◌+◌, ◌≤◌, ◌<◌, arith, T, length}
 use Rattle.std.proofs.Common.{length-append, drop, Ok}
 use Rattle.std.proofs.Math.ListN.{length-map}
+use Rattle.std.specs.Prelude as prelude
 use Rattle.std.proofs.Math.Option.{Option, none, some}
 use Rattle.std.proofs.Math.Path.{subst⁻¹}
-use mathlib.Core.List.{map-append}
+use Rattle.std.proofs.lemmas.List.{map-append}
 use Rattle.base.proofs.BoolLaws.{to_T, of_T}
 use Rattle.base.proofs.At.{At, at_lt, at_get, at_in, at_one, at_unmap}
 use Rattle.base.proofs.WithinLaws.{within-few, within_more}
@@ -28,7 +29,7 @@ use Rattle.profile_tables.proofs.NodeNumbers.{sets}
 use Rattle.profile_tables.proofs.RunLaws.{ItemListed}
 use Rattle.profile_tables.proofs.AgreeLaws.{ProfilesAgree, SearchAgrees, agrees, first-accepting, first-behind, none-accepting}
 use Rattle.profile_search.specs.Stored.{stored, record_of, first_of}
-use Rattle.profile_search.specs.declared.Store.{Store}
+use Rattle.profile_search.specs.declared.placed.Store.{Store}
 use Rattle.profile_search.proofs.GrowLaws.{stored-length, record_at}
 use Rattle.cycle_search.specs.Layers.{Layers, found_by, ComesTo}
 use Rattle.cycle_search.specs.declared.Sought.{Sought}
@@ -77,7 +78,7 @@ never {b} e h =
 decoded_agrees : {rows : List ℕ} {count : ℕ} → Decoded rows count → SearchAgrees (table_of rows count)
 decoded_agrees d = subst⁻¹ SearchAgrees d.is (agrees d.bytes d.formula d.parsed)
 
-module _ {rows : List ℕ} {count : ℕ} {origins area : List ℕ} {s : Store} {K : ℕ} {found : Sought}
+module _ {rows : List ℕ} {count : ℕ} {origins area : List ℕ} {s : Store} {K : ℕ} {found : prelude.Option Sought}
     (h : Profiled rows count origins area s K found)
   where
     abbrev t : Table
@@ -237,7 +238,7 @@ module _ {rows : List ℕ} {count : ℕ} {origins area : List ℕ} {s : Store} {
       pub told-ready : {N len : ℕ} → node_count t ≤ N → N + M ≤ len → Ready origins s area len found
       told-ready {N} {len} few room = by h.comes_to
         where
-          by : {o : Sought} → ComesTo (accepting t) s ones area o → Ready origins s area len o
+          by : {o : prelude.Option Sought} → ComesTo (accepting t) s ones area o → Ready origins s area len o
           by (ComesTo.accepting l y low passes before late) =
               witness-ready y low passes before late (omega (arith, h.nodes_are))
           by (ComesTo.nowhere l y) = tt
@@ -247,7 +248,7 @@ module _ {rows : List ℕ} {count : ℕ} {origins area : List ℕ} {s : Store} {
           → Answers (onward M t) buffer after r
       told-answers {buffer} {after} {r} = by h.comes_to
         where
-          by : {o : Sought} → ComesTo (accepting t) s ones area o → Told origins s area K o buffer after r
+          by : {o : prelude.Option Sought} → ComesTo (accepting t) s ones area o → Told origins s area K o buffer after r
               → Answers (onward M t) buffer after r
           by (ComesTo.accepting l y low passes before late) (w, written, e) =
               answers-on M t (omega (arith, needed-all y low passes before late, y.room))

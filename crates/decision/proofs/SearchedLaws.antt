@@ -2,7 +2,7 @@
 -- workspace, found from the root or left there by building, and the store of profiles behind them; the search for an accepting cycle
 -- changes the store alone. Assumes nothing.
 use Rattle.std.proofs.Common.{◌≡◌, refl, sym, ap, subst, ◌∙◌, Bool, true, List, [], ◌++◌, map, ℕ, ◌+◌, ◌*◌, ◌-◌, ◌≤◌, ◌<◌, arith, length}
-use Rattle.std.proofs.Common.{length-append, length-take, length-drop, get_or, take, drop, get_or-append-add, get_or-drop, Err}
+use Rattle.std.proofs.Common.{length-append, length-take, length-drop, get_or, take, drop, get_or-append-add, get_or-drop, Option, Err}
 use mathlib.Core.List.{Memᴰ}
 use Rattle.base.specs.Lists.{flat_map}
 use Rattle.base.specs.Bits.{word}
@@ -11,7 +11,7 @@ use Rattle.base.proofs.AskLaws.{first_refusal, passed}
 use Rattle.formula.specs.Table.{Table}
 use Rattle.tableau.specs.Saturation.{Subset}
 use Rattle.tableau.specs.Transition.{Transition, transitions}
-use Rattle.tableau.specs.Inner.{table_of}
+use Rattle.tableau.specs.Inner.{table_of, Formed}
 use Rattle.tableau.specs.Area.{bytes8, words_at, NodesHeld, reachable, SubsetsSized}
 use Rattle.tableau.specs.Origins.{Origins}
 use Rattle.tableau.proofs.NodeLaws.{nodes-first}
@@ -23,11 +23,11 @@ use Rattle.construction.proofs.LayoutLaws.{reachable-count, held-many, held-coun
 use Rattle.construction.proofs.CheckLaws.{nodes_exactly, has_words}
 use Rattle.profile_tables.specs.Runs.{number_of, singles, accepting}
 use Rattle.profile_tables.proofs.NodeNumbers.{leads_in}
-use Rattle.traces.specs.Inner.{RowsLimited, RanksOf}
+use Rattle.traces.specs.Inner.{RanksOf}
 use Rattle.traces.specs.declared.Ranks.{Ranks}
 use Rattle.profile_search.specs.Stored.{record_start, StoreFits, BytesBetween}
 use Rattle.profile_search.specs.Singles.{SearchInput, node_in, nodes_in}
-use Rattle.profile_search.specs.declared.Store.{Store}
+use Rattle.profile_search.specs.declared.placed.Store.{Store}
 use Rattle.profile_search.proofs.SingleLaws.{nodes_in_are, node_in_are, node-sets}
 use Rattle.cycle_search.specs.Layers.{ComesTo}
 use Rattle.cycle_search.specs.declared.Sought.{Sought}
@@ -56,8 +56,8 @@ module _ (g a : List ℕ) (h : length g ≤ length a) where
       ∙ ap (λ (k : ℕ). get_or a k 0) {x = length g + j} {y = i} (omega arith)
 
 -- The nodes, as the search from the root leaves them.
-module _ {rows : List ℕ} {count : ℕ} (d : Decoded rows count) {N M buffer : ℕ} {a : List ℕ} (lends : Lends N M (length a) buffer)
-    {known : ℕ} {area : List ℕ} (held : NodesHeld N known a area (reachable (table_of rows count)))
+module _ {rows : List ℕ} {count : ℕ} (formed : Formed rows count) (d : Decoded rows count) {N M buffer : ℕ} {a : List ℕ}
+    (lends : Lends N M (length a) buffer) {known : ℕ} {area : List ℕ} (held : NodesHeld N known a area (reachable (table_of rows count)))
   where
     abbrev t : Table
     t = table_of rows count
@@ -106,7 +106,7 @@ module _ {rows : List ℕ} {count : ℕ} (d : Decoded rows count) {N M buffer : 
           nodes_are = held-count t held h;
           fits = h;
           words_are =
-              ap (words_at area 0) (held-count t held h ∙ sym (reachable-count t)) ∙ (nodes-kept d.limited.formed held h).words;
+              ap (words_at area 0) (held-count t held h ∙ sym (reachable-count t)) ∙ (nodes-kept formed held h).words;
           notes_are = notes;
           notes_room = room;
         }
@@ -122,17 +122,17 @@ module _ {rows : List ℕ} {count : ℕ} (d : Decoded rows count) {N M buffer : 
         }
 
 -- Theorem: a search can go on from nodes of which question 36 says that they are the table's.
-pub checked-ready : {rows : List ℕ} {count N M buffer K : ℕ} {origins area : List ℕ} → Decoded rows count → Lends N M (length area) buffer
-    → {b : Bool} → b ≡ are_nodes K N area (table_of rows count) → b ≡ true → Origins (table_of rows count) origins K
+pub checked-ready : {rows : List ℕ} {count N M buffer K : ℕ} {origins area : List ℕ} → Formed rows count → Decoded rows count
+    → Lends N M (length area) buffer → {b : Bool} → b ≡ are_nodes K N area (table_of rows count) → b ≡ true → Origins (table_of rows count) origins K
     → 2 * N ≤ length origins → NodesReady rows count N M K origins area buffer
-checked-ready {rows} {count} {N} {K = K} {area = area} d lends is passes notes room =
+checked-ready {rows} {count} {N} {K = K} {area = area} formed d lends is passes notes room =
     let has = (nodes_exactly K N area (table_of rows count)).0 (sym is ∙ passes) in
     record {
       decoded = d;
       lends = lends;
       nodes_are = has.counted;
       fits = omega (arith, has.counted, has.fits);
-      words_are = has_words d.limited.formed has;
+      words_are = has_words formed has;
       notes_are = notes;
       notes_room = room;
     }
@@ -147,9 +147,6 @@ module _ {rows : List ℕ} {count N M K : ℕ} {origins area : List ℕ} {buffer
     (b : StoreBehind rows count N M K origins area buffer r s) where
   abbrev table' : Table
   table' = table_of rows count
-
-  abbrev limited : RowsLimited rows count
-  limited = b.ready.decoded.limited
 
   abbrev lent : Lends N M (length area) buffer
   lent = b.ready.lends
@@ -177,21 +174,13 @@ module _ {rows : List ℕ} {count N M K : ℕ} {origins area : List ℕ} {buffer
 
   in_store : (x : List ℕ) → length x ≡ length area → StoreFits s (length x)
   in_store x e =
-      record {
-        next = omega (arith, b.store_is.nexts_are, b.ranks.nexts_are, limited.few_nexts);
-        low = omega (arith, b.store_is.base_is, lent.capacity.few_nodes);
-        some = omega (arith, b.store_is.capacity_is, lent.capacity.some_profiles);
-        few = omega (arith, b.store_is.capacity_is, lent.capacity.few_profiles);
-        enough = omega (arith, b.store_is.base_is, ap (λ (k : ℕ). 192 * k) b.store_is.capacity_is, lent.workspace_fits, e);
-      }
+      omega (arith, b.store_is.base_is, ap (λ (k : ℕ). 192 * k) b.store_is.capacity_is, lent.workspace_fits, e)
 
-  pub given : SearchInput rows count r s K area
+  pub given : SearchInput rows count s K area
   given =
       record {
-        limited = limited;
-        ranks = b.ranks;
         fits = in_store area refl;
-        nexts = b.store_is.nexts_are;
+        nexts = b.store_is.nexts_are ∙ b.ranks.nexts_are;
         some = omega (arith, b.ready.nodes_are, ap length (nodes-first table'));
         few = omega (arith, b.ready.fits, lent.capacity.few_nodes);
         behind = omega (arith, b.ready.fits, b.store_is.base_is);
@@ -200,7 +189,7 @@ module _ {rows : List ℕ} {count N M K : ℕ} {origins area : List ℕ} {buffer
       }
 
   -- what the search for an accepting cycle comes to
-  module _ {found : Sought} {after : List ℕ} (c : ComesTo (accepting table') s (singles table' (nodes_in count area K)) after found)
+  module _ {found : Option Sought} {after : List ℕ} (c : ComesTo (accepting table') s (singles table' (nodes_in count area K)) after found)
       (e : BytesBetween s.base (record_start s s.capacity) area after) where
     -- Theorem: it is over the table's nodes, and the notes are those of all of them;
     pub search_profiled : Profiled rows count origins after s K found
@@ -215,7 +204,8 @@ module _ {rows : List ℕ} {count N M K : ℕ} {origins area : List ℕ} {buffer
           comes_to = subst (λ (l : List Subset). ComesTo (accepting table') s (singles table' l) after found) nodes_are c;
         }
 
-    -- what the answer asks is there, and the answer to it is the answer; behind the nodes only the store has changed.
+    -- what the answer asks is there, and the answer to it, or 15 where there is no room, is the answer; behind the nodes only the store
+    -- has changed.
     pub answer-ready : Ready origins s after buffer found
     answer-ready =
         told-ready search_profiled M b.store_is.capacity_is (omega (arith, b.ready.nodes_are, b.ready.fits)) lent.buffer_fits

@@ -1,7 +1,7 @@
 -- What the functions promise that ask the questions, build the tableau, search the profiles and answer. A reader of the decision's contract
 -- need not read it. Assumes nothing.
-use Rattle.std.specs.Prelude.{◌≡◌, List, map, ℕ, ◌*◌, ◌≤◌, length, Ok, Err}
-use Rattle.std.proofs.Math.Option.{Option}
+use Rattle.std.specs.Prelude.{◌≡◌, List, map, ℕ, ◌*◌, ◌≤◌, length, Option, Some, None, Ok, Err}
+use Rattle.std.proofs.Math.Option as math
 use Rattle.base.specs.Bits.{word}
 use Rattle.base.specs.Search.{Item}
 use Rattle.formula.specs.Formula.{Formula}
@@ -21,7 +21,7 @@ use Rattle.profile.specs.Profiles as literal
 use Rattle.profile_tables.specs.Runs.{singles, accepting}
 use Rattle.traces.specs.Inner.{RowsLimited}
 use Rattle.profile_search.specs.Stored.{StoreFits, BytesBetween}
-use Rattle.profile_search.specs.declared.Store.{Store}
+use Rattle.profile_search.specs.declared.placed.Store.{Store}
 use Rattle.cycle_search.specs.Layers.{ComesTo}
 use Rattle.cycle_search.specs.declared.Sought.{Sought}
 use Rattle.cycle_search.specs.declared.Sought.TheVariants as sought
@@ -47,7 +47,7 @@ pub record StorePlaced (N M n : ℕ) (s : Store) : Type 0 where
   pub nexts_are : s.n ≡ n
 
 -- What the search for an accepting cycle came to, over the rows' table; the notes are those of its K nodes.
-pub record Profiled (rows : List ℕ) (count : ℕ) (origins area : List ℕ) (s : Store) (K : ℕ) (found : Sought) : Type 0 where
+pub record Profiled (rows : List ℕ) (count : ℕ) (origins area : List ℕ) (s : Store) (K : ℕ) (found : Option Sought) : Type 0 where
   pub decoded : Decoded rows count
   pub notes_are : Origins (table_of rows count) origins K
   pub notes_room : 2 * K ≤ length origins
@@ -57,17 +57,17 @@ pub record Profiled (rows : List ℕ) (count : ℕ) (origins area : List ℕ) (s
   pub comes_to : ComesTo (accepting (table_of rows count)) s (singles (table_of rows count) (reachable (table_of rows count))) area found
 
 -- What the answer asks: of an accepting profile what writing its witness asks.
-abbrev pub Ready : (origins : List ℕ) → Store → (area : List ℕ) → (len : ℕ) → Sought → Type 0
-Ready origins s area len (sought.Accepting p count) = WitnessReady origins s area p len
-Ready origins s area len (sought.Nowhere count) = Unit {0}
-Ready origins s area len sought.NoRoom = Unit {0}
+abbrev pub Ready : (origins : List ℕ) → Store → (area : List ℕ) → (len : ℕ) → Option Sought → Type 0
+Ready origins s area len (Some (sought.Accepting p count)) = WitnessReady origins s area p len
+Ready origins s area len (Some (sought.Nowhere count)) = Unit {0}
+Ready origins s area len None = Unit {0}
 
 -- The answer with K nodes, and the witness buffer: for an accepting profile its witness is written.
-abbrev pub Told : (origins : List ℕ) → Store → (area : List ℕ) → (K : ℕ) → Sought → (before after : List ℕ) → Answer → Type 0
-Told origins s area K (sought.Accepting p count) before after r =
+abbrev pub Told : (origins : List ℕ) → Store → (area : List ℕ) → (K : ℕ) → Option Sought → (before after : List ℕ) → Answer → Type 0
+Told origins s area K (Some (sought.Accepting p count)) before after r =
     (w : Lengths) × WitnessWritten origins s area p before after w × (r ≡ Ok (Satisfiable w.stem w.cycle K count))
-Told origins s area K (sought.Nowhere count) before after r = (after ≡ before) × (r ≡ Ok (Unsatisfiable K count))
-Told origins s area K sought.NoRoom before after r = (after ≡ before) × (r ≡ Err (No Profiles))
+Told origins s area K (Some (sought.Nowhere count)) before after r = (after ≡ before) × (r ≡ Ok (Unsatisfiable K count))
+Told origins s area K None before after r = (after ≡ before) × (r ≡ Err (No Profiles))
 
 -- The answer to a verdict, and what it leaves in the witness buffer.
 pub record Answers (v : Verdict) (before after : List ℕ) (r : Answer) : Type 0 where
@@ -75,7 +75,7 @@ pub record Answers (v : Verdict) (before after : List ℕ) (r : Answer) : Type 0
   pub buffered : after ≡ leaves v before
 
 -- the accepting profile that the definition finds, if any
-abbrev pub found_in : Table → Option (Item Transition literal.Profile)
+abbrev pub found_in : Table → math.Option (Item Transition literal.Profile)
 found_in t = chosen t (literal.profiles t (nodes t))
 
 -- how many profiles the definition counts

@@ -2,7 +2,7 @@
 // nodes that were built before.
 #![tactic(auto)]
 
-ghost use Rattle.std.specs.Prelude.{◌≡◌, ◌≤◌, length, OnOk, IfErr};
+ghost use Rattle.std.specs.Prelude.{◌≡◌, ◌≤◌, ◌<◌, length, Some, OnOk, IfErr};
 ghost use Rattle.tableau.specs.Operators.{operators};
 ghost use Rattle.construction.specs.Construction.{nodes_size};
 ghost use Rattle.decision.specs.Verdict.{within_capacity, workspace_size, witness_size, decide};
@@ -14,6 +14,7 @@ use construction::{Question, Refusal};
 use cycle_search::Sought;
 use profile_search::Store;
 use tableau::Tableau;
+use traces::RankedTableau;
 
 // What the decision finds: how long the stem and the cycle of a witness are, or that there is none; with the number of nodes, and of the
 // profiles that were counted.
@@ -72,11 +73,10 @@ fn answered(
     found: Sought,
     letters: &mut [u16],
 ) -> Result<Verdict, Refusal>
-    requires { Ready origins.now store area.now (length letters.old) found }
-    ensures { Told origins.now store area.now nodes found letters.old letters.new result }
+    requires { Ready origins.now store area.now (length letters.old) (Some found) }
+    ensures { Told origins.now store area.now nodes (Some found) letters.old letters.new result }
 {
     match found {
-        Sought::NoRoom => Err(Refusal::No(Question::Profiles)),
         Sought::Nowhere(profiles) => Ok(Verdict::Unsatisfiable { nodes, profiles }),
         Sought::Accepting { profile, count } => {
             let w = witness::write(origins, area, store, profile, letters);
@@ -117,7 +117,9 @@ struct Capacities {
 impl Capacities {
     // The store behind the nodes, for profiles over n operands of next.
     fn store(self, n: usize) -> Store
-        requires { self.nodes ≤ 1024 }
+        requires n_bound { n ≤ 12 }
+        requires nodes_bound { self.nodes ≤ 1024 }
+        requires profiles_bound { (0 < self.profiles) × (self.profiles ≤ 4096) }
         ensures { StorePlaced self.nodes self.profiles n result }
     {
         Store {
@@ -142,9 +144,12 @@ fn from_nodes(
     ensures { CameTo (onward room.profiles (operators t.now)) (nodes_size room.nodes)
         (workspace_size room.nodes room.profiles) area.old area.new letters.old letters.new result }
 {
-    let r = traces::ranked(t);
-    let store = room.store(r.nexts);
-    let found = cycle_search::search(t, r, store, area, nodes);
+    let ranks = traces::ranked(t);
+    let ranked = RankedTableau { tableau: t, ranks };
+    let store = room.store(ranks.nexts);
+    let Some(found) = cycle_search::search(&ranked, store, area, nodes) else {
+        return Err(Refusal::No(Question::Profiles));
+    };
     answered(origins, area, store, nodes, found, letters)
 }
 

@@ -15,7 +15,7 @@ use Rattle.profile_tables.specs.Runs.{TableProfile, FoundProfile, same_profile}
 use Rattle.profile_tables.proofs.RunLaws.{same-sound}
 use Rattle.triples.specs.Inner.{triples_in}
 use Rattle.profile_search.specs.declared.Header.{Header}
-use Rattle.profile_search.specs.declared.Store.{Store}
+use Rattle.profile_search.specs.declared.placed.Store.{Store}
 use Rattle.profile_search.specs.Stored.{two, profile_of, record_start, record_of, stored, BytesBetween, row_of, mixed_row, bucket_of}
 use Rattle.profile_search.specs.Stored.{bucket_at}
 use Rattle.profile_search.specs.Stored.{link_at, head_at, Latest, Chained}

@@ -13,7 +13,7 @@ use Rattle.base.proofs.BoolLaws.{of_T, to_T, or_left, or_right}
 use Rattle.base.proofs.AppendLaws.{any_append, flat_map_append, range-append}
 use Rattle.base.proofs.NumberLaws.{values_length, values_add, values_at, values_same, values_one}
 use Rattle.profile_tables.specs.Runs.{TableProfile, FoundProfile, same_profile}
-use Rattle.profile_search.specs.declared.Store.{Store}
+use Rattle.profile_search.specs.declared.placed.Store.{Store}
 use Rattle.profile_search.specs.Stored.{record_start, record_of, stored, BytesBetween, Chained, Grown, ProfilesAdded}
 use Rattle.profile_search.proofs.RecordLaws.{changed-none, changed_then, changed-wide, record_kept}
 

@@ -12,8 +12,8 @@ use Rattle.profile_tables.specs.Runs.{TableProfile, same_profile}
 use Rattle.profile_tables.proofs.TriplesLaws.{those-same}
 use Rattle.triples.specs.Inner.{bytes, bytes_from, bits, triples_in, triples_at}
 use Rattle.profile_search.specs.declared.Header.{Header}
-use Rattle.profile_search.specs.declared.Store.{Store}
-use Rattle.profile_search.specs.Stored.{two, profile_of, found_of, found_at, record_start, record_of, HeaderOf, BytesBetween}
+use Rattle.profile_search.specs.declared.placed.Store.{Store}
+use Rattle.profile_search.specs.Stored.{two, link_of, profile_of, found_of, found_at, record_start, record_of, HeaderOf, BytesBetween}
 
 -- bytes that change, and those that do not
 pub changed-none : (from to : ℕ) (a : List ℕ) → BytesBetween from to a a
@@ -81,7 +81,7 @@ module _ {a a0 a1 a2 a3 a4 : List ℕ} (t : List ℕ) (at : ℕ) (e : Header) {s
         (omega arith) (omega arith) c3) (omega arith) (omega arith) c4
 
     pub written : ((i : ℕ) → i < 144 → get_or a0 (start + i) 0 ≡ get_or t i 0)
-        → two a1 (at + 144) ≡ e.first.0 → two a2 (at + 146) ≡ e.last.0 → two a3 (at + 148) ≡ e.parent → two a4 (at + 150) ≡ e.letter
+        → two a1 (at + 144) ≡ e.first.0 → two a2 (at + 146) ≡ e.last.0 → two a3 (at + 148) ≡ link_of e.parent → two a4 (at + 150) ≡ e.letter
         → (n : ℕ) → n ≤ 12 → found_at n a4 at ≡ found_of e (triples_in n t)
     unfolding found_at
     written s first last parent letter n h =
@@ -90,7 +90,7 @@ module _ {a a0 a1 a2 a3 a4 : List ℕ} (t : List ℕ) (at : ℕ) (e : Header) {s
         ∙ two-kept c2 (at + 144) (λ u v. omega arith) ∙ first in
         let q : two a4 (at + 146) ≡ e.last.0 = two-kept c4 (at + 146) (λ u v. omega arith)
         ∙ two-kept c3 (at + 146) (λ u v. omega arith) ∙ last in
-        let r : two a4 (at + 148) ≡ e.parent = two-kept c4 (at + 148) (λ u v. omega arith) ∙ parent in
+        let r : two a4 (at + 148) ≡ link_of e.parent = two-kept c4 (at + 148) (λ u v. omega arith) ∙ parent in
         let d : triples_at n a4 at ≡ triples_in n t =
         those-same n (bits (bytes_from a4 at)) (bits (bytes t))
         (λ f x g hf hx hg. ap (λ (v : ℕ). bit v x) (byte (f * 12 + g) (omega arith))) in
@@ -107,7 +107,7 @@ module _ (s : Store) (b : List ℕ) (p : ℕ) where
   abbrev NumberRead : (offset r : ℕ) → Type 0
   NumberRead offset r = (r ≡ two b (record_start s p + offset)) × (r < 65536)
 
-  pub header_are : {e : Header} → NumberRead 144 e.first.0 → NumberRead 146 e.last.0 → NumberRead 148 e.parent
+  pub header_are : {e : Header} → NumberRead 144 e.first.0 → NumberRead 146 e.last.0 → NumberRead 148 (link_of e.parent)
       → e.letter ≡ two b (record_start s p + 150)
       → HeaderOf (record_of s b p) e
   unfolding found_at

@@ -7,7 +7,7 @@ use Rattle.formula.specs.Table.{Table}
 use Rattle.tableau.specs.Saturation.{Subset}
 use Rattle.profile_tables.specs.Runs.{FoundProfile, singles}
 use Rattle.profile_tables.proofs.RiseLaws.{singles_rise}
-use Rattle.profile_search.specs.declared.Store.{Store}
+use Rattle.profile_search.specs.declared.placed.Store.{Store}
 use Rattle.profile_search.specs.Stored.{record_of, first_of, Rising, FirstParted, Grown}
 use Rattle.profile_search.proofs.GrowLaws.{record_at}
 

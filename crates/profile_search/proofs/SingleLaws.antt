@@ -34,8 +34,7 @@ use Rattle.profile_tables.specs.Marks.{triples}
 use Rattle.profile_tables.specs.Runs.{FoundProfile as Item, same_profile, number_of, single_of, singles_of, singles_from, singles}
 use Rattle.triples.specs.Inner.{triples_in}
 use Rattle.traces.specs.Inner.{TriplesOf}
-use Rattle.traces.specs.declared.Ranks.{Ranks}
-use Rattle.profile_search.specs.declared.Store.{Store}
+use Rattle.profile_search.specs.declared.placed.Store.{Store}
 use Rattle.profile_search.specs.Stored.{found_of, stored, StoreFits, BytesBetween, Chained, Grown, AddedTo, ProfilesAdded}
 use Rattle.profile_search.specs.Singles.{subset_of, node_in, nodes_in, singles_by, SearchInput}
 use Rattle.profile_search.proofs.GrowLaws.{grown-still, with_first, turn_more, turn_stop}
@@ -129,7 +128,7 @@ abbrev pub all_first : Table → (count nodes : ℕ) → List ℕ → ℕ → Li
 all_first t count nodes a i = with_first [] (node-singles t count nodes a) 1 (i - 1)
 
 -- the nodes stay while later bytes change
-module _ {rows : List ℕ} {count : ℕ} {r : Ranks} {s : Store} {nodes : ℕ} {a : List ℕ} (g : SearchInput rows count r s nodes a) where
+module _ {rows : List ℕ} {count : ℕ} {s : Store} {nodes : ℕ} {a : List ℕ} (g : SearchInput rows count s nodes a) where
   module _ {b : List ℕ} {from to : ℕ} (c : BytesBetween from to a b) (behind : s.base ≤ from) where
     node_kept : (i : ℕ) → i < nodes → eight b (8 * i) ≡ eight a (8 * i)
     node_kept i h = eight-same a b (8 * i) (λ k l. c.below k (omega (arith, g.behind)))
@@ -143,10 +142,8 @@ module _ {rows : List ℕ} {count : ℕ} {r : Ranks} {s : Store} {nodes : ℕ} {
     pub nodes_in-kept : nodes_in count b nodes ≡ nodes_in count a nodes
     nodes_in-kept = ap (map (subset_of count)) (words_same a b 0 nodes (λ k l. c.below k (omega (arith, g.behind))))
 
-    pub given-kept : SearchInput rows count r s nodes b
+    pub given-kept : SearchInput rows count s nodes b
     given-kept = record {
-      limited = g.limited;
-      ranks = g.ranks;
       fits = subst⁻¹ (StoreFits s) c.same_length g.fits;
       nexts = g.nexts;
       some = g.some;
@@ -219,12 +216,12 @@ module _ {rows : List ℕ} {count : ℕ} {r : Ranks} {s : Store} {nodes : ℕ} {
         pub single-some : {choice letter : ℕ} {number last : NodeNumber} (had : ℕ) (q : Option ℕ) (d triple_set : List ℕ) → number.0 ≡ i
             → last.0 ≡ number_of vs y.to → letter ≡ letter_of target.required → choice ≡ word w
             → TriplesOf rows count choice from triple_set
-            → AddedTo s had a q d (found_of (record { first = number; last = last; parent = 0; letter = letter })
+            → AddedTo s had a q d (found_of (record { first = number; last = last; parent = None; letter = letter })
             (triples_in s.n triple_set) ∷ [])
             → AddedTo s had a q d (singles_by t vs i v x)
         single-some had q d triple_set e l z c k m =
             let same : triples_in s.n triple_set ≡ triples t v w =
-            ap (λ (n : ℕ). triples_in n triple_set) (g.nexts ∙ g.ranks.nexts_are) ∙ k v w (f ∙ node-is) c in
+            ap (λ (n : ℕ). triples_in n triple_set) g.nexts ∙ k v w (f ∙ node-is) c in
             let u = z ∙ ap letter_of found.required-is in
             grown_to-same s had a q d
             ((λ j. add same_profile (stored s a had)

@@ -1,7 +1,7 @@
 -- What one turn adds: a profile followed by one of one transition (`longer-none`, `longer-one`), followed by each of them that begins
 -- where it ends (`extend_start`, `extend_more`, `extend_done`), and the turns of the breadth-first search over a layer of records
 -- (`Pending`). Assumes nothing.
-use Rattle.std.proofs.Common.{◌≡◌, sym, ap, subst, ◌∙◌, Bool, cond, List, [], ◌∷◌, ℕ, suc, ◌+◌, ◌-◌, ◌≤◌, ◌<◌, Option, zero-add, add-one}
+use Rattle.std.proofs.Common.{◌≡◌, sym, ap, subst, ◌∙◌, Bool, cond, List, [], ◌∷◌, ℕ, suc, ◌+◌, ◌-◌, ◌≤◌, ◌<◌, Option, Some, zero-add, add-one}
 use Rattle.std.proofs.Common.{arith, ne_eqb, eq-eqb, get_or}
 use Rattle.base.specs.Lists.{range, At}
 use Rattle.base.specs.Spread.{adds, spread}
@@ -12,7 +12,7 @@ use Rattle.profile_tables.specs.Runs.{FoundProfile, same_profile, follow, longer
 use Rattle.triples.specs.Inner.{triples_in}
 use Rattle.triples.proofs.CellLaws.{triples_copied}
 use Rattle.profile_search.specs.declared.Header.{Header}
-use Rattle.profile_search.specs.declared.Store.{Store}
+use Rattle.profile_search.specs.declared.placed.Store.{Store}
 use Rattle.profile_search.specs.Stored.{found_of, record_start, record_of, stored, first_of, HeaderOf, Chained, Grown}
 use Rattle.profile_search.specs.Stored.{GrownTo, AddedTo, ProfilesAdded}
 use Rattle.profile_search.proofs.RecordLaws.{triple_set-at}
@@ -47,7 +47,7 @@ module _ (n p : ℕ) (x y : FoundProfile) where
 
   joins : {a b : Header} {triple_set : Triples} → HeaderOf x a → HeaderOf y b → a.last.0 ≡ b.first.0
       → triple_set ≡ join n x.at.triple_set y.at.triple_set
-      → found_of (record { first = a.first; last = b.last; parent = p + 1; letter = b.letter }) triple_set ∷ [] ≡ follow n p x y
+      → found_of (record { first = a.first; last = b.last; parent = Some p; letter = b.letter }) triple_set ∷ [] ≡ follow n p x y
   joins d e m j =
       let from = add-one p in
       ap (λ (z : FoundProfile). z ∷ [])
@@ -70,7 +70,7 @@ module _ (s : Store) (count : ℕ) (a : List ℕ) (p q : ℕ) where
         → y ≡ record_start s q
         → ((i : ℕ) → i < 144 → get_or u i 0 ≡ get_or a (x + i) 0) → ((i : ℕ) → i < 144 → get_or v i 0 ≡ get_or a (y + i) 0)
         → triples_in s.n t ≡ join s.n (triples_in s.n u) (triples_in s.n v)
-        → AddedTo s count a r b (found_of (record { first = d.first; last = e.last; parent = p + 1; letter = e.letter })
+        → AddedTo s count a r b (found_of (record { first = d.first; last = e.last; parent = Some p; letter = e.letter })
         (triples_in s.n t) ∷ [])
         → AddedTo s count a r b (follow s.n p (record_of s a p) (record_of s a q))
     longer-one {x = x} {y = y} r b u v t h m ex ey cu cv j g =

@@ -1,20 +1,19 @@
 -- What the functions over the profiles of one transition ask and promise. The nodes stand as words at the beginning of the area, and the
 -- store behind them. A reader of the decision's contract need not read it. Assumes nothing.
-use Rattle.std.specs.Prelude.{◌≡◌, ℕ, ◌*◌, ◌^◌, ◌≤◌, ◌<◌, length}
-use mathlib.Core.List.{List, map, Memᴰ}
+use Rattle.std.specs.Prelude.{◌≡◌, List, map, ℕ, ◌*◌, ◌^◌, ◌≤◌, ◌<◌, length}
+use mathlib.Core.List.{Memᴰ}
 use Rattle.base.specs.Bits.{bit}
 use Rattle.base.specs.Lists.{range}
 use Rattle.formula.specs.Table.{Table}
 use Rattle.tableau.specs.Saturation.{Subset}
 use Rattle.tableau.specs.Transition.{ors, Transition, by_word, transitions}
+use Rattle.tableau.specs.Nodes.{operands}
 use Rattle.tableau.specs.Inner.{table_of, UnmetOrs}
 use Rattle.tableau.specs.Fringe.{CoreOf}
 use Rattle.tableau.specs.Area.{eight, words_at}
 use Rattle.tableau.specs.declared.Core.{Core}
 use Rattle.profile_tables.specs.Runs.{FoundProfile, number_of, single_of}
-use Rattle.traces.specs.Inner.{RowsLimited, RanksOf}
-use Rattle.traces.specs.declared.Ranks.{Ranks}
-use Rattle.profile_search.specs.declared.Store.{Store}
+use Rattle.profile_search.specs.declared.placed.Store.{Store}
 use Rattle.profile_search.specs.declared.Source.{Source}
 use Rattle.profile_search.specs.Stored.{StoreFits, Chained}
 
@@ -34,13 +33,11 @@ nodes_in count area nodes = map (subset_of count) (words_at area 0 nodes)
 abbrev pub singles_by : Table → List Subset → (i : ℕ) → Subset → (choice_word : ℕ) → List FoundProfile
 singles_by t vs i v x = map (single_of t vs i v) (by_word t x v)
 
--- What is asked: rows and ranks that are right, a store behind the nodes, and nodes that are sets of subformulas, of which a transition
--- leads to one of them.
-pub record SearchInput (rows : List ℕ) (count : ℕ) (r : Ranks) (s : Store) (nodes : ℕ) (area : List ℕ) : Type 0 where
-  pub limited : RowsLimited rows count
-  pub ranks : RanksOf rows count r
+-- What is asked: a store behind the nodes, over the operands of next, and nodes that are sets of subformulas, of which a transition leads
+-- to one of them.
+pub record SearchInput (rows : List ℕ) (count : ℕ) (s : Store) (nodes : ℕ) (area : List ℕ) : Type 0 where
   pub fits : StoreFits s (length area)
-  pub nexts : s.n ≡ r.nexts
+  pub nexts : s.n ≡ length (operands (table_of rows count))
   pub some : 0 < nodes
   pub few : nodes ≤ 1024
   pub behind : 8 * nodes ≤ s.base
@@ -49,8 +46,8 @@ pub record SearchInput (rows : List ℕ) (count : ℕ) (r : Ranks) (s : Store) (
       → number_of (nodes_in count area nodes) x.to < nodes
 
 -- What is asked to add the profiles of node i behind the first had records: there is such a node, and these records have room.
-pub record NodeReady (rows : List ℕ) (count : ℕ) (r : Ranks) (s : Store) (nodes : ℕ) (area : List ℕ) (i had : ℕ) : Type 0 where
-  pub given : SearchInput rows count r s nodes area
+pub record NodeReady (rows : List ℕ) (count : ℕ) (s : Store) (nodes : ℕ) (area : List ℕ) (i had : ℕ) : Type 0 where
+  pub given : SearchInput rows count s nodes area
   pub node : i < nodes
   pub room : had ≤ s.capacity
   pub chained : Chained s area had

@@ -3,8 +3,8 @@
 -- record's bucket, for 1 + the number of the record before it in this bucket (0 for none), and for the head of a chain; 34 are unused. The
 -- head of bucket k stands in record k, whether or not there is such a record yet. What the functions over these records promise. A reader
 -- of the decision's contract need not read it. Assumes nothing.
-use Rattle.std.specs.Prelude.{◌≡◌, Bool, Option, None, Some, MatchOption, ℕ, ◌+◌, ◌-◌, ◌*◌, ◌/◌, ◌%◌, ◌≤◌, ◌<◌, min, length, get_or}
-use mathlib.Core.List.{List, map, foldl}
+use Rattle.std.specs.Prelude.{◌≡◌, Bool, Option, None, Some, MatchOption, List, map, ℕ, ◌+◌, ◌-◌, ◌*◌, ◌/◌, ◌%◌, ◌≤◌, ◌<◌, min, length, get_or}
+use mathlib.Core.List.{foldl}
 use Rattle.base.specs.Bits.{bit, word}
 use Rattle.base.specs.Bytes.{number_at}
 use Rattle.base.specs.Lists.{range}
@@ -13,11 +13,16 @@ use Rattle.base.specs.Spread.{adds}
 use Rattle.profile_tables.specs.Runs.{TableProfile, FoundProfile, same_profile}
 use Rattle.triples.specs.Inner.{triples_at}
 use Rattle.profile_search.specs.declared.Header.{Header}
-use Rattle.profile_search.specs.declared.Store.{Store}
+use Rattle.profile_search.specs.declared.placed.Store.{Store}
 
 -- two bytes, the low one first
 abbrev pub two : List ℕ → (at : ℕ) → ℕ
 two b at = number_at 2 b at
+
+-- how a record that may be there is told in another one: by 1 + its number, and by 0 if there is none
+abbrev pub link_of : Option ℕ → ℕ
+link_of None = 0
+link_of (Some p) = p + 1
 
 -- the profile with these ends and triples
 abbrev pub profile_of : Header → Triples → TableProfile
@@ -25,7 +30,7 @@ profile_of e s = record { first = e.first.0; last = e.last.0; triple_set = s }
 
 -- the same, with the profile that it goes on from and its last letter
 abbrev pub found_of : Header → Triples → FoundProfile
-found_of e s = record { at = profile_of e s; parent = e.parent; label = e.letter }
+found_of e s = record { at = profile_of e s; parent = link_of e.parent; label = e.letter }
 
 -- the record at a byte, over n operands of next
 unfoldable pub found_at : ℕ → List ℕ → (at : ℕ) → FoundProfile
@@ -65,27 +70,22 @@ pub record FirstParted (s : Store) (b : List ℕ) (k node r : ℕ) : Type 0 wher
 pub record HeaderFits (e : Header) : Type 0 where
   pub first : e.first.0 < 65536
   pub last : e.last.0 < 65536
-  pub parent : e.parent < 65536
+  pub parent : link_of e.parent < 65536
 
 -- e are the ends of a record, which fit into its bytes
 pub record HeaderOf (x : FoundProfile) (e : Header) : Type 0 where
   pub first : e.first.0 ≡ x.at.first
   pub last : e.last.0 ≡ x.at.last
-  pub parent : e.parent ≡ x.parent
+  pub parent : link_of e.parent ≡ x.parent
   pub letter : e.letter ≡ x.label
   pub small : HeaderFits e
 
--- The store is within an area of that length, behind at most 1,024 nodes.
-pub record StoreFits (s : Store) (len : ℕ) : Type 0 where
-  pub next : s.n ≤ 12
-  pub low : s.base ≤ 8192
-  pub some : 0 < s.capacity
-  pub few : s.capacity ≤ 4096
-  pub enough : record_start s s.capacity ≤ len
+-- The store is within an area of that length.
+abbrev pub StoreFits : Store → (len : ℕ) → Type 0
+StoreFits s len = record_start s s.capacity ≤ len
 
 -- The two bytes at an offset of record p are within an area of that length.
 pub record TwoWithin (s : Store) (p offset len : ℕ) : Type 0 where
-  pub low : s.base ≤ 8192
   pub few : p ≤ 4096
   pub enough : record_start s p + offset + 2 ≤ len
 
@@ -118,11 +118,6 @@ bucket_of s x = foldl mixed_row (x.first + x.last * 65536) x.triple_set / 65536 
 -- the bucket that record p says it is in
 abbrev pub bucket_at : Store → List ℕ → ℕ → ℕ
 bucket_at s b p = two b (record_start s p + 152)
-
--- how a record that may be there is told in another one: by 1 + its number, and by 0 if there is none
-abbrev pub link_of : Option ℕ → ℕ
-link_of None = 0
-link_of (Some p) = p + 1
 
 -- 1 + the number of the record before it in the bucket
 abbrev pub link_at : Store → List ℕ → ℕ → ℕ

@@ -13,24 +13,19 @@ ghost use Rattle.profile_search.specs.Stored.{link_of, Latest, Chained, StoreCha
 ghost use Rattle.profile_search.specs.Stored.{GrownTo, AddedTo, TwoWithin};
 ghost use Rattle.profile_search.specs.Singles.{node_in, nodes_in, singles_by, SearchInput, NodeReady, ChoiceReady};
 
-use tableau::{Core, NodeNumber, Tableau};
-use traces::Ranks;
+mod placed;
 
-// A profile's nodes, 1 + the number of the profile that it goes on from (0 for none), and its last letter.
+pub use placed::Store;
+use tableau::{Core, NodeNumber};
+use traces::RankedTableau;
+
+// A profile's nodes, the number of the profile that it goes on from, if it does, and its last letter.
 #[derive(Clone, Copy)]
 pub struct Header {
     pub first: NodeNumber,
     pub last: NodeNumber,
-    pub parent: usize,
+    pub parent: Option<usize>,
     pub letter: u16,
-}
-
-// Where profiles are kept: from byte base on, at most capacity of them, over n operands of next.
-#[derive(Clone, Copy)]
-pub struct Store {
-    pub base: usize,
-    pub capacity: usize,
-    pub n: usize,
 }
 
 // Where a transition starts: a node, by its number and its set, and the choice word.
@@ -43,7 +38,7 @@ struct Source {
 
 // Where record p begins.
 pub fn record_start(store: Store, p: usize) -> usize
-    requires { (store.base ≤ 8192) × (p ≤ 4096) }
+    requires { p ≤ 4096 }
     ensures { result ≡ record_start store p }
 {
     store.base + 192 * p
@@ -66,7 +61,7 @@ pub fn header_of(area: &[u8], store: Store, p: usize) -> Header
     Header {
         first: NodeNumber(get2(area, store, p, 144)),
         last: NodeNumber(get2(area, store, p, 146)),
-        parent: get2(area, store, p, 148),
+        parent: linked(area, store, p, 148),
         letter: get2(area, store, p, 150) as u16,
     }
 }
@@ -100,7 +95,7 @@ fn write(area: &mut [u8], store: Store, p: usize, header: Header, t: &[u8; 144])
     store_triples(area, record_start(store, p), t);
     put2(area, store, p, 144, header.first.0);
     put2(area, store, p, 146, header.last.0);
-    put2(area, store, p, 148, header.parent);
+    put2(area, store, p, 148, link(header.parent));
     put2(area, store, p, 150, usize::from(header.letter));
 }
 
@@ -144,8 +139,7 @@ fn mix_row(h: usize, t: &[u8; 144], n: usize, f: usize) -> usize
 
 // The bucket of a profile: a hash of its nodes and its triples.
 fn bucket(store: Store, header: Header, t: &[u8; 144]) -> usize
-    requires n_bound { (store.n ≤ 12) × (0 < store.capacity) }
-    requires header_fits { HeaderFits header }
+    requires { HeaderFits header }
     ensures { (result ≡ bucket_of store (profile_of header (triples_in store.n t.now))) × (result < store.capacity) }
 {
     let n = store.n;
@@ -159,9 +153,17 @@ fn bucket(store: Store, header: Header, t: &[u8; 144]) -> usize
 // The record that an offset of record p leads to, if it leads to one.
 fn linked(area: &[u8], store: Store, p: usize, offset: usize) -> Option<usize>
     requires { TwoWithin store p offset (length area.now) }
-    ensures { two area.now (record_start store p + offset) ≡ link_of result }
+    ensures { (link_of result ≡ two area.now (record_start store p + offset)) × (link_of result < 65536) }
 {
     get2(area, store, p, offset).checked_sub(1)
+}
+
+// The number by which a record leads to that one, if it leads to one.
+fn link(to: Option<usize>) -> usize
+    requires { link_of to < 65536 }
+    ensures { result ≡ link_of to }
+{
+    to.map_or(0, |p| p + 1)
 }
 
 // The last record in bucket k, if there is one. The area was not cleared: what stands there counts only if it leads to a record of this
@@ -205,13 +207,13 @@ fn chain(area: &mut [u8], store: Store, count: usize, k: usize)
     ensures by_index { (p : ℕ) → record_of store area.new p ≡ record_of store area.old p }
     ensures bytes_between { BytesBetween store.base (record_start store store.capacity) area.old area.new }
 {
-    let before = head(area, store, count, k).map_or(0, |p| p + 1);
+    let before = link(head(area, store, count, k));
     put2(area, store, count, 152, k);
     put2(area, store, count, 154, before);
     put2(area, store, k, 156, count + 1);
 }
 
-// How many profiles there are once this one is, or none where there is no room for it.
+// How many profiles there are once this one is, or `None` where there is no room for it.
 fn add(area: &mut [u8], store: Store, count: usize, header: Header, t: &[u8; 144]) -> Option<usize>
     requires store_chained { StoreChained store area.old count }
     requires header_fits { HeaderFits header }
@@ -232,8 +234,7 @@ fn add(area: &mut [u8], store: Store, count: usize, header: Header, t: &[u8; 144
 
 // Adds the profile of the transition that starts there, if there is one.
 fn single(
-    tableau: &Tableau,
-    r: Ranks,
+    ranked: &RankedTableau,
     store: Store,
     area: &mut [u8],
     nodes: usize,
@@ -242,24 +243,25 @@ fn single(
     from: Source,
     count: usize,
 ) -> Option<usize>
-    requires node_ready { NodeReady tableau.now.table.rows tableau.now.table.count r store nodes area.old from.number.0 count }
-    requires choice_ready { ChoiceReady tableau.now.table.rows tableau.now.table.count area.old unmet.now core from }
+    requires node_ready { NodeReady ranked.now.tableau.now.table.rows ranked.now.tableau.now.table.count store nodes area.old
+        from.number.0 count }
+    requires choice_ready { ChoiceReady ranked.now.tableau.now.table.rows ranked.now.tableau.now.table.count area.old unmet.now core from }
     ensures { AddedTo store count area.old result area.new
-        (singles_by (operators tableau.now) (nodes_in tableau.now.table.count area.old nodes) from.number.0
-        (node_in tableau.now.table.count area.old from.number.0) from.word) }
+        (singles_by (operators ranked.now.tableau.now) (nodes_in ranked.now.tableau.now.table.count area.old nodes) from.number.0
+        (node_in ranked.now.tableau.now.table.count area.old from.number.0) from.word) }
 {
-    let Some(target) = tableau.by_word(unmet, core, from.word) else {
+    let Some(target) = ranked.tableau.by_word(unmet, core, from.word) else {
         return Some(count);
     };
     let Some(last) = tableau::find(area, nodes, target.to) else {
         return Some(count);
     };
-    let choice = tableau.choice_of(from.word);
-    let t = traces::triples_of(tableau, r, choice, from.set);
+    let choice = ranked.tableau.choice_of(from.word);
+    let t = ranked.triples_of(choice, from.set);
     let header = Header {
         first: from.number,
         last,
-        parent: 0,
+        parent: None,
         letter: letters::letter_of(target.required),
     };
     add(area, store, count, header, &t)
@@ -267,46 +269,39 @@ fn single(
 
 // Adds the profiles of the transitions of a node, by rising choice word.
 fn singles_of(
-    tableau: &Tableau,
-    r: Ranks,
+    ranked: &RankedTableau,
     store: Store,
     area: &mut [u8],
     nodes: usize,
     number: NodeNumber,
     count: usize,
 ) -> Option<usize>
-    requires { NodeReady tableau.now.table.rows tableau.now.table.count r store nodes area.old number.0 count }
+    requires { NodeReady ranked.now.tableau.now.table.rows ranked.now.tableau.now.table.count store nodes area.old number.0 count }
     ensures { AddedTo store count area.old result area.new
-        (singles_of (operators tableau.now) (nodes_in tableau.now.table.count area.old nodes) number.0
-        (node_in tableau.now.table.count area.old number.0)) }
+        (singles_of (operators ranked.now.tableau.now) (nodes_in ranked.now.tableau.now.table.count area.old nodes) number.0
+        (node_in ranked.now.tableau.now.table.count area.old number.0)) }
 {
     let set = tableau::node(area, number);
-    let core = tableau.core_of(set);
-    let unmet = tableau.unmet(set);
-    let end = base::power(tableau.ors());
+    let core = ranked.tableau.core_of(set);
+    let unmet = ranked.tableau.unmet(set);
+    let end = base::power(ranked.tableau.ors());
     let mut all = count;
     for word in 0..end {
         let from = Source { number, set, word };
-        all = single(tableau, r, store, area, nodes, &unmet, core, from, all)?;
+        all = single(ranked, store, area, nodes, &unmet, core, from, all)?;
     }
     Some(all)
 }
 
-// The profiles of one transition, of all nodes but the root in order; how many, or none where there is no room for them.
-pub fn singles(
-    tableau: &Tableau,
-    r: Ranks,
-    store: Store,
-    area: &mut [u8],
-    nodes: usize,
-) -> Option<usize>
-    requires { SearchInput tableau.now.table.rows tableau.now.table.count r store nodes area.old }
+// The profiles of one transition, of all nodes but the root in order; how many, or `None` where there is no room for them.
+pub fn singles(ranked: &RankedTableau, store: Store, area: &mut [u8], nodes: usize) -> Option<usize>
+    requires { SearchInput ranked.now.tableau.now.table.rows ranked.now.tableau.now.table.count store nodes area.old }
     ensures { GrownTo store 0 area.old result area.new
-        (singles (operators tableau.now) (nodes_in tableau.now.table.count area.old nodes)) }
+        (singles (operators ranked.now.tableau.now) (nodes_in ranked.now.tableau.now.table.count area.old nodes)) }
 {
     let mut all = 0;
     for i in 1..nodes {
-        all = singles_of(tableau, r, store, area, nodes, NodeNumber(i), all)?;
+        all = singles_of(ranked, store, area, nodes, NodeNumber(i), all)?;
     }
     Some(all)
 }
@@ -329,7 +324,7 @@ fn longer(area: &mut [u8], store: Store, p: usize, q: usize, count: usize) -> Op
     let header = Header {
         first: a.first,
         last: b.last,
-        parent: p + 1,
+        parent: Some(p),
         letter: b.letter,
     };
     add(area, store, count, header, &t)
@@ -375,7 +370,7 @@ fn extend(area: &mut [u8], store: Store, p: usize, singles: usize, count: usize)
 }
 
 // Adds what the profiles from number `from` up to number `to` lead to: where these are all of runs of one length, the profiles of runs that
-// are longer by one. How many there are then, or none where there is no room for them.
+// are longer by one. How many there are then, or `None` where there is no room for them.
 pub fn layer(area: &mut [u8], store: Store, from: usize, to: usize, singles: usize) -> Option<usize>
     requires store_chained { StoreChained store area.old to }
     requires rising { Rising store area.old singles }

@@ -8,7 +8,6 @@ use Rattle.formula.proofs.Limits.{how_many, table-nexts, table-fixpoints, parse-
 use Rattle.formula.proofs.WellFormed.{Operands}
 use Rattle.formula.proofs.RowLaws.{HoldsFormula, held_shaped}
 use Rattle.tableau.specs.Inner.{table_of}
-use Rattle.tableau.proofs.FormedLaws.{held-formed}
 use Rattle.tableau.proofs.NodeLaws.{operands-count}
 use Rattle.profile_tables.specs.Marks.{leasts}
 use Rattle.traces.specs.Inner.{RowsLimited}
@@ -36,7 +35,6 @@ module _ {bytes : List ℕ} {t : Table} (h : HoldsFormula bytes t) where
   held-limited =
       let limits = parse-limited bytes h.formula h.parsed in
       record {
-        formed = held-formed h;
         behind = λ e l.
             let s = held_shaped h e l in
             next-behind (operator_at t.rows) (end_at t.rows) t.count e (operator_at t.rows e) s.inside s.operands;

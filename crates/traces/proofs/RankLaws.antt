@@ -13,7 +13,7 @@ use Rattle.tableau.specs.Nodes.{operands}
 use Rattle.tableau.specs.Inner.{table_of}
 use Rattle.profile.specs.Profiles.{is_least}
 use Rattle.profile_tables.specs.Marks.{nexts_from, leasts}
-use Rattle.traces.specs.Inner.{before, next_at, fix_at, next_rank, fix_rank, Ranked, RowsLimited, RanksOf}
+use Rattle.traces.specs.Inner.{before, next_at, fix_at, next_rank, fix_rank, HasRanks, RowsLimited, RanksOf}
 
 -- a number that counts where a test holds
 count-one : (b : Bool) (k : ℕ) → cond b (suc k) k ≡ k + cond b 1 0
@@ -62,7 +62,7 @@ module _ (q : ℕ → Bool) where
   before-most (suc e) = omega (arith, count-one (q e) (before q e), one-most (q e), before-most e)
 
 -- an array of ranks, one more at a time
-ranked-more : (rank : ℕ → ℕ) (e n : ℕ) (l : List ℕ) → e < length l → n ≡ rank e → Ranked rank e l → Ranked rank (e + 1) (set l e n)
+ranked-more : (rank : ℕ → ℕ) (e n : ℕ) (l : List ℕ) → e < length l → n ≡ rank e → HasRanks rank e l → HasRanks rank (e + 1) (set l e n)
 ranked-more rank e n l h q r d k = go (ℕ_discrete d e)
   where
     go : Dec (d ≡ e) → get_or (set l e n) d 0 ≡ rank d
@@ -180,8 +180,8 @@ module _ {rows : List ℕ} {count : ℕ} (limited : RowsLimited rows count) (e :
 pub record Ranking (rows : List ℕ) (e : ℕ) (next fix : List ℕ) (nexts fixes : ℕ) : Type 0 where
   pub next_long : length next ≡ 48
   pub fix_long : length fix ≡ 48
-  pub next_ranked : Ranked (next_rank rows) e next
-  pub fix_ranked : Ranked (fix_rank rows) e fix
+  pub next_ranked : HasRanks (next_rank rows) e next
+  pub fix_ranked : HasRanks (fix_rank rows) e fix
   pub nexts_are : nexts ≡ next_rank rows e
   pub fixes_are : fixes ≡ fix_rank rows e
 

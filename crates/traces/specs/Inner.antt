@@ -8,7 +8,7 @@ use Rattle.formula.specs.Table.{Operator, is_next, is_fix}
 use Rattle.formula.specs.Rows.{operator_at}
 use Rattle.tableau.specs.Saturation.{Subset, has, moves}
 use Rattle.tableau.specs.Nodes.{operands}
-use Rattle.tableau.specs.Inner.{table_of, Formed}
+use Rattle.tableau.specs.Inner.{table_of}
 use Rattle.profile_tables.specs.Marks.{Marks, priorities, passed, mark, sweep, reached, triples, leasts, blank}
 use Rattle.triples.specs.Inner.{triples_in}
 use Rattle.traces.specs.declared.Ranks.{Ranks}
@@ -34,28 +34,22 @@ next_rank rows = before (next_at rows)
 abbrev pub fix_rank : List ℕ → ℕ → ℕ
 fix_rank rows = before (fix_at rows)
 
--- What is asked of the rows beside their form: a subformula behind each next, which is its operand (MEANING 1.3), and not more next and
--- fixpoints than bytes have room for. Those of an accepted formula are so (proofs/LimitLaws.antt).
+-- What is asked of the rows beside their form, which a tableau has: a subformula behind each next, which is its operand (MEANING 1.3), and
+-- not more next and fixpoints than bytes have room for. Those of an accepted formula are so (proofs/LimitLaws.antt).
 pub record RowsLimited (rows : List ℕ) (count : ℕ) : Type 0 where
-  pub formed : Formed rows count
   pub behind : (e : ℕ) → e < count → next_at rows e ≡ true → e + 1 < count
   pub few_nexts : length (operands (table_of rows count)) ≤ 12
   pub few_fixes : length (leasts (table_of rows count)) ≤ 7
 
 -- An array has the ranks of the first e subformulas.
-abbrev pub Ranked : (ℕ → ℕ) → (e : ℕ) → List ℕ → Type 0
-Ranked rank e l = (d : ℕ) → d < e → get_or l d 0 ≡ rank d
-
--- What is asked where an array of ranks comes with the rows: the rows' limits, and that the ranks are theirs, of next or of fixpoints.
-pub record RowsRanked (rank : List ℕ → ℕ → ℕ) (rows : List ℕ) (count : ℕ) (l : List ℕ) : Type 0 where
-  pub limited : RowsLimited rows count
-  pub ranked : Ranked (rank rows) count l
+abbrev pub HasRanks : (ℕ → ℕ) → (e : ℕ) → List ℕ → Type 0
+HasRanks rank e l = (d : ℕ) → d < e → get_or l d 0 ≡ rank d
 
 -- The ranks r are those of the rows.
 pub record RanksOf (rows : List ℕ) (count : ℕ) (r : Ranks) : Type 0 where
   pub nexts_are : r.nexts ≡ length (operands (table_of rows count))
-  pub next_is : Ranked (next_rank rows) count r.next
-  pub fix_is : Ranked (fix_rank rows) count r.fix
+  pub next_is : HasRanks (next_rank rows) count r.next
+  pub fix_is : HasRanks (fix_rank rows) count r.fix
 
 -- the marks in the first n bytes
 abbrev pub marks_of : ℕ → List ℕ → Marks
@@ -107,13 +101,6 @@ Empty k t = (i : ℕ) → k * 12 ≤ i → i < 144 → get_or t i 0 ≡ 0
 pub record DoneTo (rows : List ℕ) (count choice node e : ℕ) (t : List ℕ) : Type 0 where
   pub done : Done rows count choice node e t
   pub empty : Empty (next_rank rows e) t
-
--- What is asked to fill the row of subformula e: the ranks, and the rows of the nexts before it.
-pub record RowAsked (rows : List ℕ) (count choice node : ℕ) (next fix : List ℕ) (e : ℕ) (t : List ℕ) : Type 0 where
-  pub nexts : RowsRanked next_rank rows count next
-  pub fixes : RowsRanked fix_rank rows count fix
-  pub in_table : e < count
-  pub before : DoneTo rows count choice node e t
 
 -- The bytes r have the triples of the transition of a node under a choice.
 abbrev pub TriplesOf : List ℕ → (count choice node : ℕ) → List ℕ → Type 0

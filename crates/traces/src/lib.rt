@@ -9,9 +9,8 @@ ghost use Rattle.formula.specs.Access.{Placed};
 ghost use Rattle.tableau.specs.Operators.{operators};
 ghost use Rattle.profile.specs.Profiles.{is_least};
 ghost use Rattle.profile_tables.specs.Marks.{leasts};
-ghost use Rattle.traces.specs.Inner.{fix_at, next_rank, fix_rank, RowsLimited, Ranked, RowsRanked, RanksOf, PrioritiesMarked};
-ghost use Rattle.traces.specs.Inner.{PassedOn};
-ghost use Rattle.traces.specs.Inner.{SweptMarks, TracesReached, RowFilled, DoneTo, RowAsked, TriplesOf};
+ghost use Rattle.traces.specs.Inner.{fix_at, RowsLimited, RanksOf, PrioritiesMarked, PassedOn, SweptMarks, TracesReached, RowFilled};
+ghost use Rattle.traces.specs.Inner.{DoneTo, TriplesOf};
 
 use formula::{Operator, Subformula};
 use tableau::Tableau;
@@ -24,6 +23,7 @@ pub struct Ranks {
     pub fix: [u8; 48],
 }
 
+// The ranks of a tableau's subformulas.
 pub fn ranked(tableau: &Tableau) -> Ranks
     ensures { RanksOf tableau.now.table.rows tableau.now.table.count result }
 {
@@ -85,89 +85,6 @@ fn passing(rows: &[u8; 144], fix: &[u8; 48], choice: u64, s: Subformula, marks: 
     }
 }
 
-// Marks what each subformula passes on, taken in rising order.
-fn passed(tableau: &Tableau, fix: &[u8; 48], choice: u64, marks: &mut [u8; 48])
-    requires { RowsRanked fix_rank tableau.now.table.rows tableau.now.table.count fix.now }
-    ensures { SweptMarks tableau.now.table.rows tableau.now.table.count choice marks.old marks.new }
-{
-    for e in 0..tableau.table.count {
-        passing(&tableau.table.rows, fix, choice, Subformula(e), marks);
-    }
-}
-
-// The priorities with which traces from subformula s reach each one.
-fn reaching(tableau: &Tableau, fix: &[u8; 48], choice: u64, s: Subformula) -> [u8; 48]
-    requires fixes_ranked { RowsRanked fix_rank tableau.now.table.rows tableau.now.table.count fix.now }
-    requires s_bound { s.0 < 48 }
-    ensures { TracesReached tableau.now.table.rows tableau.now.table.count choice s.0 result }
-{
-    let mut w = [0u8; 48];
-    w[s.0] = 128;
-    for _ in 0..8 * tableau.table.count {
-        let old = w;
-        passed(tableau, fix, choice, &mut w);
-        if w == old {
-            return w;
-        }
-    }
-    w
-}
-
-// Fills row f of the triples: the marks of each next.
-fn triple_row(tableau: &Tableau, next: &[u8; 48], f: usize, marks: &[u8; 48], t: &mut [u8; 144])
-    requires nexts_ranked { RowsRanked next_rank tableau.now.table.rows tableau.now.table.count next.now }
-    requires f_bound { f < 12 }
-    ensures { RowFilled tableau.now.table.rows marks.now tableau.now.table.count f t.old t.new }
-{
-    for e in 0..tableau.table.count {
-        if formula::is_next(&tableau.table.rows, Subformula(e)) {
-            t[f * 12 + usize::from(next[e])] = marks[e];
-        }
-    }
-}
-
-// Fills the row of subformula s, where it is a next whose operand is in the node.
-fn with_row(
-    tableau: &Tableau,
-    next: &[u8; 48],
-    fix: &[u8; 48],
-    choice: u64,
-    node: u64,
-    s: Subformula,
-    t: &mut [u8; 144],
-)
-    requires { RowAsked tableau.now.table.rows tableau.now.table.count choice node next.now fix.now s.0 t.old }
-    ensures { DoneTo tableau.now.table.rows tableau.now.table.count choice node (s.0 + 1) t.new }
-{
-    let operand = Subformula(s.0 + 1);
-    if !formula::is_next(&tableau.table.rows, s) || !base::has(node, operand.0) {
-        return;
-    }
-    let w = reaching(tableau, fix, choice, operand);
-    triple_row(tableau, next, usize::from(next[s.0]), &w, t);
-}
-
-// The triples of the transition of a node under a choice.
-pub fn triples_of(tableau: &Tableau, r: Ranks, choice: u64, node: u64) -> [u8; 144]
-    requires rows_limited { RowsLimited tableau.now.table.rows tableau.now.table.count }
-    requires ranks_of { RanksOf tableau.now.table.rows tableau.now.table.count r }
-    ensures { TriplesOf tableau.now.table.rows tableau.now.table.count choice node result }
-{
-    let mut t = [0u8; 144];
-    for e in 0..tableau.table.count {
-        with_row(
-            tableau,
-            &r.next,
-            &r.fix,
-            choice,
-            node,
-            Subformula(e),
-            &mut t,
-        );
-    }
-    t
-}
-
 // Whether s is a least fixpoint.
 fn is_least(rows: &[u8; 144], s: Subformula) -> bool
     requires { Placed rows.now s.0 }
@@ -182,17 +99,91 @@ fn is_least(rows: &[u8; 144], s: Subformula) -> bool
     )
 }
 
-// The priorities that are least fixpoints.
-pub fn least_mask(tableau: &Tableau, fix: &[u8; 48]) -> u8
-    requires rows_limited { RowsLimited tableau.now.table.rows tableau.now.table.count }
-    requires ranked { Ranked (fix_rank tableau.now.table.rows) tableau.now.table.count fix.now }
-    ensures { (i : ℕ) → bit result i ≡ get_or (leasts (operators tableau.now)) i false }
-{
-    let mut mask = 0u8;
-    for e in 0..tableau.table.count {
-        if is_least(&tableau.table.rows, Subformula(e)) {
-            mask |= 1 << fix[e];
+// A tableau whose next and fixpoints are as few as bytes have room for, with the ranks of its subformulas.
+#[derive(Clone, Copy)]
+pub struct RankedTableau<'a> {
+    pub tableau: &'a Tableau,
+    pub ranks: Ranks,
+    ghost limited: { RowsLimited tableau.now.table.rows tableau.now.table.count },
+    ghost of: { RanksOf tableau.now.table.rows tableau.now.table.count ranks },
+}
+
+impl RankedTableau<'_> {
+    // Marks what each subformula passes on, taken in rising order.
+    fn passed(&self, choice: u64, marks: &mut [u8; 48])
+        ensures { SweptMarks self.now.tableau.now.table.rows self.now.tableau.now.table.count choice marks.old
+            marks.new }
+    {
+        for e in 0..self.tableau.table.count {
+            let rows = &self.tableau.table.rows;
+            passing(rows, &self.ranks.fix, choice, Subformula(e), marks);
         }
     }
-    mask
+
+    // The priorities with which traces from subformula s reach each one.
+    fn reaching(&self, choice: u64, s: Subformula) -> [u8; 48]
+        requires { s.0 < 48 }
+        ensures { TracesReached self.now.tableau.now.table.rows self.now.tableau.now.table.count choice s.0 result }
+    {
+        let mut w = [0u8; 48];
+        w[s.0] = 128;
+        for _ in 0..8 * self.tableau.table.count {
+            let old = w;
+            self.passed(choice, &mut w);
+            if w == old {
+                return w;
+            }
+        }
+        w
+    }
+
+    // Fills row f of the triples: the marks of each next.
+    fn triple_row(&self, f: usize, marks: &[u8; 48], t: &mut [u8; 144])
+        requires { f < 12 }
+        ensures { RowFilled self.now.tableau.now.table.rows marks.now self.now.tableau.now.table.count f t.old t.new }
+    {
+        for e in 0..self.tableau.table.count {
+            if formula::is_next(&self.tableau.table.rows, Subformula(e)) {
+                t[f * 12 + usize::from(self.ranks.next[e])] = marks[e];
+            }
+        }
+    }
+
+    // Fills the row of subformula s, where it is a next whose operand is in the node.
+    fn with_row(&self, choice: u64, node: u64, s: Subformula, t: &mut [u8; 144])
+        requires in_table { s.0 < self.now.tableau.now.table.count }
+        requires before { DoneTo self.now.tableau.now.table.rows self.now.tableau.now.table.count choice node s.0 t.old }
+        ensures { DoneTo self.now.tableau.now.table.rows self.now.tableau.now.table.count choice node (s.0 + 1) t.new }
+    {
+        let operand = Subformula(s.0 + 1);
+        if !formula::is_next(&self.tableau.table.rows, s) || !base::has(node, operand.0) {
+            return;
+        }
+        let w = self.reaching(choice, operand);
+        self.triple_row(usize::from(self.ranks.next[s.0]), &w, t);
+    }
+
+    // The triples of the transition of a node under a choice.
+    pub fn triples_of(&self, choice: u64, node: u64) -> [u8; 144]
+        ensures { TriplesOf self.now.tableau.now.table.rows self.now.tableau.now.table.count choice node result }
+    {
+        let mut t = [0u8; 144];
+        for e in 0..self.tableau.table.count {
+            self.with_row(choice, node, Subformula(e), &mut t);
+        }
+        t
+    }
+
+    // The priorities that are least fixpoints.
+    pub fn least_mask(&self) -> u8
+        ensures { (i : ℕ) → bit result i ≡ get_or (leasts (operators self.now.tableau.now)) i false }
+    {
+        let mut mask = 0u8;
+        for e in 0..self.tableau.table.count {
+            if is_least(&self.tableau.table.rows, Subformula(e)) {
+                mask |= 1 << self.ranks.fix[e];
+            }
+        }
+        mask
+    }
 }

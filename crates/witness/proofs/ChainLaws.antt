@@ -1,9 +1,10 @@
 -- Labels along a chain of parents. An item's are its parent's and then its own (`labels_at`); so whatever lists go on by these labels are
 -- the labels (`labels_are`). They are counted from the last item to the first (`ChainCounted`). Assumes nothing.
-use Rattle.std.proofs.Common.{◌≡◌, refl, sym, ap, ◌∙◌, List, [], ◌∷◌, ◌++◌, ℕ, zero, suc, ◌+◌, ◌-◌, ◌≤◌, ◌<◌, length, length-append}
-use Rattle.std.proofs.Common.{arith}
+use Rattle.std.proofs.Common.{◌≡◌, refl, sym, ap, subst, ◌∙◌, List, [], ◌∷◌, ◌++◌, ℕ, zero, suc, ◌+◌, ◌≤◌, ◌<◌, length, length-append}
+use Rattle.std.proofs.Common.{Option, Some, add-one, arith}
 use Rattle.base.specs.Spread.{Numbered, each_label, labels_up, Linked}
 use Rattle.base.proofs.SpreadLaws.{labels_next}
+use Rattle.profile_search.specs.Stored.{link_of}
 use Rattle.witness.specs.Letters.{labels, plain}
 
 module _ {K : Type 0} (of : ℕ → Numbered ℕ K) where
@@ -19,18 +20,12 @@ module _ {K : Type 0} (of : ℕ → Numbered ℕ K) where
   labels-short k = up_short k k
 
   module _ {n : ℕ} (linked : Linked of n) where
-    -- an item's labels, by the number that a parent is written as
-    pub labels_at : (k : ℕ) → 0 < k → k ≤ n → labels of k ≡ labels of (of (k - 1)).parent ++ ((of (k - 1)).label ∷ [])
-    labels_at zero h l = absurd (omega arith)
-    labels_at (suc i) h l =
-        labels_next each_label of linked i (omega arith)
-        ∙ ap (λ (j : ℕ). labels of (of j).parent ++ ((of j).label ∷ [])) {x = i} {y = suc i - 1} (omega arith)
+    -- an item's labels
+    pub labels_at : (i : ℕ) → i < n → labels of (suc i) ≡ labels of (of i).parent ++ ((of i).label ∷ [])
+    labels_at i h = labels_next each_label of linked i h
 
-    pub parent-less : (k : ℕ) → 0 < k → k ≤ n → (of (k - 1)).parent < k
-    parent-less k h l = omega (arith, linked (k - 1) (omega arith))
-
-    pub length_at : (k : ℕ) → 0 < k → k ≤ n → length (labels of k) ≡ length (labels of (of (k - 1)).parent) + 1
-    length_at k h l = ap length (labels_at k h l) ∙ length-append (labels of (of (k - 1)).parent) ((of (k - 1)).label ∷ [])
+    pub length_at : (i : ℕ) → i < n → length (labels of (suc i)) ≡ length (labels of (of i).parent) + 1
+    length_at i h = ap length (labels_at i h) ∙ length-append (labels of (of i).parent) ((of i).label ∷ [])
 
     -- Theorem: lists that go on along the chain by its labels are the labels.
     pub labels_are : (ws : ℕ → List ℕ) → ws 0 ≡ [] → ((i : ℕ) → i < n → ws (suc i) ≡ ws (of i).parent ++ ((of i).label ∷ []))
@@ -49,16 +44,23 @@ pub record ChainCounted {K : Type 0} (of : ℕ → Numbered ℕ K) (top n at : �
   pub low : at ≤ top
   pub sum : n + length (labels of at) ≡ length (labels of top)
 
-module _ {K : Type 0} (of : ℕ → Numbered ℕ K) {top n at : ℕ} (linked : Linked of top) (c : ChainCounted of top n at) (some : 0 < at) where
+module _ {K : Type 0} (of : ℕ → Numbered ℕ K) {top n i : ℕ} {at : Option ℕ} (linked : Linked of top)
+    (c : ChainCounted of top n (link_of at)) (is : at ≡ Some i) where
+  here : ChainCounted of top n (suc i)
+  here = subst (ChainCounted of top n) (ap link_of is ∙ add-one i) c
+
+  pub counted-low : i < top
+  counted-low = omega (arith, here.low)
+
   -- there are more letters than those counted, and at most as many as items
   pub counted-few : n < top
-  counted-few = omega (arith, c.sum, length_at of linked at some c.low, labels-short of top)
+  counted-few = omega (arith, here.sum, length_at of linked i counted-low, labels-short of top)
 
-  pub counted_next : {up : ℕ} → up ≡ (of (at - 1)).parent → ChainCounted of top (n + 1) up
-  counted_next {up} e =
+  pub counted_next : (up : Option ℕ) → link_of up ≡ (of i).parent → ChainCounted of top (n + 1) (link_of up)
+  counted_next up e =
       record {
-        low = omega (arith, parent-less of linked at some c.low, c.low);
-        sum = omega (arith, c.sum, length_at of linked at some c.low, ap (λ (k : ℕ). length (labels of k)) e);
+        low = omega (arith, e, linked i counted-low, counted-low);
+        sum = omega (arith, here.sum, length_at of linked i counted-low, ap (λ (k : ℕ). length (labels of k)) e);
       }
 
 -- the labels are those along the items with their numbers for vertices

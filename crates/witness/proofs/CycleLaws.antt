@@ -7,7 +7,7 @@ use Rattle.formula.specs.Table.{Table}
 use Rattle.profile_tables.proofs.RunLaws.{ItemListed}
 use Rattle.profile_tables.proofs.AgreeLaws.{letters_of, ProfilesAgree, Agreed}
 use Rattle.profile_search.specs.Stored.{stored, record_of}
-use Rattle.profile_search.specs.declared.Store.{Store}
+use Rattle.profile_search.specs.declared.placed.Store.{Store}
 use Rattle.profile_search.proofs.GrowLaws.{stored-length, record_at}
 use Rattle.witness.specs.Letters.{cycle_letters}
 

@@ -1,13 +1,13 @@
 -- What is written letter by letter from the back is the whole list, with the rest of the buffer as before (`Backward`); so is one letter
 -- behind another (`written_on`); and one list behind another is both at once (`over-both`). Assumes nothing.
-use Rattle.std.proofs.Common.{◌≡◌, refl, sym, ap, ◌∙◌, List, [], ◌∷◌, ◌++◌, append_assoc, ℕ, zero, suc, ◌+◌, ◌-◌, ◌≤◌, ◌<◌}
+use Rattle.std.proofs.Common.{◌≡◌, refl, sym, ap, subst, ◌∙◌, Option, Some, List, [], ◌∷◌, ◌++◌, append_assoc, ℕ, zero, suc, ◌+◌, ◌-◌, ◌≤◌, ◌<◌}
 use Rattle.std.proofs.Common.{add-one, length, length-append, length-set, set, arith}
 use Rattle.base.specs.Spread.{Numbered, Linked}
-use Rattle.profile_search.specs.Stored.{record_of, first_of}
-use Rattle.profile_search.specs.declared.Store.{Store}
+use Rattle.profile_search.specs.Stored.{record_of, first_of, link_of}
+use Rattle.profile_search.specs.declared.placed.Store.{Store}
 use Rattle.witness.specs.Letters.{labels, plain, node_item, stem_letters, cycle_letters, over, written, LettersFit, WitnessReady}
 use Rattle.witness.specs.Letters.{WitnessWritten}
-use Rattle.witness.proofs.ChainLaws.{labels-short, labels-plain, labels_at, parent-less, length_at}
+use Rattle.witness.proofs.ChainLaws.{labels-short, labels-plain, labels_at, length_at}
 
 -- nothing written
 pub written_none : (from : ℕ) (l : List ℕ) → written from [] l ≡ l
@@ -53,56 +53,57 @@ pub record Backward {K : Type 0} (of : ℕ → Numbered ℕ K) (from top at left
   pub left_is : left ≡ length (labels of at)
   pub now-is : after ≡ written (from + left) rest before
 
--- a turn: there is an item to go on from, and room for all letters
-pub record Turn {K : Type 0} (of : ℕ → Numbered ℕ K) (from top at left : ℕ) (before after : List ℕ) : Type 0 where
+-- a turn: there is item i to go on from, and room for all letters
+pub record Turn {K : Type 0} (of : ℕ → Numbered ℕ K) (from top i left : ℕ) (before after : List ℕ) : Type 0 where
   pub linked : Linked of top
   pub room : from + length (labels of top) ≤ length before
-  pub some : 0 < at
-  pub back : Backward of from top at left before after
+  pub back : Backward of from top (suc i) left before after
 
-pub turning : {K : Type 0} {of : ℕ → Numbered ℕ K} {from top n at left : ℕ} {before after : List ℕ} → Linked of top
-    → LettersFit (labels of top) n from (length before) → 0 < at → Backward of from top at left before after
-    → Turn of from top at left before after
-turning linked fits some back = record {
+pub turning : {K : Type 0} {of : ℕ → Numbered ℕ K} {from top n i left : ℕ} {at : Option ℕ} {before after : List ℕ} → Linked of top
+    → LettersFit (labels of top) n from (length before) → at ≡ Some i → Backward of from top (link_of at) left before after
+    → Turn of from top i left before after
+turning {of = of} {from} {top} {i = i} {left = left} {before = before} {after = after} linked fits is back = record {
   linked = linked;
   room = omega (arith, fits.count_is, fits.room);
-  some = some;
-  back = back;
+  back = subst (λ (k : ℕ). Backward of from top k left before after) (ap link_of is ∙ add-one i) back;
 }
 
-module _ {K : Type 0} {of : ℕ → Numbered ℕ K} {from top at left : ℕ} {before after : List ℕ}
-    (t : Turn of from top at left before after) where
-  abbrev b : Backward of from top at left before after
+module _ {K : Type 0} {of : ℕ → Numbered ℕ K} {from top i left : ℕ} {before after : List ℕ}
+    (t : Turn of from top i left before after) where
+  abbrev b : Backward of from top (suc i) left before after
   b = t.back
 
+  pub turn_low : i < top
+  turn_low = omega (arith, b.low)
+
   pub turn_some : 0 < left
-  turn_some = omega (arith, length_at of t.linked at t.some b.low, b.left_is)
+  turn_some = omega (arith, length_at of t.linked i turn_low, b.left_is)
 
   turn_room : from + left ≤ length before
-  turn_room = omega (arith, ap length b.whole, length-append (labels of at) b.rest, b.left_is, t.room)
+  turn_room = omega (arith, ap length b.whole, length-append (labels of (suc i)) b.rest, b.left_is, t.room)
 
   -- the letter before those written
   stored : (x : ℕ) → set after (from + (left - 1)) x ≡ written (from + (left - 1)) (x ∷ b.rest) before
   stored x =
-      let i = from + (left - 1) in
-      ap (λ (m : List ℕ). set m i x) b.now-is
-      ∙ ap (λ (k : ℕ). set (written k b.rest before) i x) {x = from + left} {y = suc i} (omega (arith, turn_some))
-      ∙ written-more i b.rest before x (omega (arith, turn_room, turn_some))
+      let j = from + (left - 1) in
+      ap (λ (m : List ℕ). set m j x) b.now-is
+      ∙ ap (λ (k : ℕ). set (written k b.rest before) j x) {x = from + left} {y = suc j} (omega (arith, turn_some))
+      ∙ written-more j b.rest before x (omega (arith, turn_room, turn_some))
 
   -- the parent's labels are to be written, where the label is stored in front of what is written
-  pub turn_next : {i up x : ℕ} {after' : List ℕ} → i ≡ from + (left - 1) → up ≡ (of (at - 1)).parent → x ≡ (of (at - 1)).label
-      → after' ≡ set after i x → Backward of from top up (left - 1) before after'
-  turn_next {i} {up} {x} {after'} p e q s =
+  pub turn_next : {j x : ℕ} (up : Option ℕ) {after' : List ℕ} → j ≡ from + (left - 1) → link_of up ≡ (of i).parent → x ≡ (of i).label
+      → after' ≡ set after j x → Backward of from top (link_of up) (left - 1) before after'
+  turn_next {j} {x} up {after'} p e q s =
       record {
-        low = omega (arith, parent-less of t.linked at t.some b.low, b.low);
-        same_length = ap length s ∙ length-set after i x ∙ b.same_length;
+        low = omega (arith, e, t.linked i turn_low, turn_low);
+        same_length = ap length s ∙ length-set after j x ∙ b.same_length;
         rest = x ∷ b.rest;
         whole =
-            b.whole ∙ ap (λ (l : List ℕ). l ++ b.rest) (labels_at of t.linked at t.some b.low)
-            ∙ append_assoc (labels of (of (at - 1)).parent) ((of (at - 1)).label ∷ []) b.rest
-            ∙ ap (λ (y : ℕ). labels of (of (at - 1)).parent ++ (y ∷ b.rest)) (sym q)
+            b.whole ∙ ap (λ (l : List ℕ). l ++ b.rest) (labels_at of t.linked i turn_low)
+            ∙ append_assoc (labels of (of i).parent) ((of i).label ∷ []) b.rest
+            ∙ ap (λ (y : ℕ). labels of (of i).parent ++ (y ∷ b.rest)) (sym q)
             ∙ ap (λ (k : ℕ). labels of k ++ (x ∷ b.rest)) (sym e);
-        left_is = omega (arith, length_at of t.linked at t.some b.low, b.left_is, ap (λ (k : ℕ). length (labels of k)) e);
+        left_is = omega (arith, length_at of t.linked i turn_low, b.left_is, ap (λ (k : ℕ). length (labels of k)) e);
         now-is = s ∙ ap (λ (k : ℕ). set after k x) p ∙ stored x;
       }
 

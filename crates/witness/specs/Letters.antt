@@ -3,8 +3,8 @@
 use Rattle.std.specs.Prelude.{◌≡◌, List, ◌++◌, ℕ, suc, ◌+◌, ◌*◌, ◌<◌, ◌≤◌, length, take, drop}
 use Rattle.base.specs.Spread.{Numbered, each_label, labels_to, Linked}
 use Rattle.tableau.specs.Origins.{parent_at, letter_at}
-use Rattle.profile_search.specs.Stored.{record_of, first_of, StoreFits}
-use Rattle.profile_search.specs.declared.Store.{Store}
+use Rattle.profile_search.specs.Stored.{record_of, first_of, link_of, StoreFits}
+use Rattle.profile_search.specs.declared.placed.Store.{Store}
 use Rattle.witness.specs.declared.Note.{Note}
 use Rattle.witness.specs.declared.Lengths.{Lengths}
 
@@ -22,7 +22,7 @@ plain of i = record { at = suc i; parent = (of i).parent; label = (of i).label }
 
 -- r is what is noted of an item
 pub record NoteOf (x : Numbered ℕ ℕ) (r : Note) : Type 0 where
-  pub parent : r.parent ≡ x.parent
+  pub parent : link_of r.parent ≡ x.parent
   pub letter : r.letter ≡ x.label
 
 -- the letters of the stem to node j
@@ -41,8 +41,9 @@ over ws l = ws ++ drop (length ws) l
 abbrev pub written : ℕ → List ℕ → List ℕ → List ℕ
 written from ws l = take from l ++ over ws (drop from l)
 
--- There are notes of the items up to item k - 1, and each leads to a smaller number.
+-- There are notes of the items up to item k - 1, not more than can be counted, and each leads to a smaller number.
 pub record ChainNoted (of : ℕ → Numbered ℕ ℕ) (noted : ℕ → Type 0) (k : ℕ) : Type 0 where
+  pub few : k < 18446744073709551616
   pub there : noted k
   pub linked : Linked of k
 

@@ -5,7 +5,7 @@
 ghost use Rattle.std.specs.Prelude.{◌≡◌, ℕ, ◌+◌, ◌-◌, ◌*◌, ◌<◌, ◌≤◌, length};
 ghost use Rattle.std.proofs.Common.{rules};
 ghost use Rattle.base.specs.Spread.{Numbered};
-ghost use Rattle.profile_search.specs.Stored.{record_of};
+ghost use Rattle.profile_search.specs.Stored.{record_of, link_of};
 ghost use Rattle.witness.specs.Letters.{labels, plain, node_item, stem_letters, written, NoteOf, ProfileNoted, ChainNoted, StemNoted};
 ghost use Rattle.witness.specs.Letters.{LettersFit, WitnessReady, WitnessWritten};
 
@@ -20,31 +20,27 @@ pub struct Lengths {
     pub cycle: usize,
 }
 
-// Where a chain of parents ends: at the root, or before the first profile.
-const END: usize = 0;
-
-// What is noted of an item of a chain: its parent, and the letter between.
+// What is noted of an item of a chain: its parent, if it has one, and the letter between.
 #[derive(Clone, Copy)]
 struct Note {
-    parent: usize,
+    parent: Option<usize>,
     letter: u16,
 }
 
-// Notes along which chains of parents are followed. Items go by 1 + their number, parents too.
+// Notes along which chains of parents are followed.
 trait Notes {
     ghost item: { Self → ℕ → Numbered ℕ ℕ };
 
     ghost noted: { Self → ℕ → Type 0 };
 
-    fn note(&self, at: usize) -> Note
-        requires some { 0 < at }
-        requires noted { noted self.now at }
-        ensures { NoteOf (item self.now (at - 1)) result };
+    fn note(&self, i: usize) -> Note
+        requires { noted self.now (i + 1) }
+        ensures { NoteOf (item self.now i) result };
 
     ghost noted_below: { (s : Self) (j k : ℕ) → j ≤ k → noted s k → noted s j };
 }
 
-// The notes of the nodes: two numbers each. The root's are not read.
+// The notes of the nodes: two numbers each. The root is no item, and ends the chains: its notes are not read, and item i is node i + 1.
 #[derive(Clone, Copy)]
 struct NodeNotes<'a> {
     origins: &'a [u16],
@@ -57,9 +53,10 @@ impl Notes for NodeNotes<'_> {
 
     ghost noted_below = { Prim.search rules };
 
-    fn note(&self, at: usize) -> Note {
+    fn note(&self, i: usize) -> Note {
+        let at = i + 1;
         Note {
-            parent: usize::from(self.origins[2 * at]),
+            parent: usize::from(self.origins[2 * at]).checked_sub(1),
             letter: self.origins[2 * at + 1],
         }
     }
@@ -79,8 +76,8 @@ impl Notes for ProfileNotes<'_> {
 
     ghost noted_below = { Prim.search rules };
 
-    fn note(&self, at: usize) -> Note {
-        let e = profile_search::header_of(self.area, self.store, at - 1);
+    fn note(&self, i: usize) -> Note {
+        let e = profile_search::header_of(self.area, self.store, i);
         Note {
             parent: e.parent,
             letter: e.letter,
@@ -89,31 +86,37 @@ impl Notes for ProfileNotes<'_> {
 }
 
 // How many letters stand along a chain.
-fn length_of<N: Notes>(notes: &N, top: usize) -> usize
-    requires { ChainNoted (N.item notes.now) (N.noted notes.now) top }
-    ensures { result ≡ length (labels (N.item notes.now) top) }
+fn length_of<N: Notes>(notes: &N, top: Option<usize>) -> usize
+    requires { ChainNoted (N.item notes.now) (N.noted notes.now) (link_of top) }
+    ensures { result ≡ length (labels (N.item notes.now) (link_of top)) }
 {
     let mut n = 0usize;
     let mut at = top;
-    while END < at {
+    while let Some(i) = at {
         n += 1;
-        at = notes.note(at).parent;
+        at = notes.note(i).parent;
     }
     n
 }
 
 // Writes the n letters along a chain from a position on, the last first.
-fn write_chain<N: Notes>(notes: &N, top: usize, letters: &mut [u16], from: Position, n: usize)
-    requires chain_noted { ChainNoted (N.item notes.now) (N.noted notes.now) top }
-    requires letters_fit { LettersFit (labels (N.item notes.now) top) n from.0 (length letters.old) }
-    ensures { letters.new ≡ written from.0 (labels (N.item notes.now) top) letters.old }
+fn write_chain<N: Notes>(
+    notes: &N,
+    top: Option<usize>,
+    letters: &mut [u16],
+    from: Position,
+    n: usize,
+)
+    requires chain_noted { ChainNoted (N.item notes.now) (N.noted notes.now) (link_of top) }
+    requires letters_fit { LettersFit (labels (N.item notes.now) (link_of top)) n from.0 (length letters.old) }
+    ensures { letters.new ≡ written from.0 (labels (N.item notes.now) (link_of top)) letters.old }
 {
     let start = from.0;
     let mut at = top;
     let mut left = n;
-    while END < at {
+    while let Some(i) = at {
         left -= 1;
-        let note = notes.note(at);
+        let note = notes.note(i);
         letters[start + left] = note.letter;
         at = note.parent;
     }
@@ -124,7 +127,7 @@ pub fn stem_length(origins: &[u16], node: NodeNumber) -> usize
     requires { StemNoted origins.now node.0 }
     ensures { result ≡ length (stem_letters origins.now node.0) }
 {
-    length_of(&NodeNotes { origins }, node.0)
+    length_of(&NodeNotes { origins }, node.0.checked_sub(1))
 }
 
 // Writes the n letters of the stem to a node from position 0 on.
@@ -133,7 +136,8 @@ pub fn write_stem(origins: &[u16], node: NodeNumber, letters: &mut [u16], n: usi
     requires letters_fit { LettersFit (stem_letters origins.now node.0) n 0 (length letters.old) }
     ensures { letters.new ≡ written 0 (stem_letters origins.now node.0) letters.old }
 {
-    write_chain(&NodeNotes { origins }, node.0, letters, Position(0), n);
+    let top = node.0.checked_sub(1);
+    write_chain(&NodeNotes { origins }, top, letters, Position(0), n);
 }
 
 // Writes the witness of profile p: the stem to its first node, and behind it the profile's cycle.
@@ -145,8 +149,8 @@ pub fn write(origins: &[u16], area: &[u8], store: Store, p: usize, letters: &mut
     let first = e.first;
     let stem = stem_length(origins, first);
     let profiles = ProfileNotes { area, store };
-    let cycle = length_of(&profiles, p + 1);
+    let cycle = length_of(&profiles, Some(p));
     write_stem(origins, first, letters, stem);
-    write_chain(&profiles, p + 1, letters, Position(stem), cycle);
+    write_chain(&profiles, Some(p), letters, Position(stem), cycle);
     Lengths { stem, cycle }
 }

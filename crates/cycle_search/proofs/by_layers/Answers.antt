@@ -10,13 +10,14 @@ loop-from-init c = search-start _ _ _ _ c.requires.store_chained
 pub returns-in-Some-clause-comes_to : goal.returns-in-Some-clause-comes_to
 returns-in-Some-clause-comes_to c = search-found _ _ _ _ c.loop-from.invariant c.in-Some.ensures
 
-pub returns-in_default-longer-clause-comes_to : goal.returns-in_default-longer-clause-comes_to
-returns-in_default-longer-clause-comes_to c =
-    search-full _ _ _ _ c.loop-from.invariant c.in_default.ensures c.in_default-longer.ensures (omega arith)
+pub returns-in_err-more-clause-comes_to : goal.returns-in_err-more-clause-comes_to
+returns-in_err-more-clause-comes_to c =
+    rw c.from_residual.ensures
+    (search-full _ _ _ _ c.loop-from.invariant c.in_default.ensures c.in_err-more.ensures (omega arith))
 
 pub loop-from-preserved : goal.loop-from-preserved
 loop-from-preserved c =
-    search-next _ _ _ _ c.loop-from.invariant c.in_default.ensures c.in-Some-longer.ensures.1 c.in-Some-longer.ensures.0
+    search-next _ _ _ _ c.loop-from.invariant c.in_default.ensures c.in_ok-more.ensures.1 c.in_ok-more.ensures.0
 
 pub returns-clause-comes_to : goal.returns-clause-comes_to
 returns-clause-comes_to c = search_end _ _ _ _ c.loop-from.invariant (omega arith)

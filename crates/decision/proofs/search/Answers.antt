@@ -45,7 +45,8 @@ pub from_nodes-v-requires : goal.from_nodes-v-requires
 from_nodes-v-requires c =
     let lends = c.in_ok-ask_capacities.ensures.ok in
     let yes = c.if-not-are_nodes.false in
-    checked-ready (held-decoded (held_as c.args.bytes.now c.read.result c.read.ensures.outcome c.in_ok-read.was c.new-t.ensures)) lends
+    checked-ready c.new-t.result.formed
+    (held-decoded (held_as c.args.bytes.now c.read.result c.read.ensures.outcome c.in_ok-read.was c.new-t.ensures)) lends
     c.are_nodes.ensures.value yes (c.are_nodes.ensures.origins yes) (omega (arith, lends.capacity.few_nodes))
 
 pub returns : goal.returns

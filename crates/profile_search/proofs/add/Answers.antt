@@ -21,7 +21,7 @@ chain-requires c =
       store_chained = record {
         fits = subst (StoreFits c.args.store) (sym c.write.ensures.bytes_between.same_length) c.requires.store_chained.fits;
         room = c.requires.store_chained.room;
-        chained = chained-kept c.requires.store_chained.fits.next c.write.ensures.bytes_between c.requires.store_chained.chained;
+        chained = chained-kept c.args.store.next c.write.ensures.bytes_between c.requires.store_chained.chained;
       };
       count_lt_capacity = (omega arith, c.bucket-k.ensures.1);
       k_value = c.bucket-k.ensures.0 ∙ ap (λ (y : FoundProfile). bucket_of c.args.store y.at) (sym c.write.ensures.p_after);
@@ -39,7 +39,7 @@ pub returns : goal.returns
 returns c = (
   omega arith,
   grown_new c.args.store c.args.count c.args.area.now c.requires.store_chained.room c.requires.store_chained.chained
-      (found_of c.args.header (triples_in c.args.store.n c.args.t.now)) c.requires.store_chained.fits.next
+      (found_of c.args.header (triples_in c.args.store.n c.args.t.now)) c.args.store.next
       (sym c.if-known.false ∙ c.known.ensures) (omega arith)
       c.write.ensures.p_after c.write.ensures.bytes_between c.chain.ensures.chained c.chain.ensures.by_index c.chain.ensures.bytes_between,
 )

@@ -7,7 +7,7 @@ pub loop-low-init : goal.loop-low-init
 loop-low-init c = halved_start _ _ _ _
 
 pub overflow_add-middle : goal.overflow_add-middle
-overflow_add-middle c = omega (arith, c.loop-low.invariant.among, c.requires.store_fits.few)
+overflow_add-middle c = omega (arith, c.loop-low.invariant.among, c.args.store.few)
 
 pub header_of-e-requires : goal.header_of-e-requires
 header_of-e-requires c =
@@ -18,7 +18,7 @@ header_of-e-requires c =
 
 pub overflow_add-low : goal.overflow_add-low
 overflow_add-low c =
-    omega (arith, c.loop-low.invariant.among, c.requires.store_fits.few)
+    omega (arith, c.loop-low.invariant.among, c.args.store.few)
 
 pub loop-low-preserved-then-e-node : goal.loop-low-preserved-then-e-node
 loop-low-preserved-then-e-node c =

@@ -23,5 +23,5 @@ returns c =
     let hashed : ℕ → ℕ = λ k. foldl mixed_row nodes (map (row_of c.args.t.now c.args.store.n) (range 0 k)) in
     let all : c.loop-f.f ≡ c.args.store.n = omega arith in (
       bucket_is c.args.store c.args.header c.args.t.now c.loop-f.h (c.loop-f.invariant.hash ∙ ap hashed all),
-      mod-lt (c.loop-f.h / 65536) c.requires.n_bound.1,
+      mod-lt (c.loop-f.h / 65536) c.args.store.some,
     )

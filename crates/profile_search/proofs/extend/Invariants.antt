@@ -1,7 +1,7 @@
 -- `profile_search::extend` adds one profile followed by each of one transition. The invariant: the first q of these are done. Those before
 -- the first that is tried begin before the profile's last node, and those behind the last one begin after it.
 use Rattle.std.proofs.Common.{ℕ, ◌≤◌, List}
-use Rattle.profile_search.specs.declared.Store.{Store}
+use Rattle.profile_search.specs.declared.placed.Store.{Store}
 use Rattle.profile_search.specs.Stored.{Grown}
 use Rattle.profile_search.proofs.TurnLaws.{extended}
 use Rattle.profile_search.proofs.extend.Given as goal

@@ -4,5 +4,5 @@ use Rattle.profile_search.proofs.header_of.Goals as goal
 
 pub returns : goal.returns
 returns c =
-    header_are c.args.store c.args.area.now c.args.p c.get2.ensures c.get2-2.ensures c.get2-3.ensures
-    c.get2-4.ensures.0
+    header_are c.args.store c.args.area.now c.args.p c.get2.ensures c.get2-2.ensures c.linked.ensures
+    c.get2-3.ensures.0

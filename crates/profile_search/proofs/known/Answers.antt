@@ -30,11 +30,11 @@ returns-then-same_profile c =
 pub loop-at-smaller : goal.loop-at-smaller
 loop-at-smaller c =
     let w = here (goal.at.loop-at-smaller c).In-Some in
-    omega (arith, passed-less c.requires.store_chained.chained _ c.in-Some.p w (sym c.linked-at.ensures), ap link_of c.in-Some.is)
+    omega (arith, passed-less c.requires.store_chained.chained _ c.in-Some.p w c.linked-at.ensures.0, ap link_of c.in-Some.is)
 
 pub loop-at-preserved : goal.loop-at-preserved
 loop-at-preserved c =
-    passed-more c.requires.store_chained.chained _ c.in-Some.p (here (goal.at.loop-at-preserved c).In-Some) (sym c.linked-at.ensures)
+    passed-more c.requires.store_chained.chained _ c.in-Some.p (here (goal.at.loop-at-preserved c).In-Some) c.linked-at.ensures.0
     (sym c.same_profile.ensures ∙ c.if-same_profile.false)
 
 pub returns : goal.returns

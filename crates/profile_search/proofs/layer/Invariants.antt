@@ -1,7 +1,7 @@
 -- `profile_search::layer` goes on from each record of a layer in turn. The invariant: what the search has found up to number p is in the
 -- area.
 use Rattle.std.proofs.Common.{ℕ, ◌≤◌, List}
-use Rattle.profile_search.specs.declared.Store.{Store}
+use Rattle.profile_search.specs.declared.placed.Store.{Store}
 use Rattle.profile_search.proofs.TurnLaws.{Pending}
 use Rattle.profile_search.proofs.layer.Given as goal
 

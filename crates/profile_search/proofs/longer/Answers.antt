@@ -12,27 +12,16 @@ returns-then-a-b c = (
 )
 
 pub record_start-requires-2 : goal.record_start-requires-2
-record_start-requires-2 c = (
-  c.requires.store_chained.fits.low,
-  omega (
-    arith,
-    c.requires.store_chained.fits.few,
-    c.requires.store_chained.room,
-    c.requires.p_lt_count.1,
-  ),
-)
+record_start-requires-2 c =
+    omega (arith, c.args.store.few, c.requires.store_chained.room, c.requires.p_lt_count.1)
 
 pub copied-y-requires : goal.copied-y-requires
 copied-y-requires c =
-    omega (arith, c.record_start-2.ensures, c.requires.store_chained.fits.enough, c.requires.store_chained.room, c.requires.p_lt_count.1)
+    omega (arith, c.record_start-2.ensures, c.requires.store_chained.fits, c.requires.store_chained.room, c.requires.p_lt_count.1)
 
 pub joined-t-requires : goal.joined-t-requires
 joined-t-requires c =
-    c.requires.store_chained.fits.next
-
-pub overflow_add-header : goal.overflow_add-header
-overflow_add-header c =
-    omega (arith, c.requires.store_chained.fits.few, c.requires.store_chained.room, c.requires.p_lt_count.0)
+    c.args.store.next
 
 pub add-requires : goal.add-requires
 add-requires c =
@@ -41,13 +30,14 @@ add-requires c =
       header_fits = record {
         first = c.header_of-a.ensures.small.first;
         last = c.header_of-b.ensures.small.last;
-        parent = omega (arith, c.requires.store_chained.fits.few, c.requires.store_chained.room, c.requires.p_lt_count.0);
+        parent = omega (arith, c.args.store.few, c.requires.store_chained.room, c.requires.p_lt_count.0);
       };
     }
 
 pub returns : goal.returns
 returns c =
-    longer-one c.args.store c.args.count c.args.area.now c.args.p c.args.q c.header_of-a.ensures c.header_of-b.ensures c.add.result c.add.new.area c.copied-x.result
-    c.copied-y.result c.joined-t.result c.requires.store_chained.fits.next c.if-a-b.false c.record_start.ensures c.record_start-2.ensures
+    longer-one c.args.store c.args.count c.args.area.now c.args.p c.args.q c.header_of-a.ensures c.header_of-b.ensures c.add.result
+    c.add.new.area c.copied-x.result
+    c.copied-y.result c.joined-t.result c.args.store.next c.if-a-b.false c.record_start.ensures c.record_start-2.ensures
     c.copied-x.ensures
     c.copied-y.ensures c.joined-t.ensures c.add.ensures

@@ -15,7 +15,8 @@ stepped {rows} {count} {word} {set = set} {r = r} node is s =
 
 pub by_word-requires-clause-unmet_ors : goal.by_word-requires-clause-unmet_ors
 by_word-requires-clause-unmet_ors c =
-    subst (λ (n : ℕ). UnmetOrs c.args.tableau.now.table.rows c.args.tableau.now.table.count n c.args.unmet.now) (sym c.requires.choice_ready.core_node)
+    subst (λ (n : ℕ). UnmetOrs c.args.ranked.now.tableau.now.table.rows c.args.ranked.now.tableau.now.table.count n c.args.unmet.now)
+    (sym c.requires.choice_ready.core_node)
     c.requires.choice_ready.unmet_is
 
 pub returns-in_default : goal.returns-in_default

@@ -10,9 +10,10 @@ returns c =
     record {
       p_after = written c.args.t.now at c.args.header c.record_start.ensures c.store_triples.ensures.bytes_between
           c.put2.ensures.bytes_between c.put2-2.ensures.bytes_between c.put2-3.ensures.bytes_between c.put2-4.ensures.bytes_between
-          c.store_triples.ensures.by_index c.put2.ensures.offset_after c.put2-2.ensures.offset_after c.put2-3.ensures.offset_after
+          c.store_triples.ensures.by_index c.put2.ensures.offset_after c.put2-2.ensures.offset_after
+          (c.put2-3.ensures.offset_after ∙ c.link.ensures)
           (c.put2-4.ensures.offset_after ∙ c.from.ensures)
-          c.args.store.n c.requires.store_fits.next;
+          c.args.store.n c.args.store.next;
       bytes_between = written-changed c.args.t.now at c.args.header c.record_start.ensures c.store_triples.ensures.bytes_between
           c.put2.ensures.bytes_between c.put2-2.ensures.bytes_between c.put2-3.ensures.bytes_between c.put2-4.ensures.bytes_between;
     }

@@ -44,5 +44,6 @@ returns-after-has c =
 pub returns-in-Fixpoint : goal.returns-in-Fixpoint
 returns-in-Fixpoint c =
     pass_fixpoint c.operator_at.ensures _ c.args.s.0 _ c.args.marks.now c.mark-in-Fixpoint.new.marks c.in-Fixpoint.is
-    _ c.minima.result (one_shl (get_or c.args.fix.now c.args.s.0 0) 8 (c.requires.s_bound (found-fix c.operator_at.ensures c.in-Fixpoint.is)))
+    _ c.minima.result
+    (one_shl (get_or c.args.fix.now c.args.s.0 0) 8 (c.requires.s_bound (found-fix c.operator_at.ensures c.in-Fixpoint.is)))
     c.minima.ensures c.mark-in-Fixpoint.ensures

@@ -13,8 +13,10 @@ loop-e-init c =
 
 pub loop-e-preserved : goal.loop-e-preserved
 loop-e-preserved c =
-    ranking_more c.args.tableau.now.table.rows c.loop-e.e c.loop-e.next c.loop-e.fix c.loop-e.nexts c.loop-e.fixes c.from-nexts.result c.from-fixes.result
-    (omega (arith, c.args.tableau.now.formed.few)) (one_of c.is_next.ensures c.from-nexts.ensures) (one_of c.is_fixpoint.ensures c.from-fixes.ensures)
+    ranking_more c.args.tableau.now.table.rows c.loop-e.e c.loop-e.next c.loop-e.fix c.loop-e.nexts c.loop-e.fixes c.from-nexts.result
+    c.from-fixes.result
+    (omega (arith, c.args.tableau.now.formed.few)) (one_of c.is_next.ensures c.from-nexts.ensures)
+    (one_of c.is_fixpoint.ensures c.from-fixes.ensures)
     c.loop-e.invariant
 
 pub overflow_add-nexts : goal.overflow_add-nexts
@@ -27,7 +29,10 @@ overflow_add-fixes c =
 
 pub returns : goal.returns
 returns c =
-    subst (λ (n : ℕ). RanksOf c.args.tableau.now.table.rows c.args.tableau.now.table.count (record { nexts = n; next = c.loop-e.next; fix = c.loop-e.fix }))
+    subst
+    (λ (n : ℕ). RanksOf c.args.tableau.now.table.rows c.args.tableau.now.table.count
+    (record { nexts = n; next = c.loop-e.next; fix = c.loop-e.fix }))
     (sym c.from.ensures)
-    (ranking_end c.args.tableau.now.table.rows c.args.tableau.now.table.count c.loop-e.e c.loop-e.next c.loop-e.fix c.loop-e.nexts c.loop-e.fixes (omega arith)
+    (ranking_end c.args.tableau.now.table.rows c.args.tableau.now.table.count c.loop-e.e c.loop-e.next c.loop-e.fix c.loop-e.nexts
+    c.loop-e.fixes (omega arith)
     c.loop-e.invariant)
