@@ -1,3 +1,4 @@
 pub mod Writing
 pub mod Numerals
 pub mod Each
+pub mod Parts

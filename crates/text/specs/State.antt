@@ -2,6 +2,6 @@
 use Rattle.text.specs.Text.{Buffer, buffer}
 use Rattle.text.specs.declared.Text.{Text}
 
--- its bytes, and the place behind what was written
+-- the bytes of its buffer, and the place behind what was written
 abbrev pub state : Text → Buffer
-state t = buffer t.bytes t.at
+state t = buffer t.bytes.now t.at

@@ -1,5 +1,5 @@
 -- Text in a buffer, and numbers as text. Assumes nothing.
-use Rattle.std.specs.Prelude.{Bool, cond, ◌&&◌, ◌≡◌, List, [], ◌∷◌, ◌++◌, ℕ, zero, suc, ◌+◌, ◌-◌, ◌/◌, ◌%◌, ◌≤◌, ◌<◌, ltb, leb, length, set, replicate}
+use Rattle.std.specs.Prelude.{Bool, cond, ◌&&◌, ◌≡◌, List, [], ◌∷◌, ◌++◌, ℕ, zero, suc, ◌+◌, ◌-◌, ◌/◌, ◌%◌, ◌≤◌, ◌<◌, ltb, leb, length, set}
 
 -- A buffer, and the place behind what was written into it.
 pub record Buffer : Type 0 where
@@ -9,10 +9,6 @@ pub record Buffer : Type 0 where
 -- the buffer with these bytes, written up to a place
 abbrev pub buffer : List ℕ → ℕ → Buffer
 buffer bytes at = record { bytes = bytes; at = at }
-
--- n zeros, into which nothing was written
-abbrev pub blank : ℕ → Buffer
-blank n = buffer (replicate n 0) 0
 
 -- One byte more, if there is room for it.
 abbrev pub put : Buffer → ℕ → Buffer
@@ -27,6 +23,14 @@ written s (b ∷ text) = written (put s b) text
 -- Writing the text into the buffer s leaves the buffer t.
 pub record Wrote (s : Buffer) (text : List ℕ) (t : Buffer) : Type 0 where
   pub is : t ≡ written s text
+
+-- A place beyond the buffer's end becomes its start.
+abbrev pub within : Buffer → Buffer
+within s = cond (leb s.at (length s.bytes)) s (buffer s.bytes 0)
+
+-- The line's end, behind a text.
+abbrev pub ended : Buffer → Buffer
+ended s = within (put s 10)
 
 -- A base whose digits have a glyph each.
 pub record Radix (base : ℕ) : Type 0 where

@@ -1,67 +1,79 @@
-// Text, written from a buffer's start on. What has no room in it is left out.
+// Text into a buffer. Each method writes from a place on, as far as there is room, and leaves the place behind what it wrote.
 #![tactic(auto)]
 
-ghost use Rattle.std.specs.Prelude.{◌≡◌, [], ◌∷◌, ◌<◌, ◌≤◌, take, drop};
-ghost use Rattle.text.specs.Text.{blank, Wrote, Radix, each, letter_text, number_text, is_last};
+ghost use Rattle.std.specs.Prelude.{◌≡◌, [], ◌∷◌, ◌<◌, take, drop};
+ghost use Rattle.io.specs.Counts.{IsPrefixLen};
+ghost use Rattle.text.specs.Text.{buffer, Wrote, Radix, each, letter_text, number_text, is_last};
 ghost use Rattle.text.specs.Text.{glyph as Text·glyph, decimal as Text·decimal, hex as Text·hex, numeral as Text·numeral};
+ghost use Rattle.text.specs.Text.{ended as Text·ended};
+ghost use Rattle.text.specs.State.{state};
 
-// How many bytes there is room for.
-pub const ROOM: usize = 4096;
-
-// A buffer, and the place behind what was written into it.
-#[derive(Clone, Copy)]
-pub struct Text {
-    pub bytes: [u8; ROOM],
+// A buffer that is lent, of any length, and the place behind what was written into it, which may lie beyond the end.
+#[derive(Drop)]
+pub struct Text<'a> {
+    pub bytes: &'a mut [u8],
     pub at: usize,
-    ghost within: { at ≤ 4096 },
 }
 
-impl Text {
-    ghost use Rattle.text.specs.State.{state};
-
-    pub fn new() -> Text
-        ensures { state result ≡ blank 4096 }
+impl<'a> Text<'a> {
+    // From the buffer's start on.
+    pub fn new(bytes: &'a mut [u8]) -> Text<'a>
+        ensures same_buffer { result.bytes.ghost_name ≡ bytes.entry.ghost_name }
+        ensures at_start { state result ≡ buffer bytes.old 0 }
     {
-        Text {
-            bytes: [0; ROOM],
-            at: 0,
-        }
+        Text { bytes, at: 0 }
     }
 
-    // What was written.
+    // What stands in front of the place: all of the buffer, where that lies beyond the end.
     pub fn written(&self) -> &[u8]
-        ensures { result.now ≡ take self.now.at self.now.bytes }
+        ensures { result.now ≡ take self.now.at self.now.bytes.now }
     {
-        &self.bytes[..self.at]
+        &self.bytes[..self.at.min(self.bytes.len())]
     }
 
     pub fn put(&mut self, b: u8)
-        ensures { Wrote (state self.old) (b ∷ []) (state self.new) }
+        ensures same_buffer { self.new.bytes.ghost_name ≡ self.old.bytes.ghost_name }
+        ensures wrote { Wrote (state self.old) (b ∷ []) (state self.new) }
     {
         let at = self.at;
-        if at < ROOM {
+        if at < self.bytes.len() {
             self.bytes[at] = b;
             self.at = at + 1;
         }
     }
 
     pub fn put_all(&mut self, text: &[u8])
-        ensures { Wrote (state self.old) text.now (state self.new) }
+        ensures same_buffer { self.new.bytes.ghost_name ≡ self.old.bytes.ghost_name }
+        ensures wrote { Wrote (state self.old) text.now (state self.new) }
     {
         for b in text {
             self.put(*b);
         }
     }
 
+    // The line's end. The place behind it is within the buffer: one that was beyond it becomes the start.
+    pub fn ended(&mut self)
+        ensures same_buffer { self.new.bytes.ghost_name ≡ self.old.bytes.ghost_name }
+        ensures prefix_len { IsPrefixLen self.new.at self.new.bytes.now }
+        ensures state_after { state self.new ≡ Text·ended (state self.old) }
+    {
+        self.put(b'\n');
+        if self.bytes.len() < self.at {
+            self.at = 0;
+        }
+    }
+
     pub fn decimal(&mut self, n: u64)
-        ensures { Wrote (state self.old) (Text·decimal n) (state self.new) }
+        ensures same_buffer { self.new.bytes.ghost_name ≡ self.old.bytes.ghost_name }
+        ensures wrote { Wrote (state self.old) (Text·decimal n) (state self.new) }
     {
         self.numeral(n, 10, 1);
     }
 
     // A blank and a number.
     pub fn number(&mut self, n: u64)
-        ensures { Wrote (state self.old) (number_text n) (state self.new) }
+        ensures same_buffer { self.new.bytes.ghost_name ≡ self.old.bytes.ghost_name }
+        ensures wrote { Wrote (state self.old) (number_text n) (state self.new) }
     {
         self.put(b' ');
         self.decimal(n);
@@ -69,7 +81,8 @@ impl Text {
 
     // With zeros in front up to the width.
     pub fn hex(&mut self, n: u64, width: usize)
-        ensures { Wrote (state self.old) (Text·hex width n) (state self.new) }
+        ensures same_buffer { self.new.bytes.ghost_name ≡ self.old.bytes.ghost_name }
+        ensures wrote { Wrote (state self.old) (Text·hex width n) (state self.new) }
     {
         self.numeral(n, 16, width);
     }
@@ -77,7 +90,8 @@ impl Text {
     // The digits in front of the last one are those of the quotient.
     fn numeral(&mut self, n: u64, base: u64, width: usize)
         requires { Radix base }
-        ensures { Wrote (state self.old) (Text·numeral base width n) (state self.new) }
+        ensures same_buffer { self.new.bytes.ghost_name ≡ self.old.bytes.ghost_name }
+        ensures wrote { Wrote (state self.old) (Text·numeral base width n) (state self.new) }
     {
         if !is_last(base, width, n) {
             self.numeral(n / base, base, width.saturating_sub(1));
@@ -87,7 +101,8 @@ impl Text {
 
     // Each letter in four hex digits, between the two texts.
     pub fn letters(&mut self, letters: &[u16], front: &[u8], back: &[u8])
-        ensures { Wrote (state self.old)
+        ensures same_buffer { self.new.bytes.ghost_name ≡ self.old.bytes.ghost_name }
+        ensures wrote { Wrote (state self.old)
             (each (letter_text front.now back.now) letters.now)
             (state self.new) }
     {
@@ -97,7 +112,8 @@ impl Text {
     }
 
     fn letter(&mut self, letter: u16, front: &[u8], back: &[u8])
-        ensures { Wrote (state self.old)
+        ensures same_buffer { self.new.bytes.ghost_name ≡ self.old.bytes.ghost_name }
+        ensures wrote { Wrote (state self.old)
             (letter_text front.now back.now letter)
             (state self.new) }
     {

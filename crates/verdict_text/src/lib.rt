@@ -1,7 +1,8 @@
-// The texts of verdicts and refusals (MEANING 6.2). Each function writes behind what was written before.
+// The texts of verdicts and refusals (MEANING 6.2), put into a buffer. Each function writes behind what was written before.
 #![tactic(auto)]
 
-ghost use Rattle.text.specs.Text.{blank, Wrote};
+ghost use Rattle.std.specs.Prelude.{◌≡◌};
+ghost use Rattle.text.specs.Text.{buffer, Wrote};
 ghost use Rattle.text.specs.State.{state};
 ghost use Rattle.formula.specs.Refusal.{code_of, place_of};
 ghost use Rattle.verdict_text.specs.Texts.{met_text, not_text, verdict_text, lasso_text, program_text, refused_text, unread_text};
@@ -11,19 +12,21 @@ use construction::Refusal;
 use decision::Verdict;
 use text::Text;
 
-// What the program prints: the line of the verdict or of the refusal, then a line for each position of the witness.
-pub fn program_text(answer: Result<Verdict, Refusal>, letters: &[u16]) -> Text
-    ensures { Wrote (blank 4096) (program_text answer letters.now) (state result) }
+// What the program prints, from the buffer's start on: the line of the verdict or of the refusal, then a line for each position of the
+// witness. Answers the place behind it.
+pub fn program_text(out: &mut [u8], answer: Result<Verdict, Refusal>, letters: &[u16]) -> usize
+    ensures { Wrote (buffer out.old 0) (program_text answer letters.now) (buffer out.new result) }
 {
-    let mut out = Text::new();
-    verdict_text(&mut out, answer);
-    out.put(b'\n');
-    lasso_text(&mut out, answer, letters, b"S ", b"L ", b"\n");
-    out
+    let mut text = Text::new(out);
+    verdict_text(&mut text, answer);
+    text.put(b'\n');
+    lasso_text(&mut text, answer, letters, b"S ", b"L ", b"\n");
+    text.at
 }
 
 fn verdict_text(out: &mut Text, answer: Result<Verdict, Refusal>)
-    ensures { Wrote (state out.old) (verdict_text answer) (state out.new) }
+    ensures same_buffer { out.new.bytes.ghost_name ≡ out.old.bytes.ghost_name }
+    ensures wrote { Wrote (state out.old) (verdict_text answer) (state out.new) }
 {
     match answer {
         Ok(
@@ -49,14 +52,16 @@ fn verdict_text(out: &mut Text, answer: Result<Verdict, Refusal>)
 }
 
 pub fn refused(out: &mut Text, code: u8)
-    ensures { Wrote (state out.old) (refused_text code) (state out.new) }
+    ensures same_buffer { out.new.bytes.ghost_name ≡ out.old.bytes.ghost_name }
+    ensures wrote { Wrote (state out.old) (refused_text code) (state out.new) }
 {
     worded(out, b"REFUSED", u64::from(code));
 }
 
 // A refusal of reading has a place, and that of a binder where it names one.
 pub fn unread(out: &mut Text, why: formula::Refusal)
-    ensures { Wrote (state out.old) (unread_text why) (state out.new) }
+    ensures same_buffer { out.new.bytes.ghost_name ≡ out.old.bytes.ghost_name }
+    ensures wrote { Wrote (state out.old) (unread_text why) (state out.new) }
 {
     placed(out, why);
     match why {
@@ -66,14 +71,16 @@ pub fn unread(out: &mut Text, why: formula::Refusal)
 }
 
 fn placed(out: &mut Text, why: formula::Refusal)
-    ensures { Wrote (state out.old) (placed_text (code_of why) (place_of why)) (state out.new) }
+    ensures same_buffer { out.new.bytes.ghost_name ≡ out.old.bytes.ghost_name }
+    ensures wrote { Wrote (state out.old) (placed_text (code_of why) (place_of why)) (state out.new) }
 {
     refused(out, formula::code_of(why));
     worded(out, b" at", formula::place_of(why) as u64);
 }
 
 fn met_text(out: &mut Text, stem: u64, cycle: u64, nodes: u64, profiles: u64)
-    ensures { Wrote (state out.old) (met_text stem cycle nodes profiles) (state out.new) }
+    ensures same_buffer { out.new.bytes.ghost_name ≡ out.old.bytes.ghost_name }
+    ensures wrote { Wrote (state out.old) (met_text stem cycle nodes profiles) (state out.new) }
 {
     worded(out, b"MET", stem);
     out.number(cycle);
@@ -82,7 +89,8 @@ fn met_text(out: &mut Text, stem: u64, cycle: u64, nodes: u64, profiles: u64)
 }
 
 fn not_text(out: &mut Text, nodes: u64, profiles: u64)
-    ensures { Wrote (state out.old) (not_text nodes profiles) (state out.new) }
+    ensures same_buffer { out.new.bytes.ghost_name ≡ out.old.bytes.ghost_name }
+    ensures wrote { Wrote (state out.old) (not_text nodes profiles) (state out.new) }
 {
     worded(out, b"NOT", nodes);
     out.number(profiles);
@@ -90,7 +98,8 @@ fn not_text(out: &mut Text, nodes: u64, profiles: u64)
 
 // A word, and a number behind it.
 fn worded(out: &mut Text, word: &[u8], n: u64)
-    ensures { Wrote (state out.old) (worded_text word.now n) (state out.new) }
+    ensures same_buffer { out.new.bytes.ghost_name ≡ out.old.bytes.ghost_name }
+    ensures wrote { Wrote (state out.old) (worded_text word.now n) (state out.new) }
 {
     out.put_all(word);
     out.number(n);
@@ -105,7 +114,8 @@ fn lasso_text(
     cycle_front: &[u8],
     back: &[u8],
 )
-    ensures { Wrote (state out.old)
+    ensures same_buffer { out.new.bytes.ghost_name ≡ out.old.bytes.ghost_name }
+    ensures wrote { Wrote (state out.old)
         (lasso_text answer letters.now stem_front.now cycle_front.now back.now)
         (state out.new) }
 {

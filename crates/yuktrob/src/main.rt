@@ -1,7 +1,8 @@
 // Decides the formula that stands on standard input, and prints the verdict with the first of the shortest witnesses (MEANING 5.4).
 #![tactic(auto)]
 
-ghost use Rattle.std.specs.Prelude.{length, replicate};
+ghost use Rattle.std.specs.Prelude.{length};
+ghost use Rattle.io.specs.Counts.{IsPrefixLen};
 ghost use Rattle.decision.specs.Verdict.{verdict};
 ghost use Rattle.decision.specs.Lends.{Lends};
 ghost use Rattle.decision.specs.Inner.{Answers};
@@ -9,7 +10,6 @@ ghost use Rattle.yuktrob.specs.Printed.{nodes, profiles, Printed};
 
 use construction::Refusal;
 use decision::Verdict;
-use text::Text;
 
 // The capacities, and what the decision asks for them.
 const NODES: usize = 256;
@@ -24,18 +24,20 @@ const LETTERS: usize = NODES + PROFILES;
 fn main() {
     let mut bytes = [0u8; 97];
     let n = io::read_full(0, &mut bytes);
-    let out = decided(&bytes[..n]);
-    io::write_all(1, out.written());
+    let mut out = [0u8; 4096];
+    let end = decided(&mut out, &bytes[..n]);
+    io::write_all(1, &out[..end]);
 }
 
-// What the program prints for a formula, with room for 256 nodes and 300 profiles: the whole text.
-fn decided(bytes: &[u8]) -> Text
-    ensures { Printed bytes.now (replicate 4096 0) result.bytes result.at }
+// What the program prints for a formula, with room for 256 nodes and 300 profiles: where `out` has 4,096 bytes, the whole text.
+fn decided(out: &mut [u8], bytes: &[u8]) -> usize
+    ensures prefix_len { IsPrefixLen result out.new }
+    ensures printed { Printed bytes.now out.old out.new result }
 {
     let mut workspace = [0u8; WORKSPACE];
     let mut letters = [0u16; LETTERS];
     let answer = searched(bytes, &mut workspace, &mut letters);
-    verdict_text::program_text(answer, &letters)
+    verdict_text::program_text(out, answer, &letters)
 }
 
 // The decision, as building and a search over what was built.

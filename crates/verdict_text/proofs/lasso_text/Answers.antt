@@ -16,11 +16,11 @@ wrote-lasso : {s t : Buffer} {r : Answer} {v : Verdict} {stem cycle K c : ℕ} (
 wrote-lasso {s} {t} letters f g b e d p q w =
     subst⁻¹ (λ (x : Answer). Wrote s (lasso_text x letters f g b) t) (e ∙ ap Ok d) (rw (sym p, sym q) w)
 
-pub returns : goal.returns
-returns c =
+pub returns-clause-wrote : goal.returns-clause-wrote
+returns-clause-wrote c =
     wrote-lasso c.args.letters.now c.args.stem_front.now c.args.cycle_front.now c.args.back.now
     c.in-Ok-Satisfiable.is
     (rw c.in-Ok-Satisfiable.is at c.in-Ok-Satisfiable.field-0-is)
     c.part.ensures
     c.part-2.ensures
-    (then c.letters.ensures c.letters-2.ensures)
+    (then c.letters.ensures.wrote c.letters-2.ensures.wrote)

@@ -2,6 +2,6 @@
 use Rattle.text.proofs.Writing.{then}
 use Rattle.verdict_text.proofs.met_text.Goals as goal
 
-pub returns : goal.returns
-returns c =
-    then (then (then c.worded.ensures c.number.ensures) c.number-2.ensures) c.number-3.ensures
+pub returns-clause-wrote : goal.returns-clause-wrote
+returns-clause-wrote c =
+    then (then (then c.worded.ensures.wrote c.number.ensures.wrote) c.number-2.ensures.wrote) c.number-3.ensures.wrote

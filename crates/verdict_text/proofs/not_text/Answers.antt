@@ -2,5 +2,5 @@
 use Rattle.text.proofs.Writing.{then}
 use Rattle.verdict_text.proofs.not_text.Goals as goal
 
-pub returns : goal.returns
-returns c = then c.worded.ensures c.number.ensures
+pub returns-clause-wrote : goal.returns-clause-wrote
+returns-clause-wrote c = then c.worded.ensures.wrote c.number.ensures.wrote

@@ -20,6 +20,6 @@ wrote-named : {s m t : Buffer} {why : Refusal} {at binder : ℕ} → why ≡ Ung
 wrote-named {s} {m} {t} e w v =
     subst⁻¹ (λ (r : Refusal). Wrote s (unread_text r) t) e (then (subst (λ (r : Refusal). Placed s r m) e w) v)
 
-pub returns-in-Unguarded : goal.returns-in-Unguarded
-returns-in-Unguarded c =
-    wrote-named c.in-Unguarded.is c.placed.ensures c.worded.ensures
+pub returns-in-Unguarded-clause-wrote : goal.returns-in-Unguarded-clause-wrote
+returns-in-Unguarded-clause-wrote c =
+    wrote-named c.in-Unguarded.is c.placed.ensures.wrote c.worded.ensures.wrote

@@ -2,5 +2,5 @@
 use Rattle.text.proofs.Writing.{then}
 use Rattle.verdict_text.proofs.worded.Goals as goal
 
-pub returns : goal.returns
-returns c = then c.put_all.ensures c.number.ensures
+pub returns-clause-wrote : goal.returns-clause-wrote
+returns-clause-wrote c = then c.put_all.ensures.wrote c.number.ensures.wrote

@@ -2,6 +2,6 @@
 use Rattle.text.proofs.Writing.{then}
 use Rattle.text.proofs.Text.letter.Goals as goal
 
-pub returns : goal.returns
-returns c =
-    rw (← c.from.ensures) (then (then c.put_all.ensures c.hex.ensures) c.put_all-2.ensures)
+pub returns-clause-wrote : goal.returns-clause-wrote
+returns-clause-wrote c =
+    rw (← c.from.ensures) (then (then c.put_all.ensures.wrote c.hex.ensures.wrote) c.put_all-2.ensures.wrote)
