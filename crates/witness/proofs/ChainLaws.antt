@@ -1,10 +1,9 @@
 -- Labels along a chain of parents. An item's are its parent's and then its own (`labels_at`); so whatever lists go on by these labels are
 -- the labels (`labels_are`). They are counted from the last item to the first (`ChainCounted`). Assumes nothing.
 use Rattle.std.proofs.Common.{◌≡◌, refl, sym, ap, subst, ◌∙◌, List, [], ◌∷◌, ◌++◌, ℕ, zero, suc, ◌+◌, ◌≤◌, ◌<◌, length, length-append}
-use Rattle.std.proofs.Common.{Option, Some, add-one, arith}
+use Rattle.std.proofs.Common.{◌-◌, arith}
 use Rattle.base.specs.Spread.{Numbered, each_label, labels_up, Linked}
 use Rattle.base.proofs.SpreadLaws.{labels_next}
-use Rattle.profile_search.specs.Stored.{link_of}
 use Rattle.witness.specs.Letters.{labels, plain}
 
 module _ {K : Type 0} (of : ℕ → Numbered ℕ K) where
@@ -44,23 +43,22 @@ pub record ChainCounted {K : Type 0} (of : ℕ → Numbered ℕ K) (top n at : �
   pub low : at ≤ top
   pub sum : n + length (labels of at) ≡ length (labels of top)
 
-module _ {K : Type 0} (of : ℕ → Numbered ℕ K) {top n i : ℕ} {at : Option ℕ} (linked : Linked of top)
-    (c : ChainCounted of top n (link_of at)) (is : at ≡ Some i) where
-  here : ChainCounted of top n (suc i)
-  here = subst (ChainCounted of top n) (ap link_of is ∙ add-one i) c
+module _ {K : Type 0} (of : ℕ → Numbered ℕ K) {top n k : ℕ} (linked : Linked of top) (c : ChainCounted of top n k) (some : 0 < k) where
+  here : ChainCounted of top n (suc (k - 1))
+  here = subst (ChainCounted of top n) {x = k} {y = suc (k - 1)} (omega arith) c
 
-  pub counted-low : i < top
+  pub counted-low : k - 1 < top
   counted-low = omega (arith, here.low)
 
   -- there are more letters than those counted, and at most as many as items
   pub counted-few : n < top
-  counted-few = omega (arith, here.sum, length_at of linked i counted-low, labels-short of top)
+  counted-few = omega (arith, here.sum, length_at of linked (k - 1) counted-low, labels-short of top)
 
-  pub counted_next : (up : Option ℕ) → link_of up ≡ (of i).parent → ChainCounted of top (n + 1) (link_of up)
+  pub counted_next : (up : ℕ) → up ≡ (of (k - 1)).parent → ChainCounted of top (n + 1) up
   counted_next up e =
       record {
-        low = omega (arith, e, linked i counted-low, counted-low);
-        sum = omega (arith, here.sum, length_at of linked i counted-low, ap (λ (k : ℕ). length (labels of k)) e);
+        low = omega (arith, e, linked (k - 1) counted-low, counted-low);
+        sum = omega (arith, here.sum, length_at of linked (k - 1) counted-low, ap (λ (j : ℕ). length (labels of j)) e);
       }
 
 -- the labels are those along the items with their numbers for vertices

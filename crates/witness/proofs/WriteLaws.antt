@@ -1,9 +1,9 @@
 -- What is written letter by letter from the back is the whole list, with the rest of the buffer as before (`Backward`); so is one letter
 -- behind another (`written_on`); and one list behind another is both at once (`over-both`). Assumes nothing.
-use Rattle.std.proofs.Common.{◌≡◌, refl, sym, ap, subst, ◌∙◌, Option, Some, List, [], ◌∷◌, ◌++◌, append_assoc, ℕ, zero, suc, ◌+◌, ◌-◌, ◌≤◌, ◌<◌}
+use Rattle.std.proofs.Common.{◌≡◌, refl, sym, ap, subst, ◌∙◌, List, [], ◌∷◌, ◌++◌, append_assoc, ℕ, zero, suc, ◌+◌, ◌-◌, ◌≤◌, ◌<◌}
 use Rattle.std.proofs.Common.{add-one, length, length-append, length-set, set, arith}
 use Rattle.base.specs.Spread.{Numbered, Linked}
-use Rattle.profile_search.specs.Stored.{record_of, first_of, link_of}
+use Rattle.profile_search.specs.Stored.{record_of, first_of}
 use Rattle.profile_search.specs.declared.placed.Store.{Store}
 use Rattle.witness.specs.Letters.{labels, plain, node_item, stem_letters, cycle_letters, over, written, LettersFit, WitnessReady}
 use Rattle.witness.specs.Letters.{WitnessWritten}
@@ -59,13 +59,13 @@ pub record Turn {K : Type 0} (of : ℕ → Numbered ℕ K) (from top i left : �
   pub room : from + length (labels of top) ≤ length before
   pub back : Backward of from top (suc i) left before after
 
-pub turning : {K : Type 0} {of : ℕ → Numbered ℕ K} {from top n i left : ℕ} {at : Option ℕ} {before after : List ℕ} → Linked of top
-    → LettersFit (labels of top) n from (length before) → at ≡ Some i → Backward of from top (link_of at) left before after
-    → Turn of from top i left before after
-turning {of = of} {from} {top} {i = i} {left = left} {before = before} {after = after} linked fits is back = record {
+pub turning : {K : Type 0} {of : ℕ → Numbered ℕ K} {from top n k left : ℕ} {before after : List ℕ} → Linked of top
+    → LettersFit (labels of top) n from (length before) → 0 < k → Backward of from top k left before after
+    → Turn of from top (k - 1) left before after
+turning {of = of} {from} {top} {k = k} {left = left} {before = before} {after = after} linked fits some back = record {
   linked = linked;
   room = omega (arith, fits.count_is, fits.room);
-  back = subst (λ (k : ℕ). Backward of from top k left before after) (ap link_of is ∙ add-one i) back;
+  back = subst (λ (j : ℕ). Backward of from top j left before after) {x = k} {y = suc (k - 1)} (omega arith) back;
 }
 
 module _ {K : Type 0} {of : ℕ → Numbered ℕ K} {from top i left : ℕ} {before after : List ℕ}
@@ -91,8 +91,8 @@ module _ {K : Type 0} {of : ℕ → Numbered ℕ K} {from top i left : ℕ} {bef
       ∙ written-more j b.rest before x (omega (arith, turn_room, turn_some))
 
   -- the parent's labels are to be written, where the label is stored in front of what is written
-  pub turn_next : {j x : ℕ} (up : Option ℕ) {after' : List ℕ} → j ≡ from + (left - 1) → link_of up ≡ (of i).parent → x ≡ (of i).label
-      → after' ≡ set after j x → Backward of from top (link_of up) (left - 1) before after'
+  pub turn_next : {j x : ℕ} (up : ℕ) {after' : List ℕ} → j ≡ from + (left - 1) → up ≡ (of i).parent → x ≡ (of i).label
+      → after' ≡ set after j x → Backward of from top up (left - 1) before after'
   turn_next {j} {x} up {after'} p e q s =
       record {
         low = omega (arith, e, t.linked i turn_low, turn_low);

@@ -1,9 +1,9 @@
 -- The letters of a witness, and where they are written: those of the stem along the notes of the nodes, those of the cycle along the
 -- profiles. A reader of the decision's contract need not read it. Assumes nothing.
-use Rattle.std.specs.Prelude.{◌≡◌, List, ◌++◌, ℕ, suc, ◌+◌, ◌*◌, ◌<◌, ◌≤◌, length, take, drop}
+use Rattle.std.specs.Prelude.{◌≡◌, cond, ltb, Option, MatchOption, List, ◌++◌, ℕ, suc, ◌+◌, ◌-◌, ◌*◌, ◌<◌, ◌≤◌, length, take, drop}
 use Rattle.base.specs.Spread.{Numbered, each_label, labels_to, Linked}
 use Rattle.tableau.specs.Origins.{parent_at, letter_at}
-use Rattle.profile_search.specs.Stored.{record_of, first_of, link_of, StoreFits}
+use Rattle.profile_search.specs.Stored.{record_of, first_of, StoreFits}
 use Rattle.profile_search.specs.declared.placed.Store.{Store}
 use Rattle.witness.specs.declared.Note.{Note}
 use Rattle.witness.specs.declared.Lengths.{Lengths}
@@ -20,10 +20,23 @@ node_item o i = record { at = suc i; parent = parent_at o (suc i); label = lette
 abbrev pub plain : {K : Type 0} → (ℕ → Numbered ℕ K) → ℕ → Numbered ℕ ℕ
 plain of i = record { at = suc i; parent = (of i).parent; label = (of i).label }
 
--- r is what is noted of an item
-pub record NoteOf (x : Numbered ℕ ℕ) (r : Note) : Type 0 where
-  pub parent : link_of r.parent ≡ x.parent
-  pub letter : r.letter ≡ x.label
+-- how a chain that ends at node r leads to node j: by its number, and by 0 where it ends, at r or before it
+abbrev pub node_link : (r j : ℕ) → ℕ
+node_link r j = cond (ltb r j) j 0
+
+-- the note of node i + 1, as an item of a chain that ends at node r
+abbrev pub chain_item : (r : ℕ) → List ℕ → ℕ → Numbered ℕ ℕ
+chain_item r o i = record { at = suc i; parent = node_link r (parent_at o (suc i)); label = letter_at o (suc i) }
+
+-- A link k leads to an item, and r is what is noted of it.
+pub record NoteOf {A : Type 0} (link : A → ℕ) (of : ℕ → Numbered ℕ ℕ) (k : ℕ) (r : Note A) : Type 0 where
+  pub some : 0 < k
+  pub parent : link r.parent ≡ (of (k - 1)).parent
+  pub letter : r.letter ≡ (of (k - 1)).label
+
+-- r is what is noted of the item that a link k leads to, and there is none where k is 0
+abbrev pub NotedBy : {A : Type 0} → (A → ℕ) → (ℕ → Numbered ℕ ℕ) → (k : ℕ) → Option (Note A) → Type 0
+NotedBy link of k r = MatchOption r (k ≡ 0) (NoteOf link of k)
 
 -- the letters of the stem to node j
 abbrev pub stem_letters : List ℕ → ℕ → List ℕ
