@@ -1,13 +1,14 @@
--- The conjunction put together in a buffer from its end, one formula after another from the last to the first, each if it is taken
--- (`Conjoining`). A formula that reading accepts has 1 to 96 bytes (`accepted-length`), so there is room for eight; and a conjunction has
--- bytes exactly if it has formulas. Assumes nothing.
+-- The conjunction put together in a buffer from its end: bytes before bytes (`Putting`), a formula before what is there (`grown-first`,
+-- `grown-more`), and so one formula after another from the last to the first, each if it is taken (`Conjoining`). A formula that reading
+-- accepts has 1 to 96 bytes (`accepted-length`), so there is room for eight; and a conjunction has bytes exactly if it has formulas. Assumes
+-- nothing.
 use mathlib.Core.Path.{◌≡◌, refl, sym, ap, subst, ◌∙◌}
 use mathlib.Core.Bool.{Bool, true, false, cond}
-use mathlib.Core.List.{List, [], ◌∷◌, ◌++◌}
-use Prim.Native.Nat.{ℕ, zero, suc, ◌-◌, ◌*◌, ◌≤◌, ◌<◌}
+use mathlib.Core.List.{List, [], ◌∷◌, ◌++◌, append-nil}
+use Prim.Native.Nat.{ℕ, zero, suc, ◌+◌, ◌-◌, ◌*◌, ◌≤◌, ◌<◌}
 use native.Mathlib.Omega.{arith}
-use lib.ListN.{length, get_or, take, drop, length-drop, drop_of_length-le}
-use lib.Seq.{take_all, drop-length, drop-cons}
+use lib.ListN.{length, get_or, take, drop, set, length-set, length-drop, drop_of_length-le}
+use lib.Seq.{take_all, drop-length, drop-cons, get_or-set_same, drop-set-lt}
 use Rattle.formula.specs.Formula.{Formula}
 use Rattle.formula.specs.Reading.{Opcode, byte_of}
 use Rattle.formula.proofs.Measure.{accepted-length}
@@ -15,10 +16,73 @@ use Rattle.conjunction.specs.Conjunction.{conjoined, Accepted}
 use Rattle.joint.specs.Joint.{Subset, chosen}
 use Rattle.joint.specs.Inner.{joined, Grown, Conjoins}
 
+-- ---- one byte before others
+set_drop : (out : List ℕ) (k b : ℕ) → k < length out → drop k (set out k b) ≡ b ∷ drop (suc k) out
+set_drop out k b l =
+    drop-cons (set out k b) k 0 (omega (arith, length-set out k b))
+    ∙ ap (λ (x : ℕ). x ∷ drop (suc k) (set out k b)) (get_or-set_same out k b 0 l)
+    ∙ ap (λ (r : List ℕ). b ∷ r) (drop-set-lt (suc k) out k b (omega arith))
+
+-- ---- bytes before what is there
+module _ (bytes : List ℕ) (start at : ℕ) (out₀ : List ℕ) where
+  -- those from i on are put
+  pub record Putting (out : List ℕ) (i : ℕ) : Type 0 where
+    pub is : drop (start + i) out ≡ drop i bytes ++ drop at out₀
+    pub long : length out ≡ length out₀
+
+  pub putting_none : start + length bytes ≡ at → Putting out₀ (length bytes)
+  putting_none e = record {
+    is = ap (λ (k : ℕ). drop k out₀) e ∙ ap (λ (l : List ℕ). l ++ drop at out₀) (sym (drop-length bytes));
+    long = refl;
+  }
+
+  pub putting_more : {out : List ℕ} {i : ℕ} → Putting out i → 0 < i → i ≤ length bytes → start + length bytes ≤ length out₀
+      → Putting (set out (start + (i - 1)) (get_or bytes (i - 1) 0)) (i - 1)
+  putting_more {out} {i} h z l w =
+      let b = get_or bytes (i - 1) 0 in
+      record {
+        is =
+            set_drop out (start + (i - 1)) b (omega (arith, h.long))
+            ∙ ap (λ (k : ℕ). b ∷ drop k out) {x = suc (start + (i - 1))} {y = start + i} (omega arith)
+            ∙ ap (λ (r : List ℕ). b ∷ r) h.is
+            ∙ ap (λ (k : ℕ). b ∷ drop k bytes ++ drop at out₀) {x = i} {y = suc (i - 1)} (omega arith)
+            ∙ sym (ap (λ (r : List ℕ). r ++ drop at out₀) (drop-cons bytes (i - 1) 0 (omega arith)));
+        long = length-set out (start + (i - 1)) b ∙ h.long;
+      }
+
 -- ---- a formula before what is there
 joined-some : (b l : List ℕ) → 0 < length l → joined b l ≡ byte_of (Opcode.pair false) ∷ (b ++ l)
 joined-some b [] h = absurd (omega arith)
 joined-some b (c ∷ cs) h = refl
+
+module _ {bytes : List ℕ} {start at : ℕ} {out₀ out : List ℕ} (h : Putting bytes start at out₀ out 0)
+    (short : length bytes ≤ 96) (there : start + length bytes ≡ at)
+  where
+    put : drop start out ≡ bytes ++ drop at out₀
+    put = ap (λ (k : ℕ). drop k out) {x = start} {y = start + 0} (omega arith) ∙ h.is
+
+    pub grown-first : at ≡ length out → Grown at (joined bytes (drop at out₀)) out₀ out start
+    grown-first e =
+        let none = drop_of_length-le out₀ {i = at} (omega (arith, h.long)) in
+        record {
+          is = put ∙ ap (λ (l : List ℕ). bytes ++ l) none ∙ append-nil bytes ∙ sym (ap (joined bytes) none);
+          before = omega (arith, there);
+          near = omega (arith, there, short);
+          long = h.long;
+        }
+
+    pub grown-more : (at ≡ length out → ⊥) → at ≤ length out₀ → 97 ≤ at
+        → Grown at (joined bytes (drop at out₀)) out₀ (set out (start - 1) 7) (start - 1)
+    grown-more d l w = record {
+      is =
+          set_drop out (start - 1) 7 (omega (arith, h.long, there, short))
+          ∙ ap (λ (k : ℕ). 7 ∷ drop k out) {x = suc (start - 1)} {y = start} (omega (arith, there, short))
+          ∙ ap (λ (r : List ℕ). 7 ∷ r) put
+          ∙ sym (joined-some bytes (drop at out₀) (omega (arith, length-drop at out₀, h.long)));
+      before = omega (arith, there);
+      near = omega (arith, there, short);
+      long = length-set out (start - 1) 7 ∙ h.long;
+    }
 
 -- if it is taken
 abbrev joined_if : Bool → List ℕ → List ℕ → List ℕ

@@ -111,7 +111,10 @@ fn put_before(out: &mut [u8], at: usize, bytes: &[u8]) -> usize
     ensures { Grown at (joined bytes.now (drop at out.old)) out.old out.new result }
 {
     let start = at - bytes.len();
-    out[start..at].copy_from_slice(bytes);
+    // From the last byte to the first, by a loop: copy_from_slice would make the archive for C need memmove.
+    for i in (0..bytes.len()).rev() {
+        out[start + i] = bytes[i];
+    }
     if at == out.len() {
         return start;
     }

@@ -2,8 +2,9 @@
 -- a record stays while bytes elsewhere change (`record_kept`), what is read of a record is its own (`header_are`,
 -- `triple_set-at`), and the tests that compare a record with a profile. Assumes nothing.
 use Rattle.std.proofs.Common.{◌≡◌, refl, sym, ap, ◌∙◌, Bool, false, ◌&&◌, List, ℕ, ◌+◌, ◌*◌, ◌≤◌, ◌<◌, arith, ne_eqb, eq-eqb, eqb, length}
-use Rattle.std.proofs.Common.{get_or}
-use Rattle.std.proofs.Math.Decide.{dec_lt}
+use Rattle.std.proofs.Common.{get_or, set, length-set, get_or-set_same, get_or-set_other}
+use Rattle.std.proofs.Math.Decide.{dec_lt, ℕ_discrete}
+use Rattle.std.proofs.Math.Path.{subst⁻¹}
 use Rattle.base.specs.Bits.{bit}
 use Rattle.base.specs.Bytes.{with_number}
 use Rattle.base.proofs.BytesLaws.{number_same, number-written, before-written, behind-written, length-written}
@@ -20,6 +21,14 @@ pub changed-none : (from to : ℕ) (a : List ℕ) → BytesBetween from to a a
 changed-none from to a = record { same_length = refl; below = λ i h. refl; beyond = λ i h. refl }
 
 module _ {from to : ℕ} {a b : List ℕ} (c : BytesBetween from to a b) where
+  pub changed_set : (k v : ℕ) → from ≤ k → k < to → BytesBetween from to a (set b k v)
+  changed_set k v h l =
+      record {
+        same_length = length-set b k v ∙ c.same_length;
+        below = λ i m. get_or-set_other b k i v 0 (λ e. omega arith) ∙ c.below i m;
+        beyond = λ i m. get_or-set_other b k i v 0 (λ e. omega arith) ∙ c.beyond i m;
+      }
+
   pub changed_then : {low high : ℕ} {d : List ℕ} → from ≤ low → high ≤ to → BytesBetween low high b d → BytesBetween from to a d
   changed_then {low} {high} {d} h l m =
       record {
@@ -66,6 +75,16 @@ module _ (a : List ℕ) {at to : ℕ} (x : ℕ) (e : at ≡ to) (h : to + 2 ≤ 
     below = λ i l. before-written 2 a at x i (omega arith) (omega arith);
     beyond = λ i l. behind-written 2 a at x i (omega arith) (omega arith);
   }
+
+-- one byte of the triples more
+pub store_triples_more : (a t : List ℕ) (at i : ℕ) → at + i < length a → ((j : ℕ) → j < i → get_or a (at + j) 0 ≡ get_or t j 0)
+    → (j : ℕ) → j < i + 1 → get_or (set a (at + i) (get_or t i 0)) (at + j) 0 ≡ get_or t j 0
+store_triples_more a t at i h r j l = go (ℕ_discrete j i)
+  where
+    go : Dec (j ≡ i) → get_or (set a (at + i) (get_or t i 0)) (at + j) 0 ≡ get_or t j 0
+    go (yes q) = subst⁻¹ (λ (k : ℕ). get_or (set a (at + i) (get_or t i 0)) (at + k) 0 ≡ get_or t k 0) q
+        (get_or-set_same a (at + i) (get_or t i 0) 0 h)
+    go (no q) = get_or-set_other a (at + i) (at + j) (get_or t i 0) 0 (λ e. q (omega arith)) ∙ r j (omega arith)
 
 -- a record is written: its triples make a0 of a, and then each put the next area
 module _ {a a0 a1 a2 a3 a4 : List ℕ} (t : List ℕ) (at : ℕ) (e : Header) {start : ℕ} (there : start ≡ at)

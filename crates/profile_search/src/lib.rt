@@ -77,12 +77,15 @@ fn put2(area: &mut [u8], store: Store, p: usize, offset: usize, x: usize)
     base::put_number(area, record_start(store, p) + offset, 2, x as u64);
 }
 
+// The triples of a record. A loop of fixed length: copy_from_slice would make the archive for C need memmove.
 fn store_triples(area: &mut [u8], at: usize, t: &[u8; 144])
     requires { at + 144 ≤ length area.old }
     ensures by_index { (i : ℕ) → i < 144 → get_or area.new (at + i) 0 ≡ get_or t.now i 0 }
     ensures bytes_between { BytesBetween at (at + 144) area.old area.new }
 {
-    area[at..at + 144].copy_from_slice(t);
+    for i in 0..144 {
+        area[at + i] = t[i];
+    }
 }
 
 // Writes record p.
