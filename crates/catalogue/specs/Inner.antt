@@ -14,3 +14,8 @@ Small (Err place) = Unit {0}
 abbrev pub scanned : ℕ → Records → Result (Option Record) ℕ
 scanned n (Records.damaged place) = Err place
 scanned n (Records.whole rs) = Ok (numbered n rs)
+
+-- whether the records come to an end; or the fault
+abbrev pub undamaged : Records → Result (Unit {0}) ℕ
+undamaged (Records.damaged place) = Err place
+undamaged (Records.whole rs) = Ok tt

@@ -3,10 +3,10 @@
 #![tactic(auto)]
 
 ghost use Rattle.std.specs.Prelude.{◌≡◌, ◌+◌, ◌≤◌, length};
-ghost use Rattle.catalogue.specs.Records.{record_at, records};
+ghost use Rattle.catalogue.specs.Records.{record_at, records, records_from};
 ghost use Rattle.catalogue.specs.Location.{chosen, location};
 ghost use Rattle.catalogue.specs.Contract.{code, layer_number, layer_told, place_told, size_told, of_layer, view, part, handed};
-ghost use Rattle.catalogue.specs.Inner.{Small, scanned};
+ghost use Rattle.catalogue.specs.Inner.{Small, scanned, undamaged};
 
 // A formula's number, and where its bytes stand in the catalogue.
 #[derive(Clone, Copy)]
@@ -82,15 +82,27 @@ fn scan(catalogue: &[u8], number: usize) -> Result<Option<Record>, usize>
 {
     let mut at = 0;
     let mut least = 0;
-    let mut found = None;
     while let Some(r) = next_record(catalogue, at, least)? {
-        if found.is_none() && r.number == number {
-            found = Some(r);
+        if r.number == number {
+            passed(catalogue, r.start + r.size, r.number + 1)?;
+            return Ok(Some(r));
         }
         at = r.start + r.size;
         least = r.number + 1;
     }
-    Ok(found)
+    Ok(None)
+}
+
+// Goes through the records from a place on, which may have the numbers from `above` on, to the end of the catalogue or its first fault. No
+// number is looked for any more: the loop is apart from that of `scan`, so that neither asks at each record what was found.
+fn passed(catalogue: &[u8], mut at: usize, mut above: usize) -> Result<(), usize>
+    ensures { result ≡ undamaged (records_from catalogue.now at above) }
+{
+    while let Some(r) = next_record(catalogue, at, above)? {
+        at = r.start + r.size;
+        above = r.number + 1;
+    }
+    Ok(())
 }
 
 // The overlay's record before that of the base catalogue.
