@@ -1,8 +1,10 @@
--- The examples of MEANING 5.11, as one statement that the definitions compute through the reading of the bytes. Assumes nothing.
+-- The examples of MEANING 5.11, as one statement that the definitions compute through the reading of the bytes, and the numbers of the
+-- refusals. Assumes nothing.
 use Rattle.std.proofs.Common.{◌≡◌, refl, List, [], ◌∷◌, map, ℕ}
-use Rattle.formula.specs.Refusal.{unguarded}
+use Rattle.formula.specs.Refusal.{unguarded, code_of}
 use Rattle.construction.specs.Construction.{Construction, construction}
-use Rattle.construction.specs.declared.Question.TheVariants.{Capacity, Workspace, Nodes}
+use Rattle.construction.specs.Questions.{question_code}
+use Rattle.construction.specs.declared.Question.TheVariants.{Capacity, Workspace, Buffer, Nodes, Profiles, Built}
 
 pub record Example : Type 0 where
   pub bytes : List ℕ
@@ -34,3 +36,20 @@ pub examples_built : map (λ (e : Example). construction e.capacity e.workspace 
     ≡ map (λ (e : Example). e.outcome) examples
 unfolding construction
 examples_built = refl
+
+-- the number of a refusal, and 0 where there is none
+abbrev number : Construction → ℕ
+number (Construction.unread why) = code_of why
+number (Construction.refused q) = question_code q
+number (Construction.built words) = 0
+
+-- Theorem: the same refusals by their numbers.
+pub examples_numbered : map (λ (e : Example). number (construction e.capacity e.workspace e.bytes)) examples
+    ≡ 0 ∷ 14 ∷ 12 ∷ 11 ∷ 11 ∷ 0 ∷ 0 ∷ 0 ∷ 0 ∷ 8 ∷ []
+unfolding construction
+examples_numbered = refl
+
+-- Theorem: the number of each question, of those that the decision and the search ask, too.
+pub questions_numbered : map question_code (Capacity ∷ Workspace ∷ Buffer ∷ Nodes ∷ Profiles ∷ Built ∷ [])
+    ≡ 11 ∷ 12 ∷ 13 ∷ 14 ∷ 15 ∷ 36 ∷ []
+questions_numbered = refl

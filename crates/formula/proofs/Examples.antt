@@ -1,7 +1,7 @@
--- The examples of MEANING 1.7 as one table that the definition computes. Assumes nothing.
+-- The examples of MEANING 1.7 as one table that the definition computes, and the numbers of their refusals. Assumes nothing.
 use Rattle.std.proofs.Common.{◌≡◌, refl, true, List, [], ◌∷◌, ◌++◌, map, ℕ, zero, suc, replicate}
 use Rattle.formula.specs.Formula.{Leaf, Formula}
-use Rattle.formula.specs.Refusal.{at_byte, unguarded}
+use Rattle.formula.specs.Refusal.{at_byte, unguarded, code_of}
 use Rattle.formula.specs.declared.Fault.{Fault}
 use Rattle.formula.specs.declared.Fault.TheVariants.{MissingOperator, UnknownOpcode, TooManyOperators, TooManyOfKind}
 use Rattle.formula.specs.declared.Fault.TheVariants.{MissingOperand, UnknownSignal, UnboundVariable, BytesLeft}
@@ -42,3 +42,14 @@ table =
 pub examples : map (λ (x : Example). parse x.bytes) table ≡ map (λ (x : Example). x.outcome) table
 unfolding parse
 examples = refl
+
+-- the number of a refusal, and 0 where there is none
+abbrev number : Reading Formula → ℕ
+number (Reading.accepted f) = 0
+number (Reading.refused why) = code_of why
+
+-- Theorem: the same refusals by their numbers. Each of 1 to 9 is here, so that none can stand for another.
+pub examples_numbered : map (λ (x : Example). number (parse x.bytes)) table
+    ≡ 1 ∷ 2 ∷ 5 ∷ 6 ∷ 0 ∷ 1 ∷ 7 ∷ 8 ∷ 9 ∷ 3 ∷ 4 ∷ 0 ∷ 8 ∷ 8 ∷ []
+unfolding parse
+examples_numbered = refl

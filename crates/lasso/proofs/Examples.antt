@@ -1,7 +1,9 @@
--- The truth examples of document 01, and two of places that there are not, computed from the definition. Assumes nothing.
+-- The truth examples of document 01, and two of places that there are not, computed from the definition, and the numbers of the
+-- refusals. Assumes nothing.
 use Rattle.std.proofs.Common.{◌≡◌, refl, true, false, List, [], ◌∷◌, map, ℕ}
 use Rattle.lasso.specs.Truth.{Truth, truth}
-use Rattle.lasso.specs.declared.Refusal.TheVariants.{Stem, Alphabet}
+use Rattle.lasso.specs.Refusal.{code_of}
+use Rattle.lasso.specs.declared.Refusal.TheVariants.{Stem, Positions, Words, Alphabet}
 
 pub record Example : Type 0 where
   pub bytes : List ℕ
@@ -34,3 +36,18 @@ pub examples : map (λ (x : Example). truth x.bytes (record { letters = x.letter
     (λ (x : Example). x.outcome) table
 unfolding truth
 examples = refl
+
+-- the number of a refusal, and 0 where there is none
+abbrev number : Truth → ℕ
+number (Truth.refused why) = code_of why
+number (Truth.holds b words) = 0
+
+-- Theorem: the same refusals by their numbers.
+pub examples_numbered : map (λ (x : Example). number (truth x.bytes (record { letters = x.letters; stem = x.stem }) 8)) table
+    ≡ 0 ∷ 0 ∷ 0 ∷ 0 ∷ 16 ∷ 19 ∷ 19 ∷ []
+unfolding truth
+examples_numbered = refl
+
+-- Theorem: the number of each question behind those of reading.
+pub questions_numbered : map code_of (Stem ∷ Positions ∷ Words ∷ Alphabet ∷ []) ≡ 16 ∷ 17 ∷ 18 ∷ 19 ∷ []
+questions_numbered = refl

@@ -1,8 +1,10 @@
 // The truth of a formula on a lasso: bit e of word i says that subformula e is true at position i.
 #![tactic(auto)]
 
-ghost use Rattle.std.specs.Prelude.{◌≡◌, false, cond, not, ◌++◌, ℕ, ◌+◌, ◌≤◌, ◌<◌, eqb, length, drop, replicate};
+ghost use Rattle.std.specs.Prelude.{◌≡◌, false, cond, not, ◌&&◌, ◌++◌, ℕ, ◌+◌, ◌≤◌, ◌<◌, eqb, ltb, length, drop, replicate};
 ghost use Rattle.base.specs.Bits.{bit};
+ghost use Rattle.formula.specs.Table.{is_next};
+ghost use Rattle.formula.specs.Rows.{operator_at, end_at};
 ghost use Rattle.formula.specs.Access.{decoded, Fits};
 ghost use Rattle.lasso.specs.Truth.{truth, written};
 ghost use Rattle.lasso.specs.Refusal.{code_of};
@@ -139,6 +141,7 @@ fn open_in(rows: &[u8; 144], s: Subformula) -> u64
 // Whether subformula k is a next that reaches past s.
 fn spans(rows: &[u8; 144], k: Subformula, s: Subformula) -> bool
     requires { k.0 < 48 }
+    ensures { result ≡ (is_next (operator_at rows.now k.0) && ltb s.0 (end_at rows.now k.0)) }
 {
     formula::is_next(rows, k) && s.0 < formula::end(rows, k)
 }

@@ -1,6 +1,6 @@
 -- How large the numbers of a verdict are: K is at most N where one is given, stem and cycle have together at most K letters, and at least
--- one of them is the cycle's; the place of 43 is at most 96, as a formula has at most 48 operators of two bytes; and the places of a
--- refusal of reading are at most 97. Assumes nothing.
+-- one of them is the cycle's; the place of 43 is at most 96, as a formula has at most 48 operators of two bytes; the places of a refusal of
+-- reading are at most 97; and a question that is answered by no is one of 11 to 14, so that there is neither 15 nor 36. Assumes nothing.
 use mathlib.Core.Path.{◌≡◌, refl, subst⁻¹}
 use mathlib.Core.List.{List, [], ◌∷◌}
 use mathlib.Core.Bool.{cond}
@@ -25,6 +25,7 @@ use Rattle.construction.specs.declared.Question.{Question}
 use Rattle.safety.specs.declared.Verdict.TheVariants.{Satisfiable, Unsatisfiable}
 use Rattle.safety.specs.declared.Refusal.TheVariants.{LeastAt, No, Unread}
 use Rattle.safety.proofs.VerdictLaws.{Concluded, VerdictCases, verdict-answered}
+use Rattle.safety.proofs.Demands.{OfRoom}
 
 -- the numbers of an answer with at most N nodes
 pub record Sized (N stem cycle K : ℕ) : Type 0 where
@@ -35,7 +36,7 @@ pub record Sized (N stem cycle K : ℕ) : Type 0 where
 abbrev pub Bounded : (N : ℕ) → Answer → Type 0
 Bounded N (Ok (Satisfiable stem cycle K)) = Sized max_nodes stem cycle K × (K ≤ N)
 Bounded N (Ok (Unsatisfiable K)) = (K ≤ max_nodes) × (K ≤ N)
-Bounded N (Err (No q)) = Unit {0}
+Bounded N (Err (No q)) = OfRoom q
 Bounded N (Err (LeastAt place)) = place ≤ 96
 Bounded N (Err (Unread why)) = PlacesWithin 97 why
 
@@ -66,17 +67,18 @@ concluded_bounded N t h k o (Concluded.unmet n) = (omega arith, k)
 pub verdict_bounded : (N workspace buffer : ℕ) (bytes : List ℕ) → Bounded N (says (verdict N workspace buffer bytes))
 verdict_bounded N workspace buffer bytes = by refl (verdict-answered N workspace buffer bytes)
   where
-    asked_bounded : {Asks : Type 0} {q : Question} {After : Verdict → Type 0}
+    asked_bounded : {Asks : Type 0} {q : Question} {After : Verdict → Type 0} → OfRoom q
         → (Asks → (o : Verdict) → After o → Bounded N (says o))
         → (o : Verdict) → Asked Asks (Verdict.refused q) After o → Bounded N (says o)
-    asked_bounded f = every_outcome (λ (o : Verdict). Bounded N (says o)) tt f
+    asked_bounded of f = every_outcome (λ (o : Verdict). Bounded N (says o)) of f
 
     by : {r : Reading Formula} {o : Verdict} → parse bytes ≡ r → VerdictCases N workspace buffer r o → Bounded N (says o)
     by e (VerdictCases.unread {why}) = parse-early bytes why e
     by e (VerdictCases.least {f} {place} q) =
         omega (arith, least-early 0 (table f) q, table-size f, (parse-limited bytes f e).commands)
     by e (VerdictCases.read {f} {o} q d) =
-        asked_bounded (λ r. asked_bounded (λ _. asked_bounded (λ _. asked_bounded (λ k o c.
+        asked_bounded (omega arith, omega arith) (λ r. asked_bounded (omega arith, omega arith) (λ _.
+        asked_bounded (omega arith, omega arith) (λ _. asked_bounded (omega arith, omega arith) (λ k o c.
         concluded_bounded N (table f) r.1 k o c)))) o d
 
 pub decided_bounded : {bytes : List ℕ} {N : ℕ} {w w' b b' : List ℕ} {v : Answer} → Decided bytes N w w' b b' v → Bounded N v
