@@ -5,7 +5,7 @@ use Rattle.std.proofs.lemmas.List.{length_push}
 use Rattle.std.proofs.lemmas.Iterator.{YieldsList-from_slice, YieldsList-from_take}
 use Rattle.std.proofs.lemmas.Iterator.Consumers.{YieldsList-from_chain, YieldsList-turn, YieldsList-end}
 use Rattle.substitution.specs.Inner.{spliced_at}
-use Rattle.substitution.proofs.SpliceLaws.{seen-length, written-more, written_all}
+use Rattle.substitution.proofs.SpliceLaws.{seen-length, written-next, written_all}
 use Rattle.substitution.proofs.splice.Goals as goal
 
 -- The iterator gives the three parts in their order, 97 bytes of them at most.
@@ -35,7 +35,7 @@ loop-byte-preserved c =
     let spliced = spliced_at c.args.span c.args.old.now c.args.new.now in
     let t = YieldsList-turn c.loop-byte.invariant.road c.loop-byte.yielded _ c.loop-byte.yielded_by _ _ c.in-Some.byte c.in-Some.is
     c.next.ensures.steps in
-    let more = written-more spliced t in
+    let more = written-next spliced t in
     let n = length_push c.loop-byte.yielded c.in-Some.byte in
     record { counts = omega (arith, c.loop-byte.invariant.counts, n); is = cc; road = c.loop-byte.invariant.road }
 
