@@ -36,17 +36,24 @@ fn noted(edit: Substitution, old: &[u8], shown: bool) {
 }
 
 fn told(answer: Result<usize, Refusal>, table: Table, spliced: &[u8]) {
+    numbered(substitution::code_of(answer));
     match answer {
         Ok(_) => {
-            say::put(b"EDITED");
             say::spelled(spliced);
             stored_lengths(table);
         }
         Err(Refusal::Unread { source, why }) => {
-            say::unread(why);
+            say::places(why);
             source_name(source);
         }
-        Err(Refusal::Missing) => say::refused(substitution::code_of(answer)),
+        Err(Refusal::Missing) => {}
+    }
+}
+
+fn numbered(code: u8) {
+    match code {
+        0 => say::put(b"EDITED"),
+        _ => say::refused(code),
     }
 }
 

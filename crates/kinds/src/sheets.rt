@@ -1,7 +1,7 @@
 // `sheet | DEALER | FACTORY | NUMBER`: looking a formula up by its number in an overlay, and in a base catalogue below it, both in hex. The
 // outcome is which of the two has it, where its bytes begin there, and these bytes; or the refusal, of 30 with the catalogue that is
 // damaged and the place of the fault.
-use catalogue::{Found, Layer, Refusal};
+use catalogue::{Found, Refusal};
 use lines::area::start;
 use lines::field::{bytes, field, number};
 use lines::say;
@@ -20,33 +20,34 @@ pub fn outcome(line: &[u8], overlay: &[u8]) -> Option<()> {
 }
 
 // The bytes are those of the part that is handed back. If it has another size than the location tells, which is 0 for a refusal, that is
-// the outcome: no line expects it.
+// the outcome: no line expects it. What is told goes by the numbers that callers take a location apart with, so that these are tried too.
 fn told(location: Result<Found, Refusal>, formula: &[u8]) {
     if formula.len() != catalogue::size_of(location) {
         say::put(b"PART OF");
         say::number(b' ', formula.len());
         return;
     }
-    match location {
-        Ok(Found { layer, start, .. }) => {
+    match catalogue::code_of(location) {
+        0 => {
             say::put(b"FOUND");
-            layer_name(layer);
-            say::number(b' ', start);
+            layer_name(location);
+            say::number(b' ', catalogue::place_of(location));
             say::spelled(formula);
         }
-        Err(Refusal::Damaged { layer, place }) => {
-            say::refused(catalogue::code_of(location));
-            layer_name(layer);
+        30 => {
+            say::refused(30);
+            layer_name(location);
             say::put(b" at");
-            say::number(b' ', place);
+            say::number(b' ', catalogue::place_of(location));
         }
-        Err(Refusal::Missing) => say::refused(catalogue::code_of(location)),
+        code => say::refused(code),
     }
 }
 
-fn layer_name(layer: Layer) {
-    match layer {
-        Layer::Overlay => say::put(b" dealer"),
-        Layer::Base => say::put(b" factory"),
+fn layer_name(location: Result<Found, Refusal>) {
+    match catalogue::layer_of(location) {
+        0 => say::put(b" dealer"),
+        1 => say::put(b" factory"),
+        _ => say::put(b" NEITHER"),
     }
 }
