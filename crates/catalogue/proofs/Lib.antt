@@ -1,5 +1,6 @@
 pub mod RecordLaws
 pub mod RecordsLaws
+pub mod DueLaws
 pub mod RunLaws
 pub mod FaultLaws
 pub mod CatalogueLaws

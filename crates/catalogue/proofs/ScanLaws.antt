@@ -15,11 +15,12 @@ module _ (n : ℕ) (r : Record) where
   scanned-other e (Records.damaged place) = refl
   scanned-other e (Records.whole rs) = ap (λ b. Ok (cond b (Some r) (numbered n rs))) (ne_eqb r.number n e)
 
-  -- one with the number is what is found, if what comes behind it is whole
+  -- a fault behind one is told
   scanned-broken : {p : ℕ} (rest : Records) → Err p ≡ undamaged rest → Err p ≡ scanned n (behind r rest)
   scanned-broken (Records.damaged place) e = cc
   scanned-broken (Records.whole rs) e = cc
 
+  -- one with the number is what is found, if what comes behind it is whole
   scanned-found : r.number ≡ n → (rest : Records) → Ok tt ≡ undamaged rest → Ok (Some r) ≡ scanned n (behind r rest)
   scanned-found e (Records.damaged place) h = cc
   scanned-found e (Records.whole rs) h = sym (ap (λ b. Ok (cond b (Some r) (numbered n rs))) (eq-eqb r.number n e))

@@ -1,6 +1,6 @@
 -- The conjunction put together in a buffer from its end: bytes before bytes (`Putting`), a formula before what is there (`grown-first`,
 -- `grown-more`), and so one formula after another from the last to the first, each if it is taken (`Conjoining`). A formula that reading
--- accepts has 1 to 96 bytes (`accepted-length`), so there is room for eight; and a conjunction has bytes exactly if it has formulas. Assumes
+-- accepts has 1 to 96 bytes (`accepted-length`), so there is room for eight. A conjunction has bytes exactly if it has formulas. Assumes
 -- nothing.
 use mathlib.Core.Path.{◌≡◌, refl, sym, ap, subst, ◌∙◌}
 use mathlib.Core.Bool.{Bool, true, false, cond}

@@ -27,7 +27,8 @@ fn told(location: Result<Found, Refusal>, formula: &[u8]) {
         say::number(b' ', formula.len());
         return;
     }
-    match catalogue::code_of(location) {
+    let code = catalogue::code_of(location);
+    match code {
         0 => {
             say::put(b"FOUND");
             layer_name(location);
@@ -35,12 +36,12 @@ fn told(location: Result<Found, Refusal>, formula: &[u8]) {
             say::spelled(formula);
         }
         30 => {
-            say::refused(30);
+            say::refused(code);
             layer_name(location);
             say::put(b" at");
             say::number(b' ', catalogue::place_of(location));
         }
-        code => say::refused(code),
+        _ => say::refused(code),
     }
 }
 

@@ -1,4 +1,3 @@
 pub mod Writing
 pub mod Numerals
 pub mod Each
-pub mod Parts

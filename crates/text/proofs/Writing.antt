@@ -2,12 +2,11 @@
 -- text that has room stands at the place whole, with the rest of the buffer as it was. Assumes nothing.
 use Rattle.std.proofs.Common.{◌≡◌, refl, sym, ap, ◌∙◌, Bool, true, false, cond, List, [], ◌∷◌, ◌++◌}
 use Rattle.std.proofs.Common.{ℕ, suc, ◌+◌, ◌≤◌, ◌<◌, add-one, arith, ltb, length, take, drop, set, length-set, get_or}
-use Rattle.std.proofs.Common.{subst, lt-ltb, ltb-true, le-leb}
-use Rattle.std.proofs.lemmas.Bool.{lt-leb}
+use Rattle.std.proofs.Common.{subst, lt-ltb, ltb-true}
 use Rattle.std.proofs.lemmas.List.{take_more}
 use Rattle.std.proofs.Math.Seq.{sets, take-append_seam}
 use Rattle.std.proofs.lemmas.List.Edits.{sets-eq}
-use Rattle.text.specs.Text.{Buffer, buffer, put, written, Wrote, within, ended}
+use Rattle.text.specs.Text.{Buffer, buffer, put, written, Wrote}
 
 pub written-append : (s : Buffer) (a b : List ℕ) → written s (a ++ b) ≡ written (written s a) b
 written-append s [] b = refl
@@ -24,18 +23,6 @@ then {s} {t} {u} {a} {b} p q = record { is = q.is ∙ ap (λ (t : Buffer). writt
 pub one_byte_more : {s t u : Buffer} (text : List ℕ) (i : ℕ) → i < length text → Wrote s (take i text) t → Wrote t (get_or text i 0 ∷ []) u
     → Wrote s (take (i + 1) text) u
 one_byte_more text i h p q = rw (take_more text i 0) (then p q)
-
--- the line's end, with its place within the buffer or not
-module _ {s : Buffer} {bytes : List ℕ} {at : ℕ} (p : Wrote s (10 ∷ []) (buffer bytes at)) where
-  pub ends : at ≤ length bytes → buffer bytes at ≡ ended s
-  ends h =
-      let e : within (buffer bytes at) ≡ buffer bytes at = simp (le-leb at (length bytes) h) in
-      sym e ∙ ap within p.is
-
-  pub starts : length bytes < at → buffer bytes 0 ≡ ended s
-  starts h =
-      let e : within (buffer bytes at) ≡ buffer bytes 0 = simp (lt-leb at (length bytes) h) in
-      sym e ∙ ap within p.is
 
 -- What stays: the buffer's length, and that the place is within.
 pub record BufferKept (s t : Buffer) : Type 0 where
@@ -57,9 +44,6 @@ written-kept s (b ∷ text) =
     let one = put-kept s b in
     let rest = written-kept (put s b) text in
     record { long = rest.long ∙ one.long; within = λ w. rest.within (one.within w) }
-
-pub keeps-length : {s t : Buffer} {text : List ℕ} → Wrote s text t → length t.bytes ≡ length s.bytes
-keeps-length {s} {t} {text} p = ap (λ (u : Buffer). length u.bytes) p.is ∙ (written-kept s text).long
 
 -- the place behind a text
 pub place-within : {s t : Buffer} {text : List ℕ} → Wrote s text t → s.at ≤ length s.bytes → t.at ≤ length t.bytes

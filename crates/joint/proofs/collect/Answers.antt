@@ -1,8 +1,8 @@
 -- `joint::collect`: before each turn, the records that were passed and those from here on are the whole catalogue's. Each record takes four
 -- bytes or more, so the bytes left fall.
-use Rattle.std.proofs.Common.{refl, sym, ap, ◌∙◌, ℕ, List, Ok, arith, rules}
+use Rattle.std.proofs.Common.{refl, sym, ℕ, List, arith, rules}
 use Rattle.std.specs.Borrow.{Bor}
-use Rattle.std.proofs.lemmas.Result.{err_from_is_err_and}
+use Rattle.catalogue.proofs.DueLaws.{due-is, handed-on}
 use Rattle.joint.specs.Joint.{bytes_of}
 use Rattle.joint.proofs.CollectLaws.{part-is, collect_end, collect_fault, collect_on}
 use Rattle.joint.proofs.collect.Goals.{then-count-lt-MAX_FORMULAS, else-count-lt-MAX_FORMULAS}
@@ -10,12 +10,11 @@ use Rattle.joint.proofs.collect.Goals as goal
 
 pub returns-in_err-r : goal.returns-in_err-r
 returns-in_err-r c =
-    let p = err_from_is_err_and c.from_residual.result c.from_residual.ensures.1 in
-    rw (p.1, p.2) (collect_fault c.args.catalogue.now c.loop-r.invariant (sym c.in_err-r.ensures.is))
+    rw (handed-on c.from_residual.ensures.1) (collect_fault c.args.catalogue.now c.loop-r.invariant (sym c.in_err-r.ensures.is))
 
 pub loop-r-preserved : goal.loop-r-preserved
 loop-r-preserved c =
-    let e = sym c.next_record.ensures.is ∙ c.in_ok-r.was ∙ ap Ok c.in-Some.is in
+    let e = due-is c.next_record.ensures.is c.in_ok-r.was c.in-Some.is in
     elim c.if-count-lt-MAX_FORMULAS.branch [
       | then-count-lt-MAX_FORMULAS w ↦
           collect_on c.args.catalogue.now c.loop-r.invariant e (search rules) _ (part-is _ c.in-Some.r) (λ h. w.parts-is)
@@ -27,4 +26,4 @@ loop-r-preserved c =
 
 pub returns : goal.returns
 returns c =
-    collect_end c.args.catalogue.now c.loop-r.invariant (sym c.next_record.ensures.is ∙ c.in_ok-r.was ∙ ap Ok c.in_default.is)
+    collect_end c.args.catalogue.now c.loop-r.invariant (due-is c.next_record.ensures.is c.in_ok-r.was c.in_default.is)
